@@ -14,7 +14,7 @@ use Rattle.asm_group.specs.Causes.{Causes, first_cause}
 use Rattle.asm_group.specs.TreeEdits.{up, last_part, is_root, is_there, is_dir, is_dir_node, is_dir_entry, entry_at, lacks_parent, new_name_causes}
 use Rattle.asm_formats.specs.Items.{Node}
 use Rattle.alias_tree.proofs.asm_base.Exact.{some_is}
-use Rattle.alias_tree.specs.Nodes.{Numbered, node_at, number_of, is_directory, kind_is_directory, IsTable, child}
+use Rattle.alias_tree.specs.Nodes.{Numbered, node_at, number_of, is_directory, kind_is_directory, IsNodeTable, child}
 use Rattle.asm_formats.specs.Nodes.{node_kind, entry_of_node}
 use Rattle.alias_tree.specs.Trees.{tree_of, number_by}
 use Rattle.alias_tree.proofs.Keeping.{MayHang}
@@ -64,7 +64,7 @@ folded_last [] e = absurd (true≢false e)
 folded_last (x ∷ []) e = refl
 folded_last (x ∷ y ∷ path) e = ap (λ (p : Path). folded x ∷ p) (folded_last (y ∷ path) (not_root y path))
 
-pub number_there : (nodes : List Numbered) (path : Path) (n : ℕ) (node : Node) → IsTable nodes → number_by nodes 0 (folded_path path) ≡ Some n → node_at nodes n ≡ Some node → is_there (tree_of nodes) path ≡ true
+pub number_there : (nodes : List Numbered) (path : Path) (n : ℕ) (node : Node) → IsNodeTable nodes → number_by nodes 0 (folded_path path) ≡ Some n → node_at nodes n ≡ Some node → is_there (tree_of nodes) path ≡ true
 number_there nodes path n node t e f = one (is_root path) (ap is_some (shows nodes (folded_path path) n node t e f)) where
   one : (b : Bool) → is_some (entry_at (tree_of nodes) path) ≡ true → (b || is_some (entry_at (tree_of nodes) path)) ≡ true
   one true h = refl
@@ -78,7 +78,7 @@ dir_node node = of_kind node.kind where
   of_kind Alias = refl
 
 -- what is a directory is the root or a directory's node
-pub dir_hangs : (nodes : List Numbered) (path : Path) (p : ℕ) → IsTable nodes → is_dir (tree_of nodes) path ≡ true → number_by nodes 0 (folded_path path) ≡ Some p → MayHang nodes p
+pub dir_hangs : (nodes : List Numbered) (path : Path) (p : ℕ) → IsNodeTable nodes → is_dir (tree_of nodes) path ≡ true → number_by nodes 0 (folded_path path) ≡ Some p → MayHang nodes p
 dir_hangs nodes path p t e at = one (is_root path) refl e where
   one : (b : Bool) → is_root path ≡ b → (b || is_dir_entry (entry_at (tree_of nodes) path)) ≡ true → MayHang nodes p
   one true r h = inl (some_is p 0 (sym at ∙ ap (λ (q : Path). number_by nodes 0 (folded_path q)) (root_is path r)))
@@ -101,7 +101,7 @@ pub record IsNew (nodes : List Numbered) (path : Path) : Type 0 where
   pub key : folded_path path ≡ folded_path (up path) ++ folded (last_part path) ∷ []
   pub free : child nodes parent (folded (last_part path)) ≡ None
 
-pub is_new : (nodes : List Numbered) (path : Path) → IsTable nodes → lacks_parent (tree_of nodes) path ≡ false → is_there (tree_of nodes) path ≡ false → not (is_dir (tree_of nodes) (up path)) ≡ false → IsNew nodes path
+pub is_new : (nodes : List Numbered) (path : Path) → IsNodeTable nodes → lacks_parent (tree_of nodes) path ≡ false → is_there (tree_of nodes) path ≡ false → not (is_dir (tree_of nodes) (up path)) ≡ false → IsNew nodes path
 is_new nodes path t lacks there dir =
     let l = both_false (is_root path) (not (is_there (tree_of nodes) (up path))) lacks in
     let above = there_number nodes (up path) t (not_false (is_there (tree_of nodes) (up path)) l.1) in
@@ -120,7 +120,7 @@ is_new nodes path t lacks there dir =
         let at : number_by nodes 0 (folded_path path) ≡ Some c = ap (λ (p : Path). number_by nodes 0 p) key ∙ (by_last nodes (folded_path (up path)) (folded (last_part path)) 0 parent above ∙ e) in
         absurd (true≢false (sym (number_there nodes path c f.node t at f.at) ∙ there))
 
-pub new_name : (nodes : List Numbered) (path : Path) → IsTable nodes → first_cause (new_name_causes (tree_of nodes) path) ≡ None → IsNew nodes path
+pub new_name : (nodes : List Numbered) (path : Path) → IsNodeTable nodes → first_cause (new_name_causes (tree_of nodes) path) ≡ None → IsNew nodes path
 new_name nodes path t e =
     let f = three_false (lacks_parent (tree_of nodes) path) (is_there (tree_of nodes) path) (not (is_dir (tree_of nodes) (up path))) r.NoName r.NameTaken r.NotDirectory e in
     is_new nodes path t f.0 f.1 f.2

@@ -13,8 +13,8 @@ use Rattle.asm_group.specs.TreeEdits.{Tree, up, last_part, is_root, is_there, is
 use Rattle.asm_formats.specs.Items.{Node}
 use Rattle.asm_formats.specs.Nodes.{entry_of_node}
 use Rattle.alias_tree.proofs.asm_base.Exact.{some_is}
-use Rattle.alias_edits.specs.Filing.{missing_dirs, with_dir, with_dirs, is_no_dir, has_no_dir, is_below_file, file_causes, may_hang, Reaches, IsFront, IsFree}
-use Rattle.alias_tree.specs.Nodes.{Numbered, node_at, child, is_directory, IsTable}
+use Rattle.alias_edits.specs.Filing.{missing_dirs, with_dir, with_dirs, is_no_dir, has_no_dir, has_file_above, file_causes, may_hang, ReachesDirectory, IsFront, IsFree}
+use Rattle.alias_tree.specs.Nodes.{Numbered, node_at, child, is_directory, IsNodeTable}
 use Rattle.alias_tree.specs.Trees.{tree_of, number_by}
 use Rattle.alias_edits.proofs.Allowed.{number_there, dir_node, folded_last}
 use Rattle.alias_tree.proofs.Lookups.{not_root, root_is}
@@ -51,11 +51,11 @@ drop_first i xs d h = drop-cons xs i d h ∙ (rw add-one refl)
 -- ---- what is there
 
 -- nothing is at a path that leads nowhere
-pub absent : (nodes : List Numbered) (path : Path) → IsTable nodes → is_root path ≡ false → number_by nodes 0 (folded_path path) ≡ None → is_there (tree_of nodes) path ≡ false
+pub absent : (nodes : List Numbered) (path : Path) → IsNodeTable nodes → is_root path ≡ false → number_by nodes 0 (folded_path path) ≡ None → is_there (tree_of nodes) path ≡ false
 absent nodes path t root none = rw root (ap is_some (entry_is nodes path t ∙ ap (λ (o : Option ℕ). option_map entry_of_node (option_and_then (λ n. node_at nodes n) o)) none))
 
 -- the node at the end of a path that isn't the root's
-pub node_of_path : (nodes : List Numbered) (path : Path) (a : ℕ) → IsTable nodes → is_root path ≡ false → number_by nodes 0 (folded_path path) ≡ Some a → (x : Node) × (node_at nodes a ≡ Some x)
+pub node_of_path : (nodes : List Numbered) (path : Path) (a : ℕ) → IsNodeTable nodes → is_root path ≡ false → number_by nodes 0 (folded_path path) ≡ Some a → (x : Node) × (node_at nodes a ≡ Some x)
 node_of_path nodes path a t root at = one (number_by nodes 0 (folded_path (up path))) refl where
   split : number_by nodes 0 (folded_path (up path) ++ folded (last_part path) ∷ []) ≡ Some a
   split = ap (λ (p : Path). number_by nodes 0 p) (sym (folded_last path root)) ∙ at
@@ -78,7 +78,7 @@ and_none : (a b : Bool) → a ≡ false → (a && b) ≡ false
 and_none a b e = rw e refl
 
 -- Below a directory names may hang, and below no other name.
-pub no_dir_is : (nodes : List Numbered) (path : Path) (a : ℕ) → IsTable nodes → number_by nodes 0 (folded_path path) ≡ Some a → is_no_dir (tree_of nodes) path ≡ not (may_hang nodes a)
+pub no_dir_is : (nodes : List Numbered) (path : Path) (a : ℕ) → IsNodeTable nodes → number_by nodes 0 (folded_path path) ≡ Some a → is_no_dir (tree_of nodes) path ≡ not (may_hang nodes a)
 no_dir_is nodes path a t at = elim (either (is_root path)) [
   | inl root ↦
       let zero : a ≡ 0 = some_is a 0 (sym at ∙ ap (λ (q : Path). number_by nodes 0 (folded_path q)) (root_is path root)) in
@@ -106,7 +106,7 @@ may_is nodes a e = elim (either (eqb a 0)) [
   one (Some x) f h = (x, f, sym (dir_node x) ∙ h)
 
 -- below which a node hangs, names may
-parent_may : (nodes : List Numbered) (a : ℕ) (name : Bytes) (m : ℕ) → IsTable nodes → child nodes a name ≡ Some m → may_hang nodes a ≡ true
+parent_may : (nodes : List Numbered) (a : ℕ) (name : Bytes) (m : ℕ) → IsNodeTable nodes → child nodes a name ≡ Some m → may_hang nodes a ≡ true
 parent_may nodes a name m t e =
     let c = child_found nodes a name m t e in
     elim (parent_there nodes m c.node t c.at) [
@@ -122,7 +122,7 @@ parent_may nodes a name m t e =
     one false h = h
 
 -- no name below a path that leads nowhere is there
-none_below : (nodes : List Numbered) (front rest : Path) → IsTable nodes → number_by nodes 0 (folded_path front) ≡ None → has_no_dir (tree_of nodes) front rest ≡ false
+none_below : (nodes : List Numbered) (front rest : Path) → IsNodeTable nodes → number_by nodes 0 (folded_path front) ≡ None → has_no_dir (tree_of nodes) front rest ≡ false
 none_below nodes front [] t none = refl
 none_below nodes front (x ∷ rest) t none =
     let more = number_none nodes front x none in
@@ -137,10 +137,10 @@ leads_nowhere nodes front rest none =
 
 -- ---- the walk down
 
-pub reach_none : (nodes : List Numbered) (dirs : Path) → Reaches nodes dirs 0 0
+pub reach_none : (nodes : List Numbered) (dirs : Path) → ReachesDirectory nodes dirs 0 0
 reach_none nodes dirs = record { at = refl; no_dir = refl; missing = refl; made = refl }
 
-pub reach_more : (nodes : List Numbered) (dirs : Path) (i a m : ℕ) (part : Bytes) → IsTable nodes → Reaches nodes dirs i a → i < length dirs → part ≡ get_or dirs i part → child nodes a (folded part) ≡ Some m → Reaches nodes dirs (i + 1) m
+pub reach_more : (nodes : List Numbered) (dirs : Path) (i a m : ℕ) (part : Bytes) → IsNodeTable nodes → ReachesDirectory nodes dirs i a → i < length dirs → part ≡ get_or dirs i part → child nodes a (folded part) ≡ Some m → ReachesDirectory nodes dirs (i + 1) m
 reach_more nodes dirs i a m part t r h is c = record { at = ap (λ (p : Path). number_by nodes 0 (folded_path p)) front ∙ at; no_dir = no_dir; missing = missing; made = made } where
   front : take (i + 1) dirs ≡ take i dirs ++ part ∷ []
   front = take_more i dirs part h ∙ ap (λ (x : Bytes). take i dirs ++ x ∷ []) (sym is)
@@ -180,7 +180,7 @@ reach_more nodes dirs i a m part t r h is c = record { at = ap (λ (p : Path). n
       ∙ (ap (λ (q : Path). with_dirs (tree_of nodes) (take i dirs) q) (sym left) ∙ r.made))
 
 -- the walk ends where a part isn't there
-pub front_missing : (nodes : List Numbered) (dirs : Path) (i a : ℕ) (part : Bytes) → Reaches nodes dirs i a → i < length dirs → part ≡ get_or dirs i part → child nodes a (folded part) ≡ None → IsFront nodes dirs i a
+pub front_missing : (nodes : List Numbered) (dirs : Path) (i a : ℕ) (part : Bytes) → ReachesDirectory nodes dirs i a → i < length dirs → part ≡ get_or dirs i part → child nodes a (folded part) ≡ None → IsFront nodes dirs i a
 front_missing nodes dirs i a part r h is c = record {
   few = omega arith;
   reach = r;
@@ -188,10 +188,10 @@ front_missing nodes dirs i a part r h is c = record {
 }
 
 -- or where all are
-pub front_whole : (nodes : List Numbered) (dirs : Path) (i a : ℕ) → Reaches nodes dirs i a → i ≡ length dirs → IsFront nodes dirs (length dirs) a
+pub front_whole : (nodes : List Numbered) (dirs : Path) (i a : ℕ) → ReachesDirectory nodes dirs i a → i ≡ length dirs → IsFront nodes dirs (length dirs) a
 front_whole nodes dirs i a r e = record {
   few = omega arith;
-  reach = subst (λ (k : ℕ). Reaches nodes dirs k a) e r;
+  reach = subst (λ (k : ℕ). ReachesDirectory nodes dirs k a) e r;
   missing = λ d less. absurd (omega arith);
 }
 
@@ -209,7 +209,7 @@ some_root (x ∷ path) h = not_root x path
 pub first_missing : (nodes : List Numbered) (dirs : Path) (k a : ℕ) → IsFront nodes dirs k a → k < length dirs → number_by nodes 0 (folded_path (take k dirs ++ get_or dirs k [] ∷ [])) ≡ None
 first_missing nodes dirs k a f h = number_more nodes (take k dirs) (get_or dirs k []) a f.reach.at ∙ f.missing [] h
 
-no_below : (nodes : List Numbered) (dirs : Path) (k a : ℕ) → IsTable nodes → IsFront nodes dirs k a → may_hang nodes a ≡ true → has_no_dir (tree_of nodes) [] dirs ≡ false
+no_below : (nodes : List Numbered) (dirs : Path) (k a : ℕ) → IsNodeTable nodes → IsFront nodes dirs k a → may_hang nodes a ≡ true → has_no_dir (tree_of nodes) [] dirs ≡ false
 no_below nodes dirs k a t f may =
     sym f.reach.no_dir
     ∙ or_none (is_no_dir (tree_of nodes) (take k dirs)) (has_no_dir (tree_of nodes) (take k dirs) (drop k dirs)) (no_dir_is nodes (take k dirs) a t f.reach.at ∙ ap not may) rest
@@ -241,14 +241,14 @@ missing_at nodes path k a root f less =
     ap (λ (p : Path). number_by nodes 0 (folded_path p)) split ∙ leads_nowhere nodes (take k (up path) ++ x ∷ []) (drop (k + 1) (up path)) (first_missing nodes (up path) k a f less) in
     ap (λ (p : Path). number_by nodes 0 (folded_path p)) (whole_path path root) ∙ number_none nodes (up path) (last_part path) none
 
-pub below_file : (nodes : List Numbered) (path : Path) (k a : ℕ) → IsTable nodes → IsFront nodes (up path) k a → may_hang nodes a ≡ false → first_cause (file_causes (tree_of nodes) path) ≡ Some r.NotDirectory
+pub below_file : (nodes : List Numbered) (path : Path) (k a : ℕ) → IsNodeTable nodes → IsFront nodes (up path) k a → may_hang nodes a ≡ false → first_cause (file_causes (tree_of nodes) path) ≡ Some r.NotDirectory
 below_file nodes path k a t f may = rw below refl where
-  below : is_below_file (tree_of nodes) path ≡ true
+  below : has_file_above (tree_of nodes) path ≡ true
   below =
       sym f.reach.no_dir
       ∙ ap (λ (b : Bool). b || has_no_dir (tree_of nodes) (take k (up path)) (drop k (up path))) (no_dir_is nodes (take k (up path)) a t f.reach.at ∙ ap not may)
 
-pub name_taken : (nodes : List Numbered) (path : Path) (k a m : ℕ) → IsTable nodes → 0 < length path → IsFront nodes (up path) k a → may_hang nodes a ≡ true → k ≡ length (up path) → child nodes a (folded (last_part path)) ≡ Some m
+pub name_taken : (nodes : List Numbered) (path : Path) (k a m : ℕ) → IsNodeTable nodes → 0 < length path → IsFront nodes (up path) k a → may_hang nodes a ≡ true → k ≡ length (up path) → child nodes a (folded (last_part path)) ≡ Some m
     → first_cause (file_causes (tree_of nodes) path) ≡ Some r.NameTaken
 name_taken nodes path k a m t some f may all c = rw (no_below nodes (up path) k a t f may, there) refl where
   there : is_there (tree_of nodes) path ≡ true
@@ -256,7 +256,7 @@ name_taken nodes path k a m t some f may all c = rw (no_below nodes (up path) k 
       let x = child_found nodes a (folded (last_part path)) m t c in
       number_there nodes path m x.node t (whole_at nodes path k a (some_root path some) f all ∙ c) x.at
 
-pub name_free : (nodes : List Numbered) (path : Path) (k a : ℕ) → IsTable nodes → 0 < length path → IsFront nodes (up path) k a → may_hang nodes a ≡ true → IsFree nodes path k a → first_cause (file_causes (tree_of nodes) path) ≡ None
+pub name_free : (nodes : List Numbered) (path : Path) (k a : ℕ) → IsNodeTable nodes → 0 < length path → IsFront nodes (up path) k a → may_hang nodes a ≡ true → IsFree nodes path k a → first_cause (file_causes (tree_of nodes) path) ≡ None
 name_free nodes path k a t some f may free = rw (no_below nodes (up path) k a t f may, there) refl where
   root : is_root path ≡ false
   root = some_root path some
@@ -272,13 +272,13 @@ name_free nodes path k a t some f may free = rw (no_below nodes (up path) k a t 
 
 -- ---- what may be made of a name that isn't refused
 
-pub name_may : (nodes : List Numbered) (path : Path) (k a : ℕ) → IsTable nodes → IsFront nodes (up path) k a → first_cause (file_causes (tree_of nodes) path) ≡ None → may_hang nodes a ≡ true
+pub name_may : (nodes : List Numbered) (path : Path) (k a : ℕ) → IsNodeTable nodes → IsFront nodes (up path) k a → first_cause (file_causes (tree_of nodes) path) ≡ None → may_hang nodes a ≡ true
 name_may nodes path k a t f e = elim (either (may_hang nodes a)) [
   | inl held ↦ held
   | inr other ↦ absurd (none-some r.NotDirectory (sym e ∙ below_file nodes path k a t f other))
 ]
 
-pub name_new : (nodes : List Numbered) (path : Path) (k a : ℕ) → IsTable nodes → 0 < length path → IsFront nodes (up path) k a → first_cause (file_causes (tree_of nodes) path) ≡ None → IsFree nodes path k a
+pub name_new : (nodes : List Numbered) (path : Path) (k a : ℕ) → IsNodeTable nodes → 0 < length path → IsFront nodes (up path) k a → first_cause (file_causes (tree_of nodes) path) ≡ None → IsFree nodes path k a
 name_new nodes path k a t some f e all = one (child nodes a (folded (last_part path))) refl where
   one : (o : Option ℕ) → child nodes a (folded (last_part path)) ≡ o → o ≡ None
   one None c = refl

@@ -11,12 +11,12 @@ use Rattle.std.proofs.lemmas.Bool.{true≢false}
 use Rattle.std.proofs.lemmas.Option.{none-some}
 use Rattle.asm_group.specs.Names.{Bytes, Path}
 use Rattle.asm_group.specs.Group.{TreeEntry}
-use Rattle.asm_group.specs.TreeEdits.{Tree, names_file, is_entry, without_file}
+use Rattle.asm_group.specs.TreeEdits.{Tree, names_file, is_tree_entry, without_file}
 use Rattle.asm_formats.specs.Items.{Node}
 use Rattle.alias_tree.specs.asm_base.Tables.{IsItemTable}
 use Rattle.alias_tree.proofs.asm_base.Exact.{some_is}
 use Rattle.alias_tree.specs.Numbers.{is_name_of}
-use Rattle.alias_tree.specs.Nodes.{Numbered, item_of, is_before, node_at, IsTable, child}
+use Rattle.alias_tree.specs.Nodes.{Numbered, item_of_node, is_before, node_at, IsNodeTable, child}
 use Rattle.asm_formats.specs.Nodes.{node_kind, entry_of_node}
 use Rattle.alias_tree.specs.Trees.{tree_of, number_by, node_by}
 use Rattle.alias_tree.proofs.IndexLaws.{either, at_is, at_self}
@@ -37,7 +37,7 @@ abbrev pub keep : (ℕ → Bool) → Option ℕ → Option ℕ
 keep gone None = None
 keep gone (Some m) = cond (gone m) None (Some m)
 
-pub child_pruned : (big small : List Numbered) (gone : ℕ → Bool) (a : ℕ) (x : Bytes) → IsTable big → IsTable small → Pruned big small gone → child small a x ≡ keep gone (child big a x)
+pub child_pruned : (big small : List Numbered) (gone : ℕ → Bool) (a : ℕ) (x : Bytes) → IsNodeTable big → IsNodeTable small → Pruned big small gone → child small a x ≡ keep gone (child big a x)
 child_pruned big small gone a x t u p = one (child big a x) refl where
   none : (o : Option ℕ) → child small a x ≡ o → ((m : ℕ) → child small a x ≡ Some m → ⊥) → o ≡ None
   none None e not = refl
@@ -59,7 +59,7 @@ child_pruned big small gone a x t u p = one (child big a x) refl where
         rw miss (child_at small a x n u (record { node = c.node; at = p.stay n miss ∙ c.at; parent_is = c.parent_is; name_is = c.name_is }))
   ]
 
-pub by_pruned : (big small : List Numbered) (gone : ℕ → Bool) (q : Path) (a : ℕ) → IsTable big → IsTable small → Pruned big small gone → gone a ≡ false → number_by small a q ≡ keep gone (number_by big a q)
+pub by_pruned : (big small : List Numbered) (gone : ℕ → Bool) (q : Path) (a : ℕ) → IsNodeTable big → IsNodeTable small → Pruned big small gone → gone a ≡ false → number_by small a q ≡ keep gone (number_by big a q)
 by_pruned big small gone [] a t u p stays = rw stays refl
 by_pruned big small gone (x ∷ q) a t u p stays = ap (λ (o : Option ℕ). option_and_then (λ m. number_by small m q) o) (child_pruned big small gone a x t u p) ∙ one (child big a x) (λ m h. by_pruned big small gone q m t u p h) where
   -- nothing hangs below what is gone
@@ -93,10 +93,10 @@ kept_is gone (Some n) m e = elim (either (gone n)) [
 pub none_gone : (a b : List Numbered) → ((n : ℕ) → node_at b n ≡ node_at a n) → Pruned a b (λ n. false)
 none_gone a b same = record { stay = λ m e. same m; left = λ m e. absurd (true≢false (sym e)); leaves = λ m x e. refl }
 
-pub same_table : (a b : List Numbered) → IsTable a → IsItemTable is_before item_of b → ((n : ℕ) → node_at b n ≡ node_at a n) → IsTable b
+pub same_table : (a b : List Numbered) → IsNodeTable a → IsItemTable is_before item_of_node b → ((n : ℕ) → node_at b n ≡ node_at a n) → IsNodeTable b
 same_table a b t items same = pruned_keeps_table a b (λ n. false) t (none_gone a b same) items
 
-pub same_nodes_tree : (a b : List Numbered) → IsTable a → IsTable b → ((n : ℕ) → node_at b n ≡ node_at a n) → tree_of b ≡ tree_of a
+pub same_nodes_tree : (a b : List Numbered) → IsNodeTable a → IsNodeTable b → ((n : ℕ) → node_at b n ≡ node_at a n) → tree_of b ≡ tree_of a
 same_nodes_tree a b t u same = same_tree (tree_of b) (tree_of a) (λ q. tree_has b q u ∙ (ap (λ (o : Option Node). option_map entry_of_node o) (node q) ∙ sym (tree_has a q t))) where
   whole : (o : Option ℕ) → keep (λ n. false) o ≡ o
   whole None = refl
@@ -115,7 +115,7 @@ same_nodes_tree a b t u same = same_tree (tree_of b) (tree_of a) (λ q. tree_has
 abbrev pub OneGone : List Numbered → List Numbered → ℕ → Type 0
 OneGone big small n = Pruned big small (λ m. is_at (nat_cmp n) m)
 
-pub other_path : (big small : List Numbered) (n : ℕ) (p q : Path) → IsTable big → IsTable small → OneGone big small n → is_at (nat_cmp n) 0 ≡ false → number_by big 0 p ≡ Some n → is_key q p ≡ false
+pub other_path : (big small : List Numbered) (n : ℕ) (p q : Path) → IsNodeTable big → IsNodeTable small → OneGone big small n → is_at (nat_cmp n) 0 ≡ false → number_by big 0 p ≡ Some n → is_key q p ≡ false
     → maps.get (tree_of small) q ≡ maps.get (tree_of big) q
 other_path big small n p q t u gone root at other = tree_has small q u ∙ (ap (λ (o : Option Node). option_map entry_of_node o) node ∙ sym (tree_has big q t)) where
   same : number_by big 0 q ≡ Some n → q ≡ p
@@ -131,14 +131,14 @@ other_path big small n p q t u gone root at other = tree_has small q u ∙ (ap (
   node : node_by small q ≡ node_by big q
   node = ap (λ (o : Option ℕ). option_and_then (λ m. node_at small m) o) (by_pruned big small (λ m. is_at (nat_cmp n) m) q 0 t u gone root) ∙ found (number_by big 0 q) refl
 
-pub gone_path : (big small : List Numbered) (n : ℕ) (p : Path) → IsTable big → IsTable small → OneGone big small n → is_at (nat_cmp n) 0 ≡ false → number_by big 0 p ≡ Some n → maps.get (tree_of small) p ≡ None
+pub gone_path : (big small : List Numbered) (n : ℕ) (p : Path) → IsNodeTable big → IsNodeTable small → OneGone big small n → is_at (nat_cmp n) 0 ≡ false → number_by big 0 p ≡ Some n → maps.get (tree_of small) p ≡ None
 gone_path big small n p t u gone root at =
     let hit : cond (is_at (nat_cmp n) n) None (Some n) ≡ None = rw (at_self n) refl in
     let none : number_by small 0 p ≡ None = by_pruned big small (λ m. is_at (nat_cmp n) m) p 0 t u gone root ∙ (ap (λ (o : Option ℕ). keep (λ m. is_at (nat_cmp n) m) o) at ∙ hit) in
     tree_has small p u ∙ ap (λ (o : Option ℕ). option_map entry_of_node (option_and_then (λ m. node_at small m) o)) none
 
 -- A node that goes takes its path from the tree.
-pub removed_tree : (big small : List Numbered) (n : ℕ) (p : Path) → IsTable big → IsTable small → OneGone big small n → is_at (nat_cmp n) 0 ≡ false → number_by big 0 p ≡ Some n
+pub removed_tree : (big small : List Numbered) (n : ℕ) (p : Path) → IsNodeTable big → IsNodeTable small → OneGone big small n → is_at (nat_cmp n) 0 ≡ false → number_by big 0 p ≡ Some n
     → tree_of small ≡ maps.remove (tree_of big) p
 removed_tree big small n p t u gone root at = same_tree (tree_of small) (maps.remove (tree_of big) p) (λ q. one q (either (is_key q p)) ∙ sym (maps.get-remove paths_total (tree_of big) p q)) where
   one : (q : Path) → (is_key q p ≡ true) ⊎ (is_key q p ≡ false) → maps.get (tree_of small) q ≡ cond (is_key q p) None (maps.get (tree_of big) q)
@@ -146,7 +146,7 @@ removed_tree big small n p t u gone root at = same_tree (tree_of small) (maps.re
   one q (inr miss) = rw miss (other_path big small n p q t u gone root at miss)
 
 -- A node that comes has its path in the tree.
-pub inserted_tree : (big small : List Numbered) (n : ℕ) (node : Node) (p : Path) → IsTable big → IsTable small → OneGone big small n → is_at (nat_cmp n) 0 ≡ false → number_by big 0 p ≡ Some n → node_at big n ≡ Some node
+pub inserted_tree : (big small : List Numbered) (n : ℕ) (node : Node) (p : Path) → IsNodeTable big → IsNodeTable small → OneGone big small n → is_at (nat_cmp n) 0 ≡ false → number_by big 0 p ≡ Some n → node_at big n ≡ Some node
     → tree_of big ≡ maps.insert (tree_of small) p (entry_of_node node)
 inserted_tree big small n node p t u gone root at there = same_tree (tree_of big) (maps.insert (tree_of small) p (entry_of_node node)) (λ q. one q (either (is_key q p)) ∙ sym (maps.get-insert paths_total (tree_of small) p (entry_of_node node) q)) where
   one : (q : Path) → (is_key q p ≡ true) ⊎ (is_key q p ≡ false) → maps.get (tree_of big) q ≡ cond (is_key q p) (Some (entry_of_node node)) (maps.get (tree_of small) q)
@@ -159,15 +159,15 @@ abbrev pub NamesGone : List Numbered → List Numbered → ℕ → Type 0
 NamesGone big small file = Pruned big small (λ m. is_name_of file (node_at big m))
 
 -- The names of a file that go take their paths from the tree.
-pub unnamed_tree : (big small : List Numbered) (file : ℕ) → IsTable big → IsTable small → NamesGone big small file → tree_of small ≡ without_file (tree_of big) file
+pub unnamed_tree : (big small : List Numbered) (file : ℕ) → IsNodeTable big → IsNodeTable small → NamesGone big small file → tree_of small ≡ without_file (tree_of big) file
 unnamed_tree big small file t u gone = same_tree (tree_of small) (without_file (tree_of big) file) (λ q. one q ∙ sym (maps.get-retain_keys (tree_of big) (test) q (alike q))) where
   test : Path → Bool
-  test key = not (is_entry (names_file file) (maps.get (tree_of big) key))
+  test key = not (is_tree_entry (names_file file) (maps.get (tree_of big) key))
 
   alike : (q x : Path) → slice_cmp (slice_cmp nat_cmp) q x ≡ Equal → test x ≡ test q
   alike q x e = ap test (sym (keys_same q x e))
 
-  node : (o : Option Node) → option_map entry_of_node (cond (is_name_of file o) None o) ≡ cond (not (is_entry (names_file file) (option_map entry_of_node o))) (option_map entry_of_node o) None
+  node : (o : Option Node) → option_map entry_of_node (cond (is_name_of file o) None o) ≡ cond (not (is_tree_entry (names_file file) (option_map entry_of_node o))) (option_map entry_of_node o) None
   node None = refl
   node (Some x) = turned (names_file file (node_kind x.kind x.file)) where
     turned : (b : Bool) → option_map entry_of_node (cond b None (Some x)) ≡ cond (not b) (Some (entry_of_node x)) None
@@ -193,4 +193,4 @@ unnamed_tree big small file t u gone = same_tree (tree_of small) (without_file (
       tree_has small q u
       ∙ (ap (λ (o : Option Node). option_map entry_of_node o)
       (ap (λ (o : Option ℕ). option_and_then (λ m. node_at small m) o) (by_pruned big small (λ m. is_name_of file (node_at big m)) q 0 t u gone root) ∙ (found (number_by big 0 q) ∙ out (number_by big 0 q)))
-      ∙ (node (node_by big q) ∙ ap (λ (o : Option TreeEntry). cond (not (is_entry (names_file file) o)) o None) (sym (tree_has big q t))))
+      ∙ (node (node_by big q) ∙ ap (λ (o : Option TreeEntry). cond (not (is_tree_entry (names_file file) o)) o None) (sym (tree_has big q t))))

@@ -23,7 +23,7 @@ use Rattle.asm_group.specs.TreeEdits.{Tree, last_part, up, is_under, moved_key, 
 use Rattle.asm_formats.specs.Items.{Node}
 use Rattle.alias_tree.proofs.asm_base.Exact.{some_is}
 use Rattle.alias_edits.specs.Edits.{IsMoved, MovesNode}
-use Rattle.alias_tree.specs.Nodes.{Numbered, node_at, with_node, IsTable, child}
+use Rattle.alias_tree.specs.Nodes.{Numbered, node_at, with_numbered_node, IsNodeTable, child}
 use Rattle.asm_formats.specs.Nodes.{node_kind, entry_of_node}
 use Rattle.alias_tree.specs.Trees.{tree_of, number_by}
 use Rattle.alias_edits.proofs.Allowed.{number_is}
@@ -133,21 +133,21 @@ two_maybe (Some x) u f g = sym (f x refl)
 
 -- ---- a moved directory
 
-pub moved_tree : (nodes : List Numbered) (from to : Path) (n : ℕ) (node : Node) → IsTable nodes → IsTable (with_node nodes n node) → RenamesDir nodes from to → IsMoved nodes from to n node
-    → tree_of (with_node nodes n node) ≡ changed (tree_of nodes) (RenameDir from to)
-moved_tree nodes from to n node t u may moved = same_tree (tree_of (with_node nodes n node)) (changed (tree_of nodes) (RenameDir from to)) (λ q. two_maybe (maps.get (tree_of (with_node nodes n node)) q) (maps.get (changed (tree_of nodes) (RenameDir from to)) q) (there q) (back q)) where
+pub moved_tree : (nodes : List Numbered) (from to : Path) (n : ℕ) (node : Node) → IsNodeTable nodes → IsNodeTable (with_numbered_node nodes n node) → RenamesDir nodes from to → IsMoved nodes from to n node
+    → tree_of (with_numbered_node nodes n node) ≡ changed (tree_of nodes) (RenameDir from to)
+moved_tree nodes from to n node t u may moved = same_tree (tree_of (with_numbered_node nodes n node)) (changed (tree_of nodes) (RenameDir from to)) (λ q. two_maybe (maps.get (tree_of (with_numbered_node nodes n node)) q) (maps.get (changed (tree_of nodes) (RenameDir from to)) q) (there q) (back q)) where
   -- the old key and the new one
   at : number_by nodes 0 (folded_path from) ≡ Some n
   at = sym (number_is nodes from) ∙ moved.at
 
-  same : (k : ℕ) → is_at (nat_cmp n) k ≡ false → node_at (with_node nodes n node) k ≡ node_at nodes k
+  same : (k : ℕ) → is_at (nat_cmp n) k ≡ false → node_at (with_numbered_node nodes n node) k ≡ node_at nodes k
   same k miss = at_with nodes n node k ∙ rw miss refl
 
-  here : node_at (with_node nodes n node) n ≡ Some node
+  here : node_at (with_numbered_node nodes n node) n ≡ Some node
   here = at_with nodes n node n ∙ rw (at_self n) refl
 
   -- a way from a to m that doesn't come by the directory stays
-  stays : (q before : Path) (a m : ℕ) → number_by nodes 0 before ≡ Some a → number_by nodes a q ≡ Some m → is_under (folded_path from) (before ++ q) ≡ false → (before ++ q ≡ folded_path from → ⊥) → number_by (with_node nodes n node) a q ≡ Some m
+  stays : (q before : Path) (a m : ℕ) → number_by nodes 0 before ≡ Some a → number_by nodes a q ≡ Some m → is_under (folded_path from) (before ++ q) ≡ false → (before ++ q ≡ folded_path from → ⊥) → number_by (with_numbered_node nodes n node) a q ≡ Some m
   stays [] before a m there e outside other = e
   stays (y ∷ q) before a m there e outside other =
       let s = by_step nodes y q a m e in
@@ -157,24 +157,24 @@ moved_tree nodes from to n node t u may moved = same_tree (tree_of (with_node no
       let apart : n ≡ s.0 → ⊥ = λ z.
       let is : folded_path from ≡ before ++ y ∷ [] = sym (way_is nodes (folded_path from) n t at) ∙ (ap (λ (i : ℕ). way nodes i) z ∙ way_is nodes (before ++ y ∷ []) s.0 t key) in
       past (before ++ y ∷ []) q (sym is) (ap (λ (w : Path). is_under (folded_path from) w) (sym further) ∙ outside) (λ w. other (further ∙ w)) in
-      let step : child (with_node nodes n node) a y ≡ Some s.0 = child_at (with_node nodes n node) a y s.0 u (record { node = c.node; at = same s.0 (not_at n s.0 apart) ∙ c.at; parent_is = c.parent_is; name_is = c.name_is }) in
+      let step : child (with_numbered_node nodes n node) a y ≡ Some s.0 = child_at (with_numbered_node nodes n node) a y s.0 u (record { node = c.node; at = same s.0 (not_at n s.0 apart) ∙ c.at; parent_is = c.parent_is; name_is = c.name_is }) in
       let more = stays q (before ++ y ∷ []) s.0 m key s.2 (ap (λ (w : Path). is_under (folded_path from) w) (sym further) ∙ outside) (λ w. other (further ∙ w)) in
-      ap (λ (o : Option ℕ). option_and_then (λ i. number_by (with_node nodes n node) i q) o) step ∙ more
+      ap (λ (o : Option ℕ). option_and_then (λ i. number_by (with_numbered_node nodes n node) i q) o) step ∙ more
     where
       past : (b q : Path) → b ≡ folded_path from → is_under (folded_path from) (b ++ q) ≡ false → (b ++ q ≡ folded_path from → ⊥) → ⊥
       past b [] is outside other = other (append-nil b ∙ is)
       past b (z ∷ q) is outside other = true≢false (sym (subst (λ (w : Path). is_under (folded_path from) (w ++ z ∷ q) ≡ true) (sym is) (under_of (folded_path from) z q)) ∙ outside)
 
   -- a way that begins below the directory stays
-  below : (q down : Path) (a m : ℕ) → number_by nodes n down ≡ Some a → number_by nodes a q ≡ Some m → number_by (with_node nodes n node) a q ≡ Some m
+  below : (q down : Path) (a m : ℕ) → number_by nodes n down ≡ Some a → number_by nodes a q ≡ Some m → number_by (with_numbered_node nodes n node) a q ≡ Some m
   below [] down a m there e = e
   below (y ∷ q) down a m there e =
       let s = by_step nodes y q a m e in
       let c = child_found nodes a y s.0 t s.1 in
       let lower : number_by nodes n (down ++ y ∷ []) ≡ Some s.0 = by_last nodes down y n a there ∙ s.1 in
       let apart : n ≡ s.0 → ⊥ = λ z. longer (down ++ y ∷ []) (some_length down y) (lower ∙ ap (λ (i : ℕ). Some i) (sym z)) in
-      let step : child (with_node nodes n node) a y ≡ Some s.0 = child_at (with_node nodes n node) a y s.0 u (record { node = c.node; at = same s.0 (not_at n s.0 apart) ∙ c.at; parent_is = c.parent_is; name_is = c.name_is }) in
-      ap (λ (o : Option ℕ). option_and_then (λ i. number_by (with_node nodes n node) i q) o) step ∙ below q (down ++ y ∷ []) s.0 m lower s.2
+      let step : child (with_numbered_node nodes n node) a y ≡ Some s.0 = child_at (with_numbered_node nodes n node) a y s.0 u (record { node = c.node; at = same s.0 (not_at n s.0 apart) ∙ c.at; parent_is = c.parent_is; name_is = c.name_is }) in
+      ap (λ (o : Option ℕ). option_and_then (λ i. number_by (with_numbered_node nodes n node) i q) o) step ∙ below q (down ++ y ∷ []) s.0 m lower s.2
     where
       some_length : (d : Path) (z : Bytes) → 0 < length (d ++ z ∷ [])
       some_length [] z = omega arith
@@ -189,7 +189,7 @@ moved_tree nodes from to n node t u may moved = same_tree (tree_of (with_node no
           absurd (omega arith)
 
   -- the directory at its new path
-  above : number_by (with_node nodes n node) 0 (folded_path (up to)) ≡ Some may.free.parent
+  above : number_by (with_numbered_node nodes n node) 0 (folded_path (up to)) ≡ Some may.free.parent
   above = stays (folded_path (up to)) [] 0 may.free.parent refl may.free.above (front (folded_path (up to)) (folded_path from) refl) (λ w. beyond w) where
     key : is_under (folded_path from) (folded_path (up to) ++ folded (last_part to) ∷ []) ≡ false
     key = ap (λ (w : Path). is_under (folded_path from) w) (sym may.free.key) ∙ may.outside
@@ -206,22 +206,22 @@ moved_tree nodes from to n node t u may moved = same_tree (tree_of (with_node no
           absurd (true≢false (sym (ap (λ (z : Path). is_under (folded_path from) z) longer ∙ under_of (folded_path from) s.0 (s.1 ++ folded (last_part to) ∷ [])) ∙ key))
     ]
 
-  arrived : number_by (with_node nodes n node) 0 (folded_path to) ≡ Some n
-  arrived = ap (λ (w : Path). number_by (with_node nodes n node) 0 w) may.free.key ∙ (by_last (with_node nodes n node) (folded_path (up to)) (folded (last_part to)) 0 may.free.parent above
-      ∙ child_at (with_node nodes n node) may.free.parent (folded (last_part to)) n u (record { node = node; at = here; parent_is = sym (hung_parent nodes to node may.free moved.hangs); name_is = ap folded moved.hangs.name }))
+  arrived : number_by (with_numbered_node nodes n node) 0 (folded_path to) ≡ Some n
+  arrived = ap (λ (w : Path). number_by (with_numbered_node nodes n node) 0 w) may.free.key ∙ (by_last (with_numbered_node nodes n node) (folded_path (up to)) (folded (last_part to)) 0 may.free.parent above
+      ∙ child_at (with_numbered_node nodes n node) may.free.parent (folded (last_part to)) n u (record { node = node; at = here; parent_is = sym (hung_parent nodes to node may.free moved.hangs); name_is = ap folded moved.hangs.name }))
 
   -- each other node is found under its key, which moves where it lies below
-  leads : (k : Path) (m : ℕ) → number_by nodes 0 k ≡ Some m → (k ≡ folded_path from → ⊥) → number_by (with_node nodes n node) 0 (to_key (folded_path from) (folded_path to) k) ≡ Some m
+  leads : (k : Path) (m : ℕ) → number_by nodes 0 k ≡ Some m → (k ≡ folded_path from → ⊥) → number_by (with_numbered_node nodes n node) 0 (to_key (folded_path from) (folded_path to) k) ≡ Some m
   leads k m e other = elim (either (is_under (folded_path from) k)) [
     | inr out ↦ rw out (stays k [] 0 m refl e out other)
     | inl low ↦
         let s = under_split (folded_path from) k low in
         let deep : number_by nodes n (s.0 ∷ s.1) ≡ Some m =
         ap (λ (o : Option ℕ). option_and_then (λ i. number_by nodes i (s.0 ∷ s.1)) o) (sym at) ∙ (sym (by_append nodes (folded_path from) (s.0 ∷ s.1) 0) ∙ (ap (λ (w : Path). number_by nodes 0 w) (sym s.2) ∙ e)) in
-        let now : number_by (with_node nodes n node) n (s.0 ∷ s.1) ≡ Some m = below (s.0 ∷ s.1) [] n m refl deep in
+        let now : number_by (with_numbered_node nodes n node) n (s.0 ∷ s.1) ≡ Some m = below (s.0 ∷ s.1) [] n m refl deep in
         let key : moved_key (folded_path from) (folded_path to) k ≡ folded_path to ++ s.0 ∷ s.1 = ap (λ (w : Path). moved_key (folded_path from) (folded_path to) w) s.2 ∙ moved_below (folded_path from) (folded_path to) s.0 s.1 in
-        rw low (ap (λ (w : Path). number_by (with_node nodes n node) 0 w) key
-        ∙ (by_append (with_node nodes n node) (folded_path to) (s.0 ∷ s.1) 0 ∙ (ap (λ (o : Option ℕ). option_and_then (λ i. number_by (with_node nodes n node) i (s.0 ∷ s.1)) o) arrived ∙ now)))
+        rw low (ap (λ (w : Path). number_by (with_numbered_node nodes n node) 0 w) key
+        ∙ (by_append (with_numbered_node nodes n node) (folded_path to) (s.0 ∷ s.1) 0 ∙ (ap (λ (o : Option ℕ). option_and_then (λ i. number_by (with_numbered_node nodes n node) i (s.0 ∷ s.1)) o) arrived ∙ now)))
   ]
 
   others : Entries
@@ -256,16 +256,16 @@ moved_tree nodes from to n node t u may moved = same_tree (tree_of (with_node no
       found_among others (way nodes m) (entry_of_node y) (sym (maps.get-entries (maps.remove (tree_of nodes) (folded_path from)) (way nodes m)) ∙ (maps.get-remove paths_total (tree_of nodes) (folded_path from) (way nodes m) ∙ rw miss (shows nodes (way nodes m) m y t by e)))
 
   -- what is found among the moved ones is what stands among the nodes
-  found : (q : Path) (w : TreeEntry) → find q (map moves others) ≡ Some w → maps.get (tree_of (with_node nodes n node)) q ≡ Some w
+  found : (q : Path) (w : TreeEntry) → find q (map moves others) ≡ Some w → maps.get (tree_of (with_numbered_node nodes n node)) q ≡ Some w
   found q w h =
       let x = mapped moves others (q, w) (found_among (map moves others) q w h) in
       let o = other_entry x.0 x.1 in
       let is = x.2 ∙ moved_is (folded_path from) (folded_path to) x.0 in
       let key : q ≡ to_key (folded_path from) (folded_path to) x.0.0 = ap (λ (z : Path × TreeEntry). z.0) is in
       let value : w ≡ entry_of_node o.1 = ap (λ (z : Path × TreeEntry). z.1) is ∙ o.4 in
-      let by : number_by (with_node nodes n node) 0 q ≡ Some o.0 = ap (λ (z : Path). number_by (with_node nodes n node) 0 z) key ∙ leads x.0.0 o.0 o.2 o.5 in
+      let by : number_by (with_numbered_node nodes n node) 0 q ≡ Some o.0 = ap (λ (z : Path). number_by (with_numbered_node nodes n node) 0 z) key ∙ leads x.0.0 o.0 o.2 o.5 in
       let apart : n ≡ o.0 → ⊥ = λ z. o.5 (sym (way_is nodes x.0.0 o.0 t o.2) ∙ (ap (λ (i : ℕ). way nodes i) (sym z) ∙ way_is nodes (folded_path from) n t at)) in
-      shows (with_node nodes n node) q o.0 o.1 u by (same o.0 (not_at n o.0 apart) ∙ o.3) ∙ ap (λ (z : TreeEntry). Some z) (sym value)
+      shows (with_numbered_node nodes n node) q o.0 o.1 u by (same o.0 (not_at n o.0 apart) ∙ o.3) ∙ ap (λ (z : TreeEntry). Some z) (sym value)
 
   new_entry : entry_of_node node ≡ at_new
   new_entry = ap (λ (x : Bytes). named x node.kind node.file) moved.hangs.name ∙ ap (λ (k : NodeKind). named (last_part to) k node.file) kind where
@@ -280,20 +280,20 @@ moved_tree nodes from to n node t u may moved = same_tree (tree_of (with_node no
     kind : node.kind ≡ Directory
     kind = moved.kind_is ∙ of_kind moved.was.kind (ap e.is_dir_entry (sym (shows nodes (folded_path from) n moved.was t at moved.was_at)) ∙ may.dir)
 
-  there : (q : Path) (w : TreeEntry) → maps.get (tree_of (with_node nodes n node)) q ≡ Some w → maps.get (changed (tree_of nodes) (RenameDir from to)) q ≡ Some w
+  there : (q : Path) (w : TreeEntry) → maps.get (tree_of (with_numbered_node nodes n node)) q ≡ Some w → maps.get (changed (tree_of nodes) (RenameDir from to)) q ≡ Some w
   there q w h =
-      let s = shown_node (with_node nodes n node) q u (ap is_some h) in
-      let value : entry_of_node s.1 ≡ w = some_is (entry_of_node s.1) w (sym (shows (with_node nodes n node) q s.0 s.1 u s.2 s.3) ∙ h) in
+      let s = shown_node (with_numbered_node nodes n node) q u (ap is_some h) in
+      let value : entry_of_node s.1 ≡ w = some_is (entry_of_node s.1) w (sym (shows (with_numbered_node nodes n node) q s.0 s.1 u s.2 s.3) ∙ h) in
       got q ∙ elim (new_or_was nodes n node s.0 s.1 s.3) [
         | inl (z, is) ↦
-            let key : q ≡ folded_path to = sym (way_is (with_node nodes n node) q n u (s.2 ∙ ap (λ (i : ℕ). Some i) z)) ∙ way_is (with_node nodes n node) (folded_path to) n u arrived in
+            let key : q ≡ folded_path to = sym (way_is (with_numbered_node nodes n node) q n u (s.2 ∙ ap (λ (i : ℕ). Some i) z)) ∙ way_is (with_numbered_node nodes n node) (folded_path to) n u arrived in
             let hit : is_key q (folded_path to) ≡ true = subst (λ (k : Path). is_key q k ≡ true) key (key_self q) in
             rw hit (ap (λ (x : TreeEntry). Some x) (sym new_entry ∙ (ap entry_of_node (sym is) ∙ value)))
         | inr (apart, g) ↦
             let by = way_leads nodes s.0 s.1 t g in
             let from_other : way nodes s.0 ≡ folded_path from → ⊥ = λ z. apart (some_is s.0 n (sym by ∙ (ap (λ (k : Path). number_by nodes 0 k) z ∙ at))) in
-            let key : to_key (folded_path from) (folded_path to) (way nodes s.0) ≡ q = sym (way_is (with_node nodes n node) (to_key (folded_path from) (folded_path to) (way nodes s.0)) s.0 u (leads (way nodes s.0) s.0 by from_other)) ∙ way_is (with_node nodes n node) q s.0 u s.2 in
-            let miss : is_key q (folded_path to) ≡ false = key_other q (folded_path to) (λ z. apart (some_is s.0 n (sym s.2 ∙ (ap (λ (k : Path). number_by (with_node nodes n node) 0 k) z ∙ arrived)))) in
+            let key : to_key (folded_path from) (folded_path to) (way nodes s.0) ≡ q = sym (way_is (with_numbered_node nodes n node) (to_key (folded_path from) (folded_path to) (way nodes s.0)) s.0 u (leads (way nodes s.0) s.0 by from_other)) ∙ way_is (with_numbered_node nodes n node) q s.0 u s.2 in
+            let miss : is_key q (folded_path to) ≡ false = key_other q (folded_path to) (λ z. apart (some_is s.0 n (sym s.2 ∙ (ap (λ (k : Path). number_by (with_numbered_node nodes n node) 0 k) z ∙ arrived)))) in
             let in_map : Among (moves (way nodes s.0, entry_of_node s.1)) (map moves others) = among_map moves others (way nodes s.0, entry_of_node s.1) (among_others s.0 s.1 g apart) in
             let is : moves (way nodes s.0, entry_of_node s.1) ≡ (q, entry_of_node s.1) = moved_is (folded_path from) (folded_path to) (way nodes s.0, entry_of_node s.1) ∙ ap (λ (k : Path). (k, entry_of_node s.1)) key in
             let f = found_some (map moves others) (q, entry_of_node s.1) (subst (λ (x : Path × TreeEntry). Among x (map moves others)) is in_map) in
@@ -301,16 +301,16 @@ moved_tree nodes from to n node t u may moved = same_tree (tree_of (with_node no
             rw miss (f.1 ∙ ap (λ (x : TreeEntry). Some x) one)
       ]
 
-  back : (q : Path) (w : TreeEntry) → maps.get (changed (tree_of nodes) (RenameDir from to)) q ≡ Some w → maps.get (tree_of (with_node nodes n node)) q ≡ Some w
+  back : (q : Path) (w : TreeEntry) → maps.get (changed (tree_of nodes) (RenameDir from to)) q ≡ Some w → maps.get (tree_of (with_numbered_node nodes n node)) q ≡ Some w
   back q w h =
       let g = sym (got q) ∙ h in
       elim (either (is_key q (folded_path to))) [
         | inl hit ↦
             let value : at_new ≡ w = some_is at_new w (rw hit at g) in
-            ap (λ (k : Path). maps.get (tree_of (with_node nodes n node)) k) (key_is q (folded_path to) hit) ∙ (shows (with_node nodes n node) (folded_path to) n node u arrived here ∙ ap (λ (x : TreeEntry). Some x) (new_entry ∙ value))
+            ap (λ (k : Path). maps.get (tree_of (with_numbered_node nodes n node)) k) (key_is q (folded_path to) hit) ∙ (shows (with_numbered_node nodes n node) (folded_path to) n node u arrived here ∙ ap (λ (x : TreeEntry). Some x) (new_entry ∙ value))
         | inr miss ↦ found q w (rw miss at g)
       ]
 
 -- the tree after the move, where the node has moved
-pub rename_dir_tree : (nodes new : List Numbered) (from to : Path) → IsTable nodes → IsTable new → first_cause (edit_causes (tree_of nodes) (RenameDir from to)) ≡ None → MovesNode nodes new from to → tree_of new ≡ changed (tree_of nodes) (RenameDir from to)
-rename_dir_tree nodes new from to t u none p = ap tree_of p.after ∙ moved_tree nodes from to p.number p.node t (subst IsTable p.after u) (renames_dir nodes from to t none) p.moved
+pub rename_dir_tree : (nodes new : List Numbered) (from to : Path) → IsNodeTable nodes → IsNodeTable new → first_cause (edit_causes (tree_of nodes) (RenameDir from to)) ≡ None → MovesNode nodes new from to → tree_of new ≡ changed (tree_of nodes) (RenameDir from to)
+rename_dir_tree nodes new from to t u none p = ap tree_of p.after ∙ moved_tree nodes from to p.number p.node t (subst IsNodeTable p.after u) (renames_dir nodes from to t none) p.moved

@@ -14,7 +14,7 @@ use Rattle.asm_formats.specs.Items.{Node, node_item, is_item}
 use Rattle.alias_tree.specs.asm_base.Tables.{IsItemTable}
 use Rattle.alias_tree.proofs.asm_base.Exact.{some_is}
 use Rattle.alias_edits.specs.Edits.{IsMoved, are_parts}
-use Rattle.alias_tree.specs.Nodes.{Numbered, item_of, is_before, node_at, with_node, is_directory, kind_is_directory, reaches_root, IsTable}
+use Rattle.alias_tree.specs.Nodes.{Numbered, item_of_node, is_before, node_at, with_numbered_node, is_directory, kind_is_directory, reaches_root, IsNodeTable}
 use Rattle.alias_tree.specs.Trees.{tree_of, number_by}
 use Rattle.alias_edits.proofs.Allowed.{three_false, both_false, not_false, number_is, dir_node, IsNew, is_new}
 use Rattle.alias_edits.proofs.Done.{hung_may, hung_free, hung_parent, hung_is_item}
@@ -33,7 +33,7 @@ pub record RenamesDir (nodes : List Numbered) (old new : Path) : Type 0 where
   pub free : IsNew nodes new
   pub outside : is_under (folded_path old) (folded_path new) ≡ false
 
-pub renames_dir : (nodes : List Numbered) (old new : Path) → IsTable nodes → first_cause (edit_causes (tree_of nodes) (RenameDir old new)) ≡ None → RenamesDir nodes old new
+pub renames_dir : (nodes : List Numbered) (old new : Path) → IsNodeTable nodes → first_cause (edit_causes (tree_of nodes) (RenameDir old new)) ≡ None → RenamesDir nodes old new
 renames_dir nodes old new t e =
     let f = three_false (is_root old || not (is_there (tree_of nodes) old) || lacks_parent (tree_of nodes) new) (is_there (tree_of nodes) new || is_under (folded_path old) (folded_path new))
     (not (is_dir (tree_of nodes) old) || not (is_dir (tree_of nodes) (up new))) r.NoName r.NameTaken r.NotDirectory e in
@@ -61,7 +61,7 @@ under_more p before (y ∷ q) x is =
 
 -- A way of nodes that doesn't come by this path: p is the path, and behind the way comes one name more.
 -- The way from a to m goes on where it went.
-way_stays : (nodes big : List Numbered) (n : ℕ) (p : Path) (x : Bytes) → IsTable nodes → ((k : ℕ) → is_at (nat_cmp n) k ≡ false → node_at big k ≡ node_at nodes k) → number_by nodes 0 p ≡ Some n
+way_stays : (nodes big : List Numbered) (n : ℕ) (p : Path) (x : Bytes) → IsNodeTable nodes → ((k : ℕ) → is_at (nat_cmp n) k ≡ false → node_at big k ≡ node_at nodes k) → number_by nodes 0 p ≡ Some n
     → (q before : Path) (a m k : ℕ) → number_by nodes 0 before ≡ Some a → number_by nodes a q ≡ Some m → is_under p ((before ++ q) ++ x ∷ []) ≡ false → reaches_root big k a ≡ true → reaches_root big (k + length q) m ≡ true
 way_stays nodes big n p x t same at [] before a m k there e outside r =
     let none : k + 0 ≡ k = omega arith in
@@ -83,7 +83,7 @@ way_stays nodes big n p x t same at (y ∷ q) before a m k there e outside r =
 -- ---- the rule
 
 -- a directory under another directory, which doesn't lie below it
-pub moved_dir_table : (nodes : List Numbered) (old new : Path) (n : ℕ) (node : Node) → IsTable nodes → first_cause (edit_causes (tree_of nodes) (RenameDir old new)) ≡ None → IsMoved nodes old new n node → IsTrue (are_parts new) → IsTable (with_node nodes n node)
+pub moved_dir_table : (nodes : List Numbered) (old new : Path) (n : ℕ) (node : Node) → IsNodeTable nodes → first_cause (edit_causes (tree_of nodes) (RenameDir old new)) ≡ None → IsMoved nodes old new n node → IsTrue (are_parts new) → IsNodeTable (with_numbered_node nodes n node)
 moved_dir_table nodes old new n node t none moved parts = record { items = items; rule = record { parents = parents; rooted = rooted; distinct = distinct } } where
   may : RenamesDir nodes old new
   may = renames_dir nodes old new t none
@@ -97,7 +97,7 @@ moved_dir_table nodes old new n node t none moved parts = record { items = items
       let range = number_is_some n moved.was item in
       hung_is_item nodes new n node t may.free moved.hangs parts range.0 range.1 (subst (λ (k : ℕ). k < 2 ^ 32) (sym moved.file_is) (file_is_small n moved.was item))
 
-  items : IsItemTable is_before item_of (with_node nodes n node)
+  items : IsItemTable is_before item_of_node (with_numbered_node nodes n node)
   items = with_items nodes n node ok t.items
 
   -- it is a directory still
@@ -106,16 +106,16 @@ moved_dir_table nodes old new n node t none moved parts = record { items = items
       let entry = shows nodes (folded_path old) n moved.was t at moved.was_at in
       ap kind_is_directory moved.kind_is ∙ (sym (dir_node moved.was) ∙ (ap is_dir_entry (sym entry) ∙ may.dir))
 
-  was : (m : ℕ) (x : Node) → node_at (with_node nodes n node) m ≡ Some x → ((m ≡ n) × (x ≡ node)) ⊎ ((m ≡ n → ⊥) × (node_at nodes m ≡ Some x))
+  was : (m : ℕ) (x : Node) → node_at (with_numbered_node nodes n node) m ≡ Some x → ((m ≡ n) × (x ≡ node)) ⊎ ((m ≡ n → ⊥) × (node_at nodes m ≡ Some x))
   was m x e = new_or_was nodes n node m x e
 
-  same : (k : ℕ) → is_at (nat_cmp n) k ≡ false → node_at (with_node nodes n node) k ≡ node_at nodes k
+  same : (k : ℕ) → is_at (nat_cmp n) k ≡ false → node_at (with_numbered_node nodes n node) k ≡ node_at nodes k
   same k miss = at_with nodes n node k ∙ rw miss refl
 
-  here : node_at (with_node nodes n node) n ≡ Some node
+  here : node_at (with_numbered_node nodes n node) n ≡ Some node
   here = at_with nodes n node n ∙ rw (at_self n) refl
 
-  parents : (m : ℕ) (x above : Node) → node_at (with_node nodes n node) m ≡ Some x → node_at (with_node nodes n node) x.parent ≡ Some above → IsTrue (is_directory above)
+  parents : (m : ℕ) (x above : Node) → node_at (with_numbered_node nodes n node) m ≡ Some x → node_at (with_numbered_node nodes n node) x.parent ≡ Some above → IsTrue (is_directory above)
   parents m x above e f = elim (was x.parent above f) [
     | inl (z, is) ↦ subst (λ (y : Node). IsTrue (is_directory y)) (sym is) dir
     | inr (other, g) ↦ elim (was m x e) [
@@ -128,31 +128,31 @@ moved_dir_table nodes old new n node t none moved parts = record { items = items
     hung (inr (y, h, d)) g = subst (λ (k : Node). IsTrue (is_directory k)) (some_is y above (sym h ∙ g)) d
 
   -- the new parent is reached without the directory
-  above : reaches_root (with_node nodes n node) (0 + length (folded_path (up new))) node.parent ≡ true
+  above : reaches_root (with_numbered_node nodes n node) (0 + length (folded_path (up new))) node.parent ≡ true
   above =
       let key : folded_path new ≡ ([] ++ folded_path (up new)) ++ folded (last_part new) ∷ [] = may.free.key in
-      subst (λ (k : ℕ). reaches_root (with_node nodes n node) (0 + length (folded_path (up new))) k ≡ true) (hung_parent nodes new node may.free moved.hangs)
-      (way_stays nodes (with_node nodes n node) n (folded_path old) (folded (last_part new)) t same at (folded_path (up new)) [] 0 may.free.parent 0 refl may.free.above
-      (ap (λ (p : Path). is_under (folded_path old) p) (sym key) ∙ may.outside) (at_root (with_node nodes n node) 0 0 refl))
+      subst (λ (k : ℕ). reaches_root (with_numbered_node nodes n node) (0 + length (folded_path (up new))) k ≡ true) (hung_parent nodes new node may.free moved.hangs)
+      (way_stays nodes (with_numbered_node nodes n node) n (folded_path old) (folded (last_part new)) t same at (folded_path (up new)) [] 0 may.free.parent 0 refl may.free.above
+      (ap (λ (p : Path). is_under (folded_path old) p) (sym key) ∙ may.outside) (at_root (with_numbered_node nodes n node) 0 0 refl))
 
-  reach : (k m : ℕ) → reaches_root nodes k m ≡ true → reaches_root (with_node nodes n node) (k + suc (0 + length (folded_path (up new)))) m ≡ true
-  reach zero m r = at_root (with_node nodes n node) (zero + suc (0 + length (folded_path (up new)))) m (at_zero nodes m r)
+  reach : (k m : ℕ) → reaches_root nodes k m ≡ true → reaches_root (with_numbered_node nodes n node) (k + suc (0 + length (folded_path (up new)))) m ≡ true
+  reach zero m r = at_root (with_numbered_node nodes n node) (zero + suc (0 + length (folded_path (up new)))) m (at_zero nodes m r)
   reach (suc k) m r = elim (at_or_below nodes k m r) [
-    | inl z ↦ at_root (with_node nodes n node) (suc k + suc (0 + length (folded_path (up new)))) m z
+    | inl z ↦ at_root (with_numbered_node nodes n node) (suc k + suc (0 + length (folded_path (up new)))) m z
     | inr (x, e, h) ↦ elim (either (is_at (nat_cmp n) m)) [
       | inl hit ↦
           let count : suc (0 + length (folded_path (up new))) + suc k ≡ suc k + suc (0 + length (folded_path (up new))) = omega arith in
-          subst (λ (i : ℕ). reaches_root (with_node nodes n node) i m ≡ true) count
-          (reaches_more (with_node nodes n node) (suc (0 + length (folded_path (up new)))) (suc k) m
-          (subst (λ (i : ℕ). reaches_root (with_node nodes n node) (suc (0 + length (folded_path (up new)))) i ≡ true) (at_is n m hit) (reaches_below (with_node nodes n node) (0 + length (folded_path (up new))) n node here above)))
+          subst (λ (i : ℕ). reaches_root (with_numbered_node nodes n node) i m ≡ true) count
+          (reaches_more (with_numbered_node nodes n node) (suc (0 + length (folded_path (up new)))) (suc k) m
+          (subst (λ (i : ℕ). reaches_root (with_numbered_node nodes n node) (suc (0 + length (folded_path (up new)))) i ≡ true) (at_is n m hit) (reaches_below (with_numbered_node nodes n node) (0 + length (folded_path (up new))) n node here above)))
       | inr miss ↦
           let count : suc (k + suc (0 + length (folded_path (up new)))) ≡ suc k + suc (0 + length (folded_path (up new))) = omega arith in
-          subst (λ (i : ℕ). reaches_root (with_node nodes n node) i m ≡ true) count (reaches_below (with_node nodes n node) (k + suc (0 + length (folded_path (up new)))) m x (same m miss ∙ e) (reach k x.parent h))
+          subst (λ (i : ℕ). reaches_root (with_numbered_node nodes n node) i m ≡ true) count (reaches_below (with_numbered_node nodes n node) (k + suc (0 + length (folded_path (up new)))) m x (same m miss ∙ e) (reach k x.parent h))
     ]
   ]
 
-  rooted : (m : ℕ) (x : Node) → node_at (with_node nodes n node) m ≡ Some x → IsTrue (reaches_root (with_node nodes n node) (length (with_node nodes n node)) m)
-  rooted m x e = short_way (with_node nodes n node) (length nodes + suc (0 + length (folded_path (up new)))) m items (reach (length nodes) m (before (was m x e))) where
+  rooted : (m : ℕ) (x : Node) → node_at (with_numbered_node nodes n node) m ≡ Some x → IsTrue (reaches_root (with_numbered_node nodes n node) (length (with_numbered_node nodes n node)) m)
+  rooted m x e = short_way (with_numbered_node nodes n node) (length nodes + suc (0 + length (folded_path (up new)))) m items (reach (length nodes) m (before (was m x e))) where
     before : (((m ≡ n) × (x ≡ node)) ⊎ ((m ≡ n → ⊥) × (node_at nodes m ≡ Some x))) → reaches_root nodes (length nodes) m ≡ true
     before (inl (z, is)) = t.rule.rooted m moved.was (ap (λ (k : ℕ). node_at nodes k) z ∙ moved.was_at)
     before (inr (apart, h)) = t.rule.rooted m x h
@@ -160,7 +160,7 @@ moved_dir_table nodes old new n node t none moved parts = record { items = items
   taken : (j : ℕ) (b : Node) → node_at nodes j ≡ Some b → b.parent ≡ node.parent → folded b.name ≡ folded node.name → ⊥
   taken j b g p q = none-some j (sym (hung_free nodes new node may.free moved.hangs) ∙ child_at nodes node.parent (folded node.name) j t (record { node = b; at = g; parent_is = p; name_is = q }))
 
-  distinct : (i j : ℕ) (a b : Node) → node_at (with_node nodes n node) i ≡ Some a → node_at (with_node nodes n node) j ≡ Some b → a.parent ≡ b.parent → folded a.name ≡ folded b.name → i ≡ j
+  distinct : (i j : ℕ) (a b : Node) → node_at (with_numbered_node nodes n node) i ≡ Some a → node_at (with_numbered_node nodes n node) j ≡ Some b → a.parent ≡ b.parent → folded a.name ≡ folded b.name → i ≡ j
   distinct i j a b e f p q = elim (was i a e) [
     | inl (z, is) ↦ elim (was j b f) [
       | inl (w, is2) ↦ z ∙ sym w

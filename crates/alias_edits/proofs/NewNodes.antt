@@ -17,7 +17,7 @@ use Rattle.asm_formats.specs.Nodes.{entry_of_node}
 use Rattle.alias_edits.specs.Edits.{are_parts, HangsAt}
 use Rattle.alias_edits.specs.Filing.{missing_dirs, nodes_missing, file_causes, with_dir, with_dirs, with_file, with_nodes, may_hang, IsFiling, IsFree, IsFront}
 use Rattle.alias_tree.specs.Numbers.{IsFreeAbove}
-use Rattle.alias_tree.specs.Nodes.{Numbered, node_at, number_of, with_node, child, kind_is_directory, IsTable}
+use Rattle.alias_tree.specs.Nodes.{Numbered, node_at, number_of, with_numbered_node, child, kind_is_directory, IsNodeTable}
 use Rattle.alias_tree.specs.Trees.{tree_of, number_by}
 use Rattle.alias_edits.proofs.Allowed.{IsNew, folded_last, last_is_part, number_is}
 use Rattle.alias_edits.proofs.Done.{parent_small}
@@ -33,7 +33,7 @@ use Rattle.alias_tree.proofs.Ways.{child_found}
 
 -- a node may be put below the end of a path, under a name that isn't there
 record Place (nodes : List Numbered) (front : Path) (x : Bytes) (parent n : ℕ) (node : Node) : Type 0 where
-  table : IsTable nodes
+  table : IsNodeTable nodes
   at : number_by nodes 0 (folded_path front) ≡ Some parent
   may : MayHang nodes parent
   missing : child nodes parent (folded x) ≡ None
@@ -47,11 +47,11 @@ record Place (nodes : List Numbered) (front : Path) (x : Bytes) (parent n : ℕ)
 
 -- what stands once it is put
 record Put (nodes : List Numbered) (front : Path) (x : Bytes) (n : ℕ) (node : Node) : Type 0 where
-  table : IsTable (with_node nodes n node)
-  tree : tree_of (with_node nodes n node) ≡ maps.insert (tree_of nodes) (folded_path (front ++ x ∷ [])) (entry_of_node node)
-  at : number_by (with_node nodes n node) 0 (folded_path (front ++ x ∷ [])) ≡ Some n
-  there : node_at (with_node nodes n node) n ≡ Some node
-  leaf : (name : Bytes) → child (with_node nodes n node) n name ≡ None
+  table : IsNodeTable (with_numbered_node nodes n node)
+  tree : tree_of (with_numbered_node nodes n node) ≡ maps.insert (tree_of nodes) (folded_path (front ++ x ∷ [])) (entry_of_node node)
+  at : number_by (with_numbered_node nodes n node) 0 (folded_path (front ++ x ∷ [])) ≡ Some n
+  there : node_at (with_numbered_node nodes n node) n ≡ Some node
+  leaf : (name : Bytes) → child (with_numbered_node nodes n node) n name ≡ None
   item : is_item (node_item n node) ≡ true
 
 put_below : (nodes : List Numbered) (front : Path) (x : Bytes) (parent n : ℕ) (node : Node) → Place nodes front x parent n node → Put nodes front x n node
@@ -86,30 +86,30 @@ put_below nodes front x parent n node p = record { table = table; tree = put_tre
   ok : is_item (node_item n node) ≡ true
   ok = hung_item n node p.some p.small (parent_small nodes node.parent p.table may) p.file_small (subst (λ (y : Bytes). is_part 80 y ≡ true) (sym p.name_is) p.part)
 
-  table : IsTable (with_node nodes n node)
+  table : IsNodeTable (with_numbered_node nodes n node)
   table = put_keeps_table nodes n node p.table p.free ok may (ap (λ (k : ℕ). child nodes k (folded node.name)) p.parent_is ∙ (ap (λ (y : Bytes). child nodes parent (folded y)) p.name_is ∙ p.missing))
 
-  there : node_at (with_node nodes n node) n ≡ Some node
+  there : node_at (with_numbered_node nodes n node) n ≡ Some node
   there = at_with nodes n node n ∙ rw (at_self n) refl
 
-  leaf : (name : Bytes) → child (with_node nodes n node) n name ≡ None
-  leaf name = one (child (with_node nodes n node) n name) refl where
-    one : (o : Option ℕ) → child (with_node nodes n node) n name ≡ o → o ≡ None
+  leaf : (name : Bytes) → child (with_numbered_node nodes n node) n name ≡ None
+  leaf name = one (child (with_numbered_node nodes n node) n name) refl where
+    one : (o : Option ℕ) → child (with_numbered_node nodes n node) n name ≡ o → o ≡ None
     one None f = refl
     one (Some m) f =
-        let c = child_found (with_node nodes n node) n name m table f in
+        let c = child_found (with_numbered_node nodes n node) n name m table f in
         absurd (none_below_new nodes n node p.table p.free ok may m c.node c.at c.parent_is)
 
 -- ---- one after the other
 
-pub with_more : (nodes made : List Numbered) (n : ℕ) (node : Node) → with_nodes nodes (made ++ (n, node) ∷ []) ≡ with_node (with_nodes nodes made) n node
+pub with_more : (nodes made : List Numbered) (n : ℕ) (node : Node) → with_nodes nodes (made ++ (n, node) ∷ []) ≡ with_numbered_node (with_nodes nodes made) n node
 with_more nodes [] n node = refl
-with_more nodes (x ∷ made) n node = with_more (with_node nodes x.0 x.1) made n node
+with_more nodes (x ∷ made) n node = with_more (with_numbered_node nodes x.0 x.1) made n node
 
 -- some of the directories that were missing are made
 pub record SoFar (nodes made : List Numbered) (path : Path) (i parent before : ℕ) : Type 0 where
-  pub before_table : IsTable nodes
-  pub table : IsTable (with_nodes nodes made)
+  pub before_table : IsNodeTable nodes
+  pub table : IsNodeTable (with_nodes nodes made)
   pub at : number_by (with_nodes nodes made) 0 (folded_path (take i (up path))) ≡ Some parent
   pub may : MayHang (with_nodes nodes made) parent
   pub missing : (d : Bytes) → i < length (up path) → child (with_nodes nodes made) parent (folded (get_or (up path) i d)) ≡ None
@@ -124,7 +124,7 @@ pub record SoFar (nodes made : List Numbered) (path : Path) (i parent before : �
   pub away : (d : Bytes) → i < length (up path) → number_by nodes 0 (folded_path (take i (up path) ++ get_or (up path) i d ∷ [])) ≡ None
   pub count : length made + missing_dirs (tree_of nodes) (take i (up path)) (drop i (up path)) ≡ missing_dirs (tree_of nodes) [] (up path)
 
-pub so_far_none : (nodes : List Numbered) (path : Path) (k a : ℕ) → IsTable nodes → IsFront nodes (up path) k a → may_hang nodes a ≡ true → IsFree nodes path k a → SoFar nodes [] path k a 0
+pub so_far_none : (nodes : List Numbered) (path : Path) (k a : ℕ) → IsNodeTable nodes → IsFront nodes (up path) k a → may_hang nodes a ≡ true → IsFree nodes path k a → SoFar nodes [] path k a 0
 so_far_none nodes path k a t f may free = record {
   before_table = t;
   table = t;
@@ -164,7 +164,7 @@ dir_part path i d e h = elim (either (is_part 80 (get_or (up path) i d))) [
 free_still : (nodes made : List Numbered) (path : Path) (i parent before n : ℕ) → SoFar nodes made path i parent before → IsFreeAbove nodes before n → node_at (with_nodes nodes made) n ≡ None
 free_still nodes made path i parent before n s f = s.above n f.above ∙ f.free
 
-above_more : (nodes made : List Numbered) (path : Path) (i parent before n : ℕ) (node : Node) → SoFar nodes made path i parent before → before < n → (k : ℕ) → n < k → node_at (with_node (with_nodes nodes made) n node) k ≡ node_at nodes k
+above_more : (nodes made : List Numbered) (path : Path) (i parent before n : ℕ) (node : Node) → SoFar nodes made path i parent before → before < n → (k : ℕ) → n < k → node_at (with_numbered_node (with_nodes nodes made) n node) k ≡ node_at nodes k
 above_more nodes made path i parent before n node s less k past =
     at_with (with_nodes nodes made) n node k ∙ (rw (not_at n k (λ z. omega arith)) (s.above k (omega arith)))
 
@@ -173,8 +173,8 @@ pub dir_more : (nodes made : List Numbered) (path : Path) (i parent before n : �
     → IsFreeAbove nodes before n → n < 2 ^ 32 → node.parent ≡ parent → node.name ≡ part → node.kind ≡ Directory → node.file ≡ 0 → SoFar nodes (made ++ (n, node) ∷ []) path (i + 1) n n
 dir_more nodes made path i parent before n part node s parts h is f small parent_is name_is kind_is file_is = record {
   before_table = s.before_table;
-  table = subst IsTable (sym more) put.table;
-  at = ap (λ (ns : List Numbered). number_by ns 0 (folded_path (take (i + 1) (up path)))) more ∙ (ap (λ (q : Path). number_by (with_node old n node) 0 (folded_path q)) front ∙ put.at);
+  table = subst IsNodeTable (sym more) put.table;
+  at = ap (λ (ns : List Numbered). number_by ns 0 (folded_path (take (i + 1) (up path)))) more ∙ (ap (λ (q : Path). number_by (with_numbered_node old n node) 0 (folded_path q)) front ∙ put.at);
   may = inr (node, ap (λ (ns : List Numbered). node_at ns n) more ∙ put.there, ap kind_is_directory kind_is);
   missing = λ d less. ap (λ (ns : List Numbered). child ns n (folded (get_or (up path) (i + 1) d))) more ∙ put.leaf (folded (get_or (up path) (i + 1) d));
   free = λ all. ap (λ (ns : List Numbered). child ns n (folded (last_part path))) more ∙ put.leaf (folded (last_part path));
@@ -190,7 +190,7 @@ dir_more nodes made path i parent before n part node s parts h is f small parent
   old : List Numbered
   old = with_nodes nodes made
 
-  more : with_nodes nodes (made ++ (n, node) ∷ []) ≡ with_node (with_nodes nodes made) n node
+  more : with_nodes nodes (made ++ (n, node) ∷ []) ≡ with_numbered_node (with_nodes nodes made) n node
   more = with_more nodes made n node
 
   front : take (i + 1) (up path) ≡ take i (up path) ++ part ∷ []
@@ -231,7 +231,7 @@ dir_more nodes made path i parent before n part node s parts h is f small parent
   entry : entry_of_node node ≡ record { name = last_part (take i (up path) ++ part ∷ []); node = group.Dir }
   entry = entry_as node (last_part (take i (up path) ++ part ∷ [])) Directory 0 (name_is ∙ sym (last_append (take i (up path)) part)) kind_is file_is
 
-  stands : with_dir (tree_of (with_nodes nodes made)) (take i (up path) ++ part ∷ []) ≡ tree_of (with_node (with_nodes nodes made) n node)
+  stands : with_dir (tree_of (with_nodes nodes made)) (take i (up path) ++ part ∷ []) ≡ tree_of (with_numbered_node (with_nodes nodes made) n node)
   stands =
       rw (absent (with_nodes nodes made) (take i (up path) ++ part ∷ []) s.table (more_root (take i (up path)) part) (number_more (with_nodes nodes made) (take i (up path)) part parent s.at ∙ missing))
       (ap (λ (x : TreeEntry). maps.insert (tree_of (with_nodes nodes made)) (folded_path (take i (up path) ++ part ∷ [])) x) (sym entry) ∙ sym put.tree)
@@ -239,7 +239,7 @@ dir_more nodes made path i parent before n part node s parts h is f small parent
   tree : with_dirs (tree_of (with_nodes nodes (made ++ (n, node) ∷ []))) (take (i + 1) (up path)) (drop (i + 1) (up path)) ≡ with_dirs (tree_of nodes) [] (up path)
   tree =
       ap (λ (ns : List Numbered). with_dirs (tree_of ns) (take (i + 1) (up path)) (drop (i + 1) (up path))) more
-      ∙ (ap (λ (q : Path). with_dirs (tree_of (with_node (with_nodes nodes made) n node)) q (drop (i + 1) (up path))) front
+      ∙ (ap (λ (q : Path). with_dirs (tree_of (with_numbered_node (with_nodes nodes made) n node)) q (drop (i + 1) (up path))) front
       ∙ (ap (λ (u : Tree). with_dirs u (take i (up path) ++ part ∷ []) (drop (i + 1) (up path))) (sym stands)
       ∙ (ap (λ (q : Path). with_dirs (tree_of (with_nodes nodes made)) (take i (up path)) q) (sym left) ∙ s.tree)))
 
@@ -247,7 +247,7 @@ dir_more nodes made path i parent before n part node s parts h is f small parent
 
 -- all nodes are made
 pub record AllMade (nodes made : List Numbered) (path : Path) (file : ℕ) : Type 0 where
-  pub table : IsTable (with_nodes nodes made)
+  pub table : IsNodeTable (with_nodes nodes made)
   pub tree : tree_of (with_nodes nodes made) ≡ with_file (tree_of nodes) path file
   pub filing : IsFiling nodes made path file
   pub few : length made ≤ length path
@@ -258,7 +258,7 @@ pub record AllMade (nodes made : List Numbered) (path : Path) (file : ℕ) : Typ
 pub name_more : (nodes made : List Numbered) (path : Path) (i parent before n file : ℕ) (node : Node) → SoFar nodes made path i parent before → are_parts path ≡ true → 0 < length path → i ≡ length (up path)
     → IsFreeAbove nodes before n → n < 2 ^ 32 → node.parent ≡ parent → node.name ≡ last_part path → node.kind ≡ System → node.file ≡ file → file < 2 ^ 32 → AllMade nodes (made ++ (n, node) ∷ []) path file
 name_more nodes made path i parent before n file node s parts some end f small parent_is name_is kind_is file_is file_small = record {
-  table = subst IsTable (sym more) put.table;
+  table = subst IsNodeTable (sym more) put.table;
   tree = tree;
   filing = record { dirs = made; number = n; node = node; split = refl; dirs_are = s.dirs; kind_is = kind_is; file_is = file_is; name_is = name_is; at = at };
   few = (let l = s.few in let one : length path ≡ length (up path) + 1 = ap (λ (q : Path). length q) whole ∙ length-append (up path) (last_part path ∷ []) in omega (arith, length-append made ((n, node) ∷ [])));
@@ -272,7 +272,7 @@ name_more nodes made path i parent before n file node s parts some end f small p
   whole : path ≡ up path ++ last_part path ∷ []
   whole = whole_path path root
 
-  more : with_nodes nodes (made ++ (n, node) ∷ []) ≡ with_node (with_nodes nodes made) n node
+  more : with_nodes nodes (made ++ (n, node) ∷ []) ≡ with_numbered_node (with_nodes nodes made) n node
   more = with_more nodes made n node
 
   front : take i (up path) ≡ up path
@@ -299,7 +299,7 @@ name_more nodes made path i parent before n file node s parts some end f small p
   at : number_of (with_nodes nodes (made ++ (n, node) ∷ [])) path ≡ Some n
   at =
       ap (λ (ns : List Numbered). number_of ns path) more
-      ∙ (number_is (with_node (with_nodes nodes made) n node) path ∙ (ap (λ (q : Path). number_by (with_node (with_nodes nodes made) n node) 0 (folded_path q)) whole ∙ put.at))
+      ∙ (number_is (with_numbered_node (with_nodes nodes made) n node) path ∙ (ap (λ (q : Path). number_by (with_numbered_node (with_nodes nodes made) n node) 0 (folded_path q)) whole ∙ put.at))
 
   dirs : tree_of (with_nodes nodes made) ≡ with_dirs (tree_of nodes) [] (up path)
   dirs =
@@ -318,7 +318,7 @@ name_more nodes made path i parent before n file node s parts some end f small p
 
 -- ---- the same, by what the steps of the code give
 
-pub none_made : (nodes made : List Numbered) (path : Path) (k a : ℕ) → IsTable nodes → 0 < length path → IsFront nodes (up path) k a → first_cause (file_causes (tree_of nodes) path) ≡ None → made ≡ [] → SoFar nodes made path k a 0
+pub none_made : (nodes made : List Numbered) (path : Path) (k a : ℕ) → IsNodeTable nodes → 0 < length path → IsFront nodes (up path) k a → first_cause (file_causes (tree_of nodes) path) ≡ None → made ≡ [] → SoFar nodes made path k a 0
 none_made nodes made path k a t some f e none =
     subst (λ (m : List Numbered). SoFar nodes m path k a 0) (sym none) (so_far_none nodes path k a t f (name_may nodes path k a t f e) (name_new nodes path k a t some f e))
 

@@ -48,11 +48,11 @@ abbrev pub nodes_missing : Tree → Path → ℕ
 nodes_missing t path = missing_dirs t [] (up path) + 1
 
 -- a directory of the path is there as a file
-abbrev pub is_below_file : Tree → Path → Bool
-is_below_file t path = has_no_dir t [] (up path)
+abbrev pub has_file_above : Tree → Path → Bool
+has_file_above t path = has_no_dir t [] (up path)
 
 abbrev pub file_causes : Tree → Path → Causes
-file_causes t path = (is_below_file t path, r.NotDirectory) ∷ (is_there t path, r.NameTaken) ∷ []
+file_causes t path = (has_file_above t path, r.NotDirectory) ∷ (is_there t path, r.NameTaken) ∷ []
 
 -- The tree with the name of a new file, or why it is refused.
 abbrev pub filed : Tree → Path → ℕ → Result Tree r.Refusal
@@ -63,7 +63,7 @@ filed t path file = unless_refused (first_cause (file_causes t path)) (with_file
 -- with each of these nodes, one after the other
 abbrev pub with_nodes : List Numbered → List Numbered → List Numbered
 with_nodes nodes [] = nodes
-with_nodes nodes (x ∷ made) = with_nodes (n.with_node nodes x.0 x.1) made
+with_nodes nodes (x ∷ made) = with_nodes (n.with_numbered_node nodes x.0 x.1) made
 
 -- The nodes of a new name: the directories that were missing, and then the name, to which its path leads.
 pub record IsFiling (nodes made : List Numbered) (path : Path) (file : ℕ) : Type 0 where
@@ -84,7 +84,7 @@ abbrev pub may_hang : List Numbered → ℕ → Bool
 may_hang nodes number = (number == 0) || is_dir_entry (option_map entry_of_node (node_at nodes number))
 
 -- so many of the directories are there, the last of them as this node; the root is 0
-pub record Reaches (nodes : List Numbered) (dirs : Path) (there number : ℕ) : Type 0 where
+pub record ReachesDirectory (nodes : List Numbered) (dirs : Path) (there number : ℕ) : Type 0 where
   pub at : number_by nodes 0 (folded_path (take there dirs)) ≡ Some number
   pub no_dir : (is_no_dir (tree_of nodes) (take there dirs) || has_no_dir (tree_of nodes) (take there dirs) (drop there dirs)) ≡ has_no_dir (tree_of nodes) [] dirs
   pub missing : missing_dirs (tree_of nodes) (take there dirs) (drop there dirs) ≡ missing_dirs (tree_of nodes) [] dirs
@@ -93,7 +93,7 @@ pub record Reaches (nodes : List Numbered) (dirs : Path) (there number : ℕ) : 
 -- these are all that are there
 pub record IsFront (nodes : List Numbered) (dirs : Path) (there number : ℕ) : Type 0 where
   pub few : there ≤ length dirs
-  pub reach : Reaches nodes dirs there number
+  pub reach : ReachesDirectory nodes dirs there number
   pub missing : (d : Bytes) → there < length dirs → child nodes number (folded (get_or dirs there d)) ≡ None
 
 -- the name isn't there, where all directories are

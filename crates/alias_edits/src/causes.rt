@@ -4,7 +4,7 @@ ghost use Rattle.std.specs.Prelude.{◌≡◌, is_some};
 ghost use Rattle.std.specs.Option.{option_copied, option_map};
 ghost use Rattle.asm_group.specs.Names.{folded_path};
 ghost use Rattle.asm_group.specs.Causes.{first_cause};
-ghost use Rattle.asm_group.specs.TreeEdits.{AddAlias, DropAlias, DropDir, DropFile, RenameAlias, RenameDir, edit_causes, entry_at, file_at, file_of_entry, file_of_node, is_dir, is_dir_entry, is_system_entry, is_there, is_under, lacks_parent, new_name_causes, up};
+ghost use Rattle.asm_group.specs.TreeEdits.{AddAliasEntry, DropAliasEntry, DropDir, DropFileEntries, RenameAliasEntry, RenameDir, edit_causes, entry_at, file_at, file_of_entry, file_of_node, is_dir, is_dir_entry, is_system_entry, is_there, is_under, lacks_parent, new_name_causes, up};
 ghost use Rattle.alias_edits.specs.Edits.{cause_said};
 ghost use Rattle.asm_formats.specs.Nodes.{entry_of_node, node_kind};
 ghost use Rattle.alias_tree.specs.Trees.{tree_of};
@@ -89,7 +89,7 @@ pub(crate) fn rename_dir_refusal(tree: &AliasTree, old: &Path, new: &Path) -> Op
 }
 
 pub(crate) fn add_alias_refusal(tree: &AliasTree, alias: &Path, path: &Path) -> Option<TreeError>
-    ensures { option_map cause_said result ≡ first_cause (edit_causes (tree_of tree.now) (AddAlias alias.now.parts path.now.parts)) }
+    ensures { option_map cause_said result ≡ first_cause (edit_causes (tree_of tree.now) (AddAliasEntry alias.now.parts path.now.parts)) }
 {
     let file = file_at(tree, path.parts.as_slice());
     if file.is_none() || lacks_parent(tree, alias) {
@@ -108,7 +108,7 @@ pub(crate) fn add_alias_refusal(tree: &AliasTree, alias: &Path, path: &Path) -> 
 }
 
 pub(crate) fn rename_alias_refusal(tree: &AliasTree, old: &Path, new: &Path) -> Option<TreeError>
-    ensures { option_map cause_said result ≡ first_cause (edit_causes (tree_of tree.now) (RenameAlias old.now.parts new.now.parts)) }
+    ensures { option_map cause_said result ≡ first_cause (edit_causes (tree_of tree.now) (RenameAliasEntry old.now.parts new.now.parts)) }
 {
     let from = old.parts.as_slice();
     if file_at(tree, from).is_none() || lacks_parent(tree, new) {
@@ -127,7 +127,7 @@ pub(crate) fn rename_alias_refusal(tree: &AliasTree, old: &Path, new: &Path) -> 
 }
 
 pub(crate) fn drop_alias_refusal(tree: &AliasTree, path: &Path) -> Option<TreeError>
-    ensures { option_map cause_said result ≡ first_cause (edit_causes (tree_of tree.now) (DropAlias path.now.parts)) }
+    ensures { option_map cause_said result ≡ first_cause (edit_causes (tree_of tree.now) (DropAliasEntry path.now.parts)) }
 {
     let parts = path.parts.as_slice();
     if file_at(tree, parts).is_none() {
@@ -140,7 +140,7 @@ pub(crate) fn drop_alias_refusal(tree: &AliasTree, path: &Path) -> Option<TreeEr
 }
 
 pub(crate) fn drop_file_refusal(tree: &AliasTree, file: u32) -> Option<TreeError>
-    ensures { option_map cause_said result ≡ first_cause (edit_causes (tree_of tree.now) (DropFile file)) }
+    ensures { option_map cause_said result ≡ first_cause (edit_causes (tree_of tree.now) (DropFileEntries file)) }
 {
     if tree.is_named(file) {
         return None;

@@ -2,9 +2,9 @@
 
 ghost use Rattle.std.specs.Prelude.{◌≡◌, ◌<◌, IfOk, IsTrue, OnErr, OnOk, None, Some, false, is_some, true};
 ghost use Rattle.asm_group.specs.Causes.{first_cause};
-ghost use Rattle.asm_group.specs.TreeEdits.{AddAlias, DropAlias, DropDir, RenameAlias, RenameDir, edit_causes, entry_at, lacks_parent, new_name_causes};
-ghost use Rattle.alias_edits.specs.Edits.{HangsAt, IsMade, IsMadeAlias, IsMoved, MovesNode, PutsAlias, PutsNode, RemovesNames, RemovesNode, are_parts};
-ghost use Rattle.alias_tree.specs.Nodes.{IsTable, number_of, with_node, without_node};
+ghost use Rattle.asm_group.specs.TreeEdits.{AddAliasEntry, DropAliasEntry, DropDir, RenameAliasEntry, RenameDir, edit_causes, entry_at, lacks_parent, new_name_causes};
+ghost use Rattle.alias_edits.specs.Edits.{HangsAt, IsMadeNode, IsMadeAlias, IsMoved, MovesNode, PutsAlias, PutsNode, RemovesNames, RemovesNode, are_parts};
+ghost use Rattle.alias_tree.specs.Nodes.{IsNodeTable, number_of, with_numbered_node, without_numbered_node};
 ghost use Rattle.alias_tree.specs.Trees.{tree_of};
 
 use crate::causes::{above, file_at};
@@ -35,8 +35,8 @@ pub(crate) fn new_node(
 ) -> Result<(u32, Node), NoMemory>
     requires parts { IsTrue (are_parts path.now.parts) }
     requires free { first_cause (new_name_causes (tree_of tree.now) path.now.parts) ≡ None }
-    ensures made { IfOk result (λ m. IsMade tree.now path.now.parts kind file m.0 m.1) }
-    ensures table { IfOk result (λ m. IsTable (with_node tree.now m.0 m.1)) }
+    ensures made { IfOk result (λ m. IsMadeNode tree.now path.now.parts kind file m.0 m.1) }
+    ensures table { IfOk result (λ m. IsNodeTable (with_numbered_node tree.now m.0 m.1)) }
 {
     tree.keeps_rule();
     let Some(number) = tree.free_number() else {
@@ -48,7 +48,7 @@ pub(crate) fn new_node(
 
 pub(crate) fn add_alias(tree: &mut AliasTree, alias: &Path, path: &Path) -> Result<(), NoMemory>
     requires parts { IsTrue (are_parts alias.now.parts) }
-    requires free { first_cause (edit_causes (tree_of tree.old) (AddAlias alias.now.parts path.now.parts)) ≡ None }
+    requires free { first_cause (edit_causes (tree_of tree.old) (AddAliasEntry alias.now.parts path.now.parts)) ≡ None }
     ensures ok { OnOk result (PutsAlias tree.old tree.new alias.now.parts path.now.parts) }
     ensures err { OnErr result (tree.new ≡ tree.old) }
 {
@@ -63,9 +63,9 @@ pub(crate) fn new_alias(
     path: &Path,
 ) -> Result<(u32, Node), NoMemory>
     requires parts { IsTrue (are_parts alias.now.parts) }
-    requires free { first_cause (edit_causes (tree_of tree.now) (AddAlias alias.now.parts path.now.parts)) ≡ None }
+    requires free { first_cause (edit_causes (tree_of tree.now) (AddAliasEntry alias.now.parts path.now.parts)) ≡ None }
     ensures made { IfOk result (λ m. IsMadeAlias tree.now alias.now.parts path.now.parts m.0 m.1) }
-    ensures table { IfOk result (λ m. IsTable (with_node tree.now m.0 m.1)) }
+    ensures table { IfOk result (λ m. IsNodeTable (with_numbered_node tree.now m.0 m.1)) }
 {
     let Some(file) = file_at(tree, path.parts.as_slice()) else {
         unreachable!()
@@ -108,7 +108,7 @@ pub(crate) fn drop_dir(tree: &mut AliasTree, path: &Path)
 pub(crate) fn dropped_dir(tree: &AliasTree, path: &Path) -> u32
     requires { first_cause (edit_causes (tree_of tree.now) (DropDir path.now.parts)) ≡ None }
     ensures at { number_of tree.now path.now.parts ≡ Some result }
-    ensures table { IsTable (without_node tree.now result) }
+    ensures table { IsNodeTable (without_numbered_node tree.now result) }
 {
     tree.keeps_rule();
     let Some(number) = tree.find(path) else {
@@ -118,7 +118,7 @@ pub(crate) fn dropped_dir(tree: &AliasTree, path: &Path) -> u32
 }
 
 pub(crate) fn drop_alias(tree: &mut AliasTree, path: &Path)
-    requires { first_cause (edit_causes (tree_of tree.old) (DropAlias path.now.parts)) ≡ None }
+    requires { first_cause (edit_causes (tree_of tree.old) (DropAliasEntry path.now.parts)) ≡ None }
     ensures { RemovesNode tree.old tree.new path.now.parts }
 {
     let number = dropped_alias(tree, path);
@@ -127,9 +127,9 @@ pub(crate) fn drop_alias(tree: &mut AliasTree, path: &Path)
 
 /// The number of an alias.
 pub(crate) fn dropped_alias(tree: &AliasTree, path: &Path) -> u32
-    requires { first_cause (edit_causes (tree_of tree.now) (DropAlias path.now.parts)) ≡ None }
+    requires { first_cause (edit_causes (tree_of tree.now) (DropAliasEntry path.now.parts)) ≡ None }
     ensures at { number_of tree.now path.now.parts ≡ Some result }
-    ensures table { IsTable (without_node tree.now result) }
+    ensures table { IsNodeTable (without_numbered_node tree.now result) }
 {
     tree.keeps_rule();
     let Some(number) = tree.find(path) else {
@@ -153,7 +153,7 @@ pub(crate) fn moved_dir(tree: &AliasTree, old: &Path, new: &Path) -> Result<(u32
     requires parts { IsTrue (are_parts new.now.parts) }
     requires free { first_cause (edit_causes (tree_of tree.now) (RenameDir old.now.parts new.now.parts)) ≡ None }
     ensures moved { IfOk result (λ m. IsMoved tree.now old.now.parts new.now.parts m.0 m.1) }
-    ensures table { IfOk result (λ m. IsTable (with_node tree.now m.0 m.1)) }
+    ensures table { IfOk result (λ m. IsNodeTable (with_numbered_node tree.now m.0 m.1)) }
 {
     tree.keeps_rule();
     let (number, node) = moved(tree, old, new)?;
@@ -162,7 +162,7 @@ pub(crate) fn moved_dir(tree: &AliasTree, old: &Path, new: &Path) -> Result<(u32
 
 pub(crate) fn rename_alias(tree: &mut AliasTree, old: &Path, new: &Path) -> Result<(), NoMemory>
     requires parts { IsTrue (are_parts new.now.parts) }
-    requires free { first_cause (edit_causes (tree_of tree.old) (RenameAlias old.now.parts new.now.parts)) ≡ None }
+    requires free { first_cause (edit_causes (tree_of tree.old) (RenameAliasEntry old.now.parts new.now.parts)) ≡ None }
     ensures ok { OnOk result (MovesNode tree.old tree.new old.now.parts new.now.parts) }
     ensures err { OnErr result (tree.new ≡ tree.old) }
 {
@@ -173,9 +173,9 @@ pub(crate) fn rename_alias(tree: &mut AliasTree, old: &Path, new: &Path) -> Resu
 /// The node of an alias at its new path, with its number.
 pub(crate) fn moved_alias(tree: &AliasTree, old: &Path, new: &Path) -> Result<(u32, Node), NoMemory>
     requires parts { IsTrue (are_parts new.now.parts) }
-    requires free { first_cause (edit_causes (tree_of tree.now) (RenameAlias old.now.parts new.now.parts)) ≡ None }
+    requires free { first_cause (edit_causes (tree_of tree.now) (RenameAliasEntry old.now.parts new.now.parts)) ≡ None }
     ensures moved { IfOk result (λ m. IsMoved tree.now old.now.parts new.now.parts m.0 m.1) }
-    ensures table { IfOk result (λ m. IsTable (with_node tree.now m.0 m.1)) }
+    ensures table { IfOk result (λ m. IsNodeTable (with_numbered_node tree.now m.0 m.1)) }
 {
     tree.keeps_rule();
     let (number, node) = moved(tree, old, new)?;

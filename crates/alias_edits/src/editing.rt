@@ -5,7 +5,7 @@ ghost use Rattle.std.specs.Option.{option_map};
 ghost use Rattle.asm_group.specs.Names.{is_part};
 ghost use Rattle.asm_group.specs.Causes.{first_cause};
 ghost use Rattle.asm_group.specs.TreeEdits.{edit_causes, edited};
-ghost use Rattle.alias_edits.specs.Edits.{ChangesNodes, IsRefusal, are_parts, cause_said, edit_meant, is_edit};
+ghost use Rattle.alias_edits.specs.Edits.{ChangesNodes, IsRefusal, are_parts, cause_said, edit_meant, is_tree_edit};
 ghost use Rattle.alias_tree.specs.Trees.{tree_of};
 
 use crate::causes::{
@@ -60,7 +60,7 @@ pub enum TreeError {
 impl TreeEdit {
     /// Whether the parts of the name that it puts are of the grammar: 1 to 80 bytes each.
     pub fn is_allowed(&self) -> bool
-        ensures { result ≡ is_edit (edit_meant self.now) }
+        ensures { result ≡ is_tree_edit (edit_meant self.now) }
     {
         match self {
             TreeEdit::MakeDir { path } => are_parts(path.parts.as_slice()),
@@ -100,7 +100,7 @@ fn is_part(name: &Name) -> bool
 /// and AddAlias and DropFile one for each name of the file, whatever other names there are.
 #[tactic(auto, using(crate::proofs::EditLaws::edited_is, crate::proofs::EditLaws::refused_is))]
 pub fn edit(tree: &mut AliasTree, edit: &TreeEdit) -> Result<(), TreeError>
-    requires { IsTrue (is_edit (edit_meant edit.now)) }
+    requires { IsTrue (is_tree_edit (edit_meant edit.now)) }
     // The tree of names is edited as the edit says.
     ensures done { OnOk result (edited (tree_of tree.old) (edit_meant edit.now) ≡ Ok (tree_of tree.new)) }
     // One node is put, moved or gone, or the names of one file are gone.
@@ -139,7 +139,7 @@ pub(crate) fn refusal(tree: &AliasTree, edit: &TreeEdit) -> Option<TreeError>
 
 /// Does an edit that isn't refused.
 fn apply(tree: &mut AliasTree, edit: &TreeEdit) -> Result<(), NoMemory>
-    requires edit { IsTrue (is_edit (edit_meant edit.now)) }
+    requires edit { IsTrue (is_tree_edit (edit_meant edit.now)) }
     requires free { first_cause (edit_causes (tree_of tree.old) (edit_meant edit.now)) ≡ None }
     ensures ok { OnOk result (ChangesNodes tree.old tree.new (edit_meant edit.now)) }
     ensures err { OnErr result (tree.new ≡ tree.old) }

@@ -9,7 +9,7 @@ ghost use Rattle.asm_formats.specs.Items.{is_item, node_item};
 ghost use Rattle.alias_edits.specs.Edits.{IsRefusal, are_parts, cause_said};
 ghost use Rattle.alias_edits.specs.Filing.{IsFiling, IsFront, file_causes, filed, may_hang, nodes_missing, with_file, with_nodes};
 ghost use Rattle.alias_tree.specs.Numbers.{IsFreeAbove};
-ghost use Rattle.alias_tree.specs.Nodes.{IsTable, Numbered, node_at};
+ghost use Rattle.alias_tree.specs.Nodes.{IsNodeTable, Numbered, node_at};
 ghost use Rattle.alias_tree.specs.Trees.{tree_of};
 
 use crate::causes::{above, is_directory};
@@ -41,7 +41,7 @@ pub fn plan_file(
     requires some { 0 < length path.now.parts }
     // The nodes with these are those of the tree of names with the file and the missing directories.
     ensures done { IfOk result (λ made. filed (tree_of tree.now) path.now.parts file ≡ Ok (tree_of (with_nodes tree.now made.items))) }
-    ensures table { IfOk result (λ made. IsTable (with_nodes tree.now made.items)) }
+    ensures table { IfOk result (λ made. IsNodeTable (with_nodes tree.now made.items)) }
     // Directories come first, and the name last.
     ensures nodes { IfOk result (λ made. IsFiling tree.now made.items path.now.parts file) }
     ensures few { IfOk result (λ made. length made.items ≤ length path.now.parts) }
@@ -122,7 +122,7 @@ fn nodes_for(
     requires front { IsFront tree.now (up path.now.parts) front.there front.number }
     requires free { first_cause (file_causes (tree_of tree.now) path.now.parts) ≡ None }
     ensures tree { IfOk result (λ made. tree_of (with_nodes tree.now made.items) ≡ with_file (tree_of tree.now) path.now.parts file) }
-    ensures table { IfOk result (λ made. IsTable (with_nodes tree.now made.items)) }
+    ensures table { IfOk result (λ made. IsNodeTable (with_nodes tree.now made.items)) }
     ensures nodes { IfOk result (λ made. IsFiling tree.now made.items path.now.parts file) }
     ensures few { IfOk result (λ made. length made.items ≤ length path.now.parts) }
     ensures count { IfOk result (λ made. length made.items ≡ nodes_missing (tree_of tree.now) path.now.parts) }

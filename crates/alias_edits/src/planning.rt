@@ -3,8 +3,8 @@
 ghost use Rattle.std.specs.Prelude.{◌≡◌, IfErr, IfOk, IsTrue, None, Ok};
 ghost use Rattle.asm_group.specs.Causes.{first_cause};
 ghost use Rattle.asm_group.specs.TreeEdits.{edit_causes, edited};
-ghost use Rattle.alias_edits.specs.Edits.{ChangesNodes, IsChange, IsRefusal, edit_meant, is_edit, nodes_after};
-ghost use Rattle.alias_tree.specs.Nodes.{IsTable};
+ghost use Rattle.alias_edits.specs.Edits.{ChangesNodes, IsChange, IsRefusal, edit_meant, is_tree_edit, nodes_after};
+ghost use Rattle.alias_tree.specs.Nodes.{IsNodeTable};
 ghost use Rattle.alias_tree.specs.Trees.{tree_of};
 
 use crate::changing::{dropped_alias, dropped_dir, moved_alias, moved_dir, new_alias, new_node};
@@ -26,10 +26,10 @@ pub enum TreeChange {
 /// What an edit changes, of which nothing is done. It is refused as `edit` refuses it.
 #[tactic(auto, using(crate::proofs::EditLaws::edited_is, crate::proofs::EditLaws::refused_is, crate::proofs::PlanLaws::change_nodes))]
 pub fn plan(tree: &AliasTree, alloc: Global, edit: &TreeEdit) -> Result<TreeChange, TreeError>
-    requires { IsTrue (is_edit (edit_meant edit.now)) }
+    requires { IsTrue (is_tree_edit (edit_meant edit.now)) }
     // The nodes after the change are those of the tree of names after the edit.
     ensures done { IfOk result (λ change. edited (tree_of tree.now) (edit_meant edit.now) ≡ Ok (tree_of (nodes_after tree.now change))) }
-    ensures table { IfOk result (λ change. IsTable (nodes_after tree.now change)) }
+    ensures table { IfOk result (λ change. IsNodeTable (nodes_after tree.now change)) }
     ensures nodes { IfOk result (λ change. ChangesNodes tree.now (nodes_after tree.now change) (edit_meant edit.now)) }
     // One node is put, or one goes, or the names of a file.
     ensures change { IfOk result (IsChange tree.now (edit_meant edit.now)) }
@@ -47,10 +47,10 @@ pub fn plan(tree: &AliasTree, alloc: Global, edit: &TreeEdit) -> Result<TreeChan
 
 /// What an edit changes that isn't refused.
 fn change(tree: &AliasTree, alloc: Global, edit: &TreeEdit) -> Result<TreeChange, NoMemory>
-    requires edit { IsTrue (is_edit (edit_meant edit.now)) }
+    requires edit { IsTrue (is_tree_edit (edit_meant edit.now)) }
     requires free { first_cause (edit_causes (tree_of tree.now) (edit_meant edit.now)) ≡ None }
     ensures change { IfOk result (IsChange tree.now (edit_meant edit.now)) }
-    ensures table { IfOk result (λ change. IsTable (nodes_after tree.now change)) }
+    ensures table { IfOk result (λ change. IsNodeTable (nodes_after tree.now change)) }
 {
     match edit {
         TreeEdit::MakeDir { path } => {

@@ -9,8 +9,8 @@ use Rattle.std.specs.declared.cmp.Ordering.TheVariants.{Less}
 use Rattle.std.proofs.lemmas.Bool.{eqb-true}
 use Rattle.asm_formats.specs.Items.{Node}
 use Rattle.asm_group.specs.Names.{Bytes, folded}
-use Rattle.alias_tree.specs.Nodes.{AreByName, IsTable, Numbered, folded_in, folded_name, node_at}
-use Rattle.alias_tree.specs.Places.{IsIndex, Place, StandsAt, number_at, numbers_under, place_cmp, place_of}
+use Rattle.alias_tree.specs.Nodes.{AreByName, IsNodeTable, Numbered, folded_in, folded_name, node_at}
+use Rattle.alias_tree.specs.Places.{IsIndex, Place, StandsAt, number_at_place, numbers_under, place_cmp, place_of}
 use Rattle.alias_tree.proofs.IndexLaws.{either, stands}
 use Rattle.alias_tree.proofs.NameBytes.{is_part_at, names_less}
 use Rattle.alias_tree.proofs.PlaceLaws.{self_same}
@@ -20,7 +20,7 @@ use Rattle.alias_tree.proofs.Under.{Index, behind_first, keeps, kept, place_betw
 abbrev AllStand : List Numbered → Index → Type 0
 AllStand nodes places = AllByRecursion (λ (e : Place × ℕ). StandsAt (node_at nodes e.1) e.0) places
 
-all_stand : (nodes : List Numbered) (places : Index) → IsStrictlySortedBy place_cmp (keys_of places) → ((p : Place) (n : ℕ) → number_at places p ≡ Some n → StandsAt (node_at nodes n) p) → AllStand nodes places
+all_stand : (nodes : List Numbered) (places : Index) → IsStrictlySortedBy place_cmp (keys_of places) → ((p : Place) (n : ℕ) → number_at_place places p ≡ Some n → StandsAt (node_at nodes n) p) → AllStand nodes places
 unfolding IsStrictlySortedBy
 all_stand nodes [] up only = tt
 all_stand nodes (f ∷ places) up only = (only f.0 f.1 (rw (self_same f.0) refl), all_stand nodes places up.1 (λ p n e. only p n (behind_first f places p n up e)))
@@ -36,7 +36,7 @@ parent_of : (nodes : List Numbered) (keep : Place → Bool) (parent n : ℕ) (no
 parent_of nodes keep parent n node p keeps e at k = eqb-true node.parent parent (sym (keeps n node e) ∙ (ap keep at ∙ k))
 
 -- the names behind a kept one are above it
-all_above : (nodes : List Numbered) (keep : Place → Bool) (parent m : ℕ) (node : Node) (p : Place) (places : Index) → IsTable nodes → Keeps nodes keep parent → node_at nodes m ≡ Some node → place_of node ≡ p → keep p ≡ true
+all_above : (nodes : List Numbered) (keep : Place → Bool) (parent m : ℕ) (node : Node) (p : Place) (places : Index) → IsNodeTable nodes → Keeps nodes keep parent → node_at nodes m ≡ Some node → place_of node ≡ p → keep p ≡ true
     → AllByRecursion (λ (q : Place). place_cmp p q ≡ Less) (keys_of places) → AllStand nodes places → AllByRecursion (λ (x : Bytes). slice_cmp nat_cmp (folded_name nodes m) x ≡ Less) (map (folded_name nodes) (kept keep places))
 all_above nodes keep parent m node p [] t keeps e at k above stand = tt
 all_above nodes keep parent m node p (f ∷ places) t keeps e at k above stand = elim (either (keep f.0)) [
@@ -51,7 +51,7 @@ all_above nodes keep parent m node p (f ∷ places) t keeps e at k above stand =
       rw held (here, all_above nodes keep parent m node p places t keeps e at k above.1 stand.1)
 ]
 
-in_order : (nodes : List Numbered) (keep : Place → Bool) (parent : ℕ) (places : Index) → IsTable nodes → Keeps nodes keep parent → IsStrictlySortedBy place_cmp (keys_of places) → AllStand nodes places → AreByName nodes (kept keep places)
+in_order : (nodes : List Numbered) (keep : Place → Bool) (parent : ℕ) (places : Index) → IsNodeTable nodes → Keeps nodes keep parent → IsStrictlySortedBy place_cmp (keys_of places) → AllStand nodes places → AreByName nodes (kept keep places)
 unfolding IsStrictlySortedBy
 in_order nodes keep parent [] t keeps up stand = tt
 in_order nodes keep parent (f ∷ places) t keeps up stand = elim (either (keep f.0)) [
@@ -61,6 +61,6 @@ in_order nodes keep parent (f ∷ places) t keeps up stand = elim (either (keep 
       rw held (all_above nodes keep parent f.1 s.0 f.0 places t keeps s.1 s.2 held up.0 stand.1, in_order nodes keep parent places t keeps up.1 stand.1)
 ]
 
-pub under_by_name : (nodes : List Numbered) (places : Index) (parent : ℕ) (numbers : List ℕ) → IsTable nodes → IsIndex nodes places → IsStrictlySortedBy place_cmp (keys_of places) → numbers ≡ numbers_under places parent → AreByName nodes numbers
+pub under_by_name : (nodes : List Numbered) (places : Index) (parent : ℕ) (numbers : List ℕ) → IsNodeTable nodes → IsIndex nodes places → IsStrictlySortedBy place_cmp (keys_of places) → numbers ≡ numbers_under places parent → AreByName nodes numbers
 under_by_name nodes places parent numbers t i up is =
     rw is (in_order nodes (keeps parent) parent places t (λ n node e. place_between nodes n node parent t e) up (all_stand nodes places up i.only))

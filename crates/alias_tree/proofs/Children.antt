@@ -9,15 +9,15 @@ use Rattle.std.proofs.lemmas.Slice.Eq.{bytes_eq-Decides}
 use Rattle.asm_group.specs.Names.{Bytes, folded, folded_byte}
 use Rattle.asm_formats.specs.Items.{Node}
 use Rattle.asm_base.proofs.Exact.{some_is}
-use Rattle.alias_tree.specs.Nodes.{Numbered, child, number_from, IsTable}
-use Rattle.alias_tree.specs.Places.{Place, named_place, number_at, IsIndex, Member}
+use Rattle.alias_tree.specs.Nodes.{Numbered, child, number_from, IsNodeTable}
+use Rattle.alias_tree.specs.Places.{Place, named_place, number_at_place, IsIndex, IsNodeAmong}
 use Rattle.alias_tree.proofs.PlaceLaws.{one_name, one_place}
 use Rattle.alias_tree.proofs.IndexLaws.{either, at_member, member_at, name_at, stands}
 
 -- the node of a parent and a folded name
 pub record IsChild (nodes : List Numbered) (parent : ℕ) (name : Bytes) (n : ℕ) : Type 0 where
   pub node : Node
-  pub member : Member (n, node) nodes
+  pub member : IsNodeAmong (n, node) nodes
   pub parent_is : node.parent ≡ parent
   pub name_is : folded node.name ≡ name
 
@@ -36,7 +36,7 @@ child_some (x ∷ nodes) parent name n e = elim (either (is_it x parent name)) [
       record { node = c.node; member = inr c.member; parent_is = c.parent_is; name_is = c.name_is }
 ]
 
-pub child_none : (nodes : List Numbered) (parent : ℕ) (name : Bytes) → child nodes parent name ≡ None → (x : Numbered) → Member x nodes → x.1.parent ≡ parent → folded x.1.name ≡ name → ⊥
+pub child_none : (nodes : List Numbered) (parent : ℕ) (name : Bytes) → child nodes parent name ≡ None → (x : Numbered) → IsNodeAmong x nodes → x.1.parent ≡ parent → folded x.1.name ≡ name → ⊥
 child_none [] parent name e x m p f = m
 child_none (y ∷ nodes) parent name e x m p f = elim (either (is_it y parent name)) [
   | inl hit ↦ none-some y.0 (sym (rw hit at e))
@@ -50,23 +50,23 @@ child_none (y ∷ nodes) parent name e x m p f = elim (either (is_it y parent na
   ]
 ]
 
-pub child_is : (nodes : List Numbered) (places : List (Place × ℕ)) (parent : ℕ) (name : Bytes) → IsTable nodes → IsIndex nodes places → number_at places (named_place parent name) ≡ child nodes parent (folded name)
+pub child_is : (nodes : List Numbered) (places : List (Place × ℕ)) (parent : ℕ) (name : Bytes) → IsNodeTable nodes → IsIndex nodes places → number_at_place places (named_place parent name) ≡ child nodes parent (folded name)
 child_is nodes places parent name t i = one (child nodes parent (folded name)) refl where
-  none : (o : Option ℕ) → number_at places (named_place parent name) ≡ o → child nodes parent (folded name) ≡ None → o ≡ None
+  none : (o : Option ℕ) → number_at_place places (named_place parent name) ≡ o → child nodes parent (folded name) ≡ None → o ≡ None
   none None e f = refl
   none (Some m) e f =
       let s = stands nodes m (named_place parent name) (i.only (named_place parent name) m e) in
       let names = one_name s.0.parent parent s.0.name name s.2 in
       absurd (child_none nodes parent (folded name) f (m, s.0) (at_member nodes m s.0 s.1) names.0 names.1)
 
-  one : (o : Option ℕ) → child nodes parent (folded name) ≡ o → number_at places (named_place parent name) ≡ o
+  one : (o : Option ℕ) → child nodes parent (folded name) ≡ o → number_at_place places (named_place parent name) ≡ o
   one (Some n) e =
       let c = child_some nodes parent (folded name) n e in
       let there = i.there n c.node (member_at nodes (n, c.node) t.items.0 c.member) in
-      ap (λ (p : Place). number_at places p) (sym (one_place c.node.parent parent c.node.name name c.parent_is c.name_is)) ∙ there
-  one None e = none (number_at places (named_place parent name)) refl e
+      ap (λ (p : Place). number_at_place places p) (sym (one_place c.node.parent parent c.node.name name c.parent_is c.name_is)) ∙ there
+  one None e = none (number_at_place places (named_place parent name)) refl e
 
-pub no_child : (nodes : List Numbered) (parent : ℕ) (name : Bytes) → IsTable nodes → 80 < length name → None ≡ child nodes parent (folded name)
+pub no_child : (nodes : List Numbered) (parent : ℕ) (name : Bytes) → IsNodeTable nodes → 80 < length name → None ≡ child nodes parent (folded name)
 no_child nodes parent name t long = one (child nodes parent (folded name)) refl where
   one : (o : Option ℕ) → child nodes parent (folded name) ≡ o → None ≡ o
   one None e = refl

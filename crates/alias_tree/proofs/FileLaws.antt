@@ -14,9 +14,9 @@ use Rattle.asm_group.specs.declared.NodeKind.TheVariants.{Directory, System, Ali
 use Rattle.asm_group.specs.TreeEdits.{is_alias_of, names_file}
 use Rattle.asm_formats.specs.Items.{Node}
 use Rattle.asm_base.specs.Tables.{IsItemTable}
-use Rattle.alias_tree.specs.Nodes.{Numbered, node_at, is_before, item_of}
+use Rattle.alias_tree.specs.Nodes.{Numbered, node_at, is_before, item_of_node}
 use Rattle.asm_formats.specs.Nodes.{node_kind}
-use Rattle.alias_tree.specs.FileNames.{FileName, name_cmp, is_same_name, has_name, is_it, forgotten, name_by_kind, name_of_node, IsFileIndex, IsLow}
+use Rattle.alias_tree.specs.FileNames.{FileName, name_cmp, is_same_file_name, has_name, is_it, forgotten, name_by_kind, name_of_node, IsFileIndex, IsLow}
 use Rattle.alias_tree.proofs.IndexLaws.{either, at_is, at_self, at_member, item_at, member_at}
 use Rattle.alias_tree.proofs.Leading.{same_bool, any_some, any_of, among_member, member_among}
 use Rattle.alias_tree.proofs.Readings.{number_is_some}
@@ -41,7 +41,7 @@ bool_is false false e = refl
 abbrev made : ℕ → Bool → ℕ → FileName
 made file is_alias number = record { file = file; is_alias = is_alias; number = number }
 
-pub same_name : (p q : FileName) → is_same_name p q ≡ true → p ≡ q
+pub same_name : (p q : FileName) → is_same_file_name p q ≡ true → p ≡ q
 same_name p q e =
     let whole = (Equal-is (name_cmp p q)).0 e in
     let a = then_equal (nat_cmp p.file q.file) (ordering_then (bool_cmp p.is_alias q.is_alias) (nat_cmp p.number q.number)) whole in
@@ -51,13 +51,13 @@ same_name p q e =
     let number : p.number ≡ q.number = maps.nat_cmp-IsAntisymmetric p.number q.number b.1 in
     ap (λ (x : ℕ). made x p.is_alias p.number) file ∙ (ap (λ (x : Bool). made q.file x p.number) alias ∙ ap (λ (x : ℕ). made q.file q.is_alias x) number)
 
-pub name_self : (p : FileName) → is_same_name p p ≡ true
+pub name_self : (p : FileName) → is_same_file_name p p ≡ true
 name_self p = (eq_by_cmp_equiv name_total).refl p
 
 -- ---- a name goes, unless it is the one that is kept
 
-pub gone_is : (gone : FileName) (kept : Option FileName) (q : FileName) (there : Bool) → is_it kept gone ≡ false → cond (is_same_name gone q) false there ≡ forgotten (Some gone) kept q there
-gone_is gone kept q there e = elim (either (is_same_name gone q)) [
+pub gone_is : (gone : FileName) (kept : Option FileName) (q : FileName) (there : Bool) → is_it kept gone ≡ false → cond (is_same_file_name gone q) false there ≡ forgotten (Some gone) kept q there
+gone_is gone kept q there e = elim (either (is_same_file_name gone q)) [
   | inr miss ↦ rw miss refl
   | inl hit ↦ let none : is_it kept q ≡ false = ap (λ (p : FileName). is_it kept p) (sym (same_name gone q hit)) ∙ e in rw (hit, none) refl
 ]
@@ -176,7 +176,7 @@ pub record Named (nodes : List Numbered) (names : List FileName) (file : ℕ) (x
   pub small : q.number < 2 ^ 32
   pub is_alias : is_alias_of file (node_kind x.1.kind x.1.file) ≡ q.is_alias
 
-pub named : (nodes : List Numbered) (names : List FileName) (file n : ℕ) (node : Node) → IsItemTable is_before item_of nodes → IsFileIndex nodes names → node_at nodes n ≡ Some node → names_file file (node_kind node.kind node.file) ≡ true → Named nodes names file (n, node)
+pub named : (nodes : List Numbered) (names : List FileName) (file n : ℕ) (node : Node) → IsItemTable is_before item_of_node nodes → IsFileIndex nodes names → node_at nodes n ≡ Some node → names_file file (node_kind node.kind node.file) ≡ true → Named nodes names file (n, node)
 named nodes names file n node t i at e = one node.kind refl e where
   there : (q : FileName) → q.number ≡ n → is_it (name_by_kind n node.file node.kind) q ≡ true → has_name names q ≡ true
   there q number e = had nodes names n q i (sym number) ∙ (ap (λ (o : Option Node). is_it (name_of_node n o) q) at ∙ e)
@@ -208,7 +208,7 @@ alias_names file n Directory e = e
 alias_names file n System e = absurd (true≢false (sym e))
 alias_names file n Alias e = e
 
-pub some_alias : (nodes : List Numbered) (names : List FileName) (file : ℕ) (found : Bool) → IsItemTable is_before item_of nodes → IsFileIndex nodes names
+pub some_alias : (nodes : List Numbered) (names : List FileName) (file : ℕ) (found : Bool) → IsItemTable is_before item_of_node nodes → IsFileIndex nodes names
     → (found ≡ true → (q : FileName) × (q.file ≡ file) × (q.is_alias ≡ true) × (has_name names q ≡ true))
     → (found ≡ false → (q : FileName) → q.file ≡ file → q.is_alias ≡ true → q.number < 2 ^ 32 → has_name names q ≡ false)
     → found ≡ list_any (λ (x : Numbered). is_alias_of file (node_kind x.1.kind x.1.file)) nodes
@@ -227,7 +227,7 @@ some_alias nodes names file found t i some none = same_bool found (list_any (λ 
       elim (either found) [ inl hit ↦ hit | inr miss ↦ absurd (true≢false (sym n.there ∙ none miss n.q n.file_is (sym n.is_alias ∙ x.2) n.small)) ]
 
 -- the same of all names
-pub some_name : (nodes : List Numbered) (names : List FileName) (file : ℕ) (found : Option ℕ) → IsItemTable is_before item_of nodes → IsFileIndex nodes names
+pub some_name : (nodes : List Numbered) (names : List FileName) (file : ℕ) (found : Option ℕ) → IsItemTable is_before item_of_node nodes → IsFileIndex nodes names
     → IfSome found (λ n. (q : FileName) × (q.file ≡ file) × (q.number ≡ n) × (has_name names q ≡ true))
     → IfNone found ((q : FileName) → q.file ≡ file → q.number < 2 ^ 32 → has_name names q ≡ false)
     → is_some found ≡ list_any (λ (x : Numbered). names_file file (node_kind x.1.kind x.1.file)) nodes

@@ -11,13 +11,13 @@ use Rattle.asm_group.specs.TreeEdits.{names_file}
 use Rattle.asm_formats.specs.Items.{Node}
 use Rattle.asm_formats.specs.Nodes.{node_kind}
 use Rattle.asm_base.specs.Tables.{IsItemTable}
-use Rattle.alias_tree.specs.Nodes.{IsTable, Numbered, is_before, is_directory, item_of, kind_is_directory, node_at, without_node}
+use Rattle.alias_tree.specs.Nodes.{IsNodeTable, Numbered, is_before, is_directory, item_of_node, kind_is_directory, node_at, without_numbered_node}
 use Rattle.alias_tree.specs.Numbers.{is_name_of, without_all}
 use Rattle.alias_tree.proofs.IndexLaws.{either, at_is, at_self}
 use Rattle.alias_tree.proofs.Keeping.{Pruned, at_without, pruned_keeps_table, without_items}
 
 -- nothing hangs below a file
-pub none_below_file : (nodes : List Numbered) (n : ℕ) (node : Node) → IsTable nodes → node_at nodes n ≡ Some node → is_directory node ≡ false → (m : ℕ) (x : Node) → node_at nodes m ≡ Some x → x.parent ≡ n → ⊥
+pub none_below_file : (nodes : List Numbered) (n : ℕ) (node : Node) → IsNodeTable nodes → node_at nodes n ≡ Some node → is_directory node ≡ false → (m : ℕ) (x : Node) → node_at nodes m ≡ Some x → x.parent ≡ n → ⊥
 none_below_file nodes n node t at file m x e p =
     true≢false (sym (t.rule.parents m x node e (ap (λ (k : ℕ). node_at nodes k) p ∙ at)) ∙ file)
 
@@ -37,9 +37,9 @@ named_node nodes file n e = one (node_at nodes n) refl e where
 abbrev has : ℕ → List ℕ → Bool
 has n ns = list_any (λ m. eqb m n) ns
 
-all_items : (nodes : List Numbered) (ns : List ℕ) → IsItemTable is_before item_of nodes → IsItemTable is_before item_of (without_all nodes ns)
+all_items : (nodes : List Numbered) (ns : List ℕ) → IsItemTable is_before item_of_node nodes → IsItemTable is_before item_of_node (without_all nodes ns)
 all_items nodes [] t = t
-all_items nodes (n ∷ ns) t = all_items (without_node nodes n) ns (without_items nodes n t)
+all_items nodes (n ∷ ns) t = all_items (without_numbered_node nodes n) ns (without_items nodes n t)
 
 same_test : (m n : ℕ) → eqb m n ≡ is_at (nat_cmp m) n
 same_test m n = elim (either (is_at (nat_cmp m) n)) [
@@ -50,25 +50,25 @@ same_test m n = elim (either (is_at (nat_cmp m) n)) [
   ]
 ]
 
-at_without_all : (nodes : List Numbered) (ns : List ℕ) (n : ℕ) → IsItemTable is_before item_of nodes → node_at (without_all nodes ns) n ≡ cond (has n ns) None (node_at nodes n)
+at_without_all : (nodes : List Numbered) (ns : List ℕ) (n : ℕ) → IsItemTable is_before item_of_node nodes → node_at (without_all nodes ns) n ≡ cond (has n ns) None (node_at nodes n)
 at_without_all nodes [] n t = refl
-at_without_all nodes (m ∷ ns) n t = at_without_all (without_node nodes m) ns n (without_items nodes m t) ∙ one (eqb m n) refl where
+at_without_all nodes (m ∷ ns) n t = at_without_all (without_numbered_node nodes m) ns n (without_items nodes m t) ∙ one (eqb m n) refl where
   out : (b : Bool) → ◌≡◌ {A = Option Node} (cond b None None) None
   out true = refl
   out false = refl
 
-  one : (b : Bool) → eqb m n ≡ b → cond (has n ns) None (node_at (without_node nodes m) n) ≡ cond (b || has n ns) None (node_at nodes n)
+  one : (b : Bool) → eqb m n ≡ b → cond (has n ns) None (node_at (without_numbered_node nodes m) n) ≡ cond (b || has n ns) None (node_at nodes n)
   one true hit = ap (λ (o : Option Node). cond (has n ns) None o) (at_without nodes m n t.0 ∙ rw (sym (same_test m n) ∙ hit) refl) ∙ out (has n ns)
   one false miss = ap (λ (o : Option Node). cond (has n ns) None o) (at_without nodes m n t.0 ∙ rw (sym (same_test m n) ∙ miss) refl)
 
 abbrev AreNames : List Numbered → ℕ → List ℕ → Type 0
 AreNames nodes file ns = (n : ℕ) → has n ns ≡ is_name_of file (node_at nodes n)
 
-pub names_at : (nodes : List Numbered) (file : ℕ) (ns : List ℕ) → IsItemTable is_before item_of nodes → AreNames nodes file ns → (n : ℕ) → node_at (without_all nodes ns) n ≡ cond (is_name_of file (node_at nodes n)) None (node_at nodes n)
+pub names_at : (nodes : List Numbered) (file : ℕ) (ns : List ℕ) → IsItemTable is_before item_of_node nodes → AreNames nodes file ns → (n : ℕ) → node_at (without_all nodes ns) n ≡ cond (is_name_of file (node_at nodes n)) None (node_at nodes n)
 names_at nodes file ns t are n = at_without_all nodes ns n t ∙ ap (λ (b : Bool). cond b None (node_at nodes n)) (are n)
 
 -- The names of a file may go.
-pub names_gone_table : (nodes : List Numbered) (file : ℕ) (ns : List ℕ) → IsTable nodes → ((n : ℕ) → list_any (λ m. eqb m n) ns ≡ is_name_of file (node_at nodes n)) → IsTable (without_all nodes ns)
+pub names_gone_table : (nodes : List Numbered) (file : ℕ) (ns : List ℕ) → IsNodeTable nodes → ((n : ℕ) → list_any (λ m. eqb m n) ns ≡ is_name_of file (node_at nodes n)) → IsNodeTable (without_all nodes ns)
 names_gone_table nodes file ns t are = pruned_keeps_table nodes (without_all nodes ns) (λ m. is_name_of file (node_at nodes m)) t pruned (all_items nodes ns t.items) where
   leaves : (m : ℕ) (x : Node) → node_at nodes m ≡ Some x → is_name_of file (node_at nodes x.parent) ≡ false
   leaves m x at = elim (either (is_name_of file (node_at nodes x.parent))) [

@@ -18,7 +18,7 @@ use Rattle.asm_group.specs.TreeEdits.{names_file}
 use Rattle.asm_formats.specs.Nodes.{node_kind}
 use Rattle.asm_base.specs.Tables.{IsItemTable}
 use Rattle.alias_tree.specs.Numbers.{is_name_of}
-use Rattle.alias_tree.specs.Nodes.{Numbered, node_at, is_before, item_of}
+use Rattle.alias_tree.specs.Nodes.{Numbered, node_at, is_before, item_of_node}
 use Rattle.alias_tree.specs.FileNames.{FileName, name_cmp, has_name, first_name, last_name, numbers_of_file, IsFileIndex}
 use Rattle.alias_tree.proofs.FileLaws.{name_total, same_name, name_self, shown, named}
 use Rattle.alias_tree.proofs.IndexLaws.{either, at_self}
@@ -115,7 +115,7 @@ file_between file q e small = range_contains-from_IsInRange name_total (Included
   upto false = rw back refl
   upto true = rw back (not_above q.number 4294967295 (omega arith))
 
-pub names_are : (nodes : List Numbered) (names : List FileName) (file : ℕ) (ns : List ℕ) → IsItemTable is_before item_of nodes → IsFileIndex nodes names → ns ≡ numbers_of_file names file
+pub names_are : (nodes : List Numbered) (names : List FileName) (file : ℕ) (ns : List ℕ) → IsItemTable is_before item_of_node nodes → IsFileIndex nodes names → ns ≡ numbers_of_file names file
     → (n : ℕ) → list_any (λ m. eqb m n) ns ≡ is_name_of file (node_at nodes n)
 names_are nodes names file ns t i is n = ap (λ (ms : List ℕ). has n ms) is ∙ same_bool (has n (numbers_of_file names file)) (is_name_of file (node_at nodes n)) there back where
   there : has n (numbers_of_file names file) ≡ true → is_name_of file (node_at nodes n) ≡ true

@@ -4,11 +4,11 @@ use Rattle.std.specs.Prelude.{IfNone, IfSome, find, not}
 use Rattle.std.specs.List.{list_all}
 use Rattle.std.specs.Option.{option_map}
 use Rattle.std.proofs.lemmas.Option.{none-some}
-use Rattle.asm_base.specs.Records.{Entry, of_kinds}
+use Rattle.asm_base.specs.Records.{DirectoryRecord, of_kinds}
 use Rattle.asm_base.specs.Tables.{IsItemTable}
 use Rattle.asm_base.proofs.Exact.{some_is}
 use Rattle.alias_tree.specs.Faults.{IsWithoutFault}
-use Rattle.alias_tree.specs.Nodes.{KeepsRule, Numbered, is_before, is_mine, is_right, item_of, record_of}
+use Rattle.alias_tree.specs.Nodes.{KeepsRule, Numbered, is_before, is_key_of_node, is_right, item_of_node, record_of_node}
 use Rattle.alias_tree.specs.Places.{HasIndex}
 use Rattle.alias_tree.proofs.Rules.{IsRead, found_of, table_of}
 
@@ -23,10 +23,10 @@ none_first : (o : Option Numbered) → option_map (λ x. x.0) o ≡ None → o �
 none_first None e = refl
 none_first (Some x) e = absurd cc
 
-pub none_read : (records : List Entry) (read : Option (List Numbered)) → read ≡ None → IsRead records read → IsWithoutFault records
+pub none_read : (records : List DirectoryRecord) (read : Option (List Numbered)) → read ≡ None → IsRead records read → IsWithoutFault records
 none_read records read none only t items same = absurd (none-some t (sym none ∙ only t items same))
 
-pub none_at_fault : (records : List Entry) (nodes : List Numbered) (read : Option (List Numbered)) → read ≡ Some nodes → IsRead records read → IfSome read (λ t. IsItemTable is_before item_of t × (of_kinds is_mine records ≡ map record_of t))
+pub none_at_fault : (records : List DirectoryRecord) (nodes : List Numbered) (read : Option (List Numbered)) → read ≡ Some nodes → IsRead records read → IfSome read (λ t. IsItemTable is_before item_of_node t × (of_kinds is_key_of_node records ≡ map record_of_node t))
     → (unrooted : Option ℕ) → unrooted ≡ option_map (λ x. x.0) (find (λ x. not (is_right nodes x)) nodes) → unrooted ≡ None → (twin : Option ℕ) → IfNone twin (HasIndex nodes) → IfNone twin (IsWithoutFault records)
 none_at_fault records nodes read some only found unrooted first none (Some n) index = tt
 none_at_fault records nodes read some only found unrooted first none None index = λ t items same.

@@ -14,7 +14,7 @@ use Rattle.asm_base.specs.Records.{Ascend}
 use Rattle.asm_base.specs.Tables.{IsItemTable}
 use Rattle.asm_base.proofs.Exact.{some_is}
 use Rattle.asm_base.proofs.ItemTables.{put_keeps, removed_keeps}
-use Rattle.alias_tree.specs.Nodes.{Numbered, item_of, is_before, node_at, with_node, without_node, is_directory, reaches_root, IsTable, child}
+use Rattle.alias_tree.specs.Nodes.{Numbered, item_of_node, is_before, node_at, with_numbered_node, without_numbered_node, is_directory, reaches_root, IsNodeTable, child}
 use Rattle.alias_tree.proofs.IndexLaws.{either, at_is, at_self, not_at, at_member, first_below, less_apart, tail_up, item_at}
 use Rattle.alias_tree.proofs.Readings.{number_is_some}
 use Rattle.alias_tree.proofs.Rules.{at_root}
@@ -22,32 +22,32 @@ use Rattle.alias_tree.proofs.Ways.{child_at, no_root, at_zero, at_or_below, reac
 
 -- ---- the node at a number, after a change
 
-pub at_with : (nodes : List Numbered) (n : ℕ) (node : Node) (m : ℕ) → node_at (with_node nodes n node) m ≡ cond (is_at (nat_cmp n) m) (Some node) (node_at nodes m)
+pub at_with : (nodes : List Numbered) (n : ℕ) (node : Node) (m : ℕ) → node_at (with_numbered_node nodes n node) m ≡ cond (is_at (nat_cmp n) m) (Some node) (node_at nodes m)
 at_with nodes n node m = elim (either (is_at (nat_cmp n) m)) [
-  | inl hit ↦ rw hit (ap (λ (k : ℕ). node_at (with_node nodes n node) k) (sym (at_is n m hit)) ∙ here nodes)
+  | inl hit ↦ rw hit (ap (λ (k : ℕ). node_at (with_numbered_node nodes n node) k) (sym (at_is n m hit)) ∙ here nodes)
   | inr miss ↦ rw miss (other nodes (λ e. true≢false (sym (subst (λ (k : ℕ). is_at (nat_cmp n) k ≡ true) e (at_self n)) ∙ miss)))
 ] where
-  here : (nodes : List Numbered) → node_at (with_node nodes n node) n ≡ Some node
+  here : (nodes : List Numbered) → node_at (with_numbered_node nodes n node) n ≡ Some node
   here [] = rw (at_self n) refl
   here (x ∷ nodes) = one (nat_cmp n x.0) refl (here nodes) where
-    one : (o : Ordering) → nat_cmp n x.0 ≡ o → node_at (with_node nodes n node) n ≡ Some node → node_at (with_node (x ∷ nodes) n node) n ≡ Some node
+    one : (o : Ordering) → nat_cmp n x.0 ≡ o → node_at (with_numbered_node nodes n node) n ≡ Some node → node_at (with_numbered_node (x ∷ nodes) n node) n ≡ Some node
     one Less e more = rw (e, at_self n) refl
     one Equal e more = rw (e, e) refl
     one Greater e more = rw (e, e) more
 
-  other : (nodes : List Numbered) → (n ≡ m → ⊥) → node_at (with_node nodes n node) m ≡ node_at nodes m
+  other : (nodes : List Numbered) → (n ≡ m → ⊥) → node_at (with_numbered_node nodes n node) m ≡ node_at nodes m
   other [] apart = rw (not_at m n (λ e. apart (sym e))) refl
   other (x ∷ nodes) apart = one (nat_cmp n x.0) refl (other nodes apart) where
-    last : (b : Bool) → is_at (nat_cmp m) x.0 ≡ b → node_at (with_node nodes n node) m ≡ node_at nodes m → cond b (Some x.1) (node_at (with_node nodes n node) m) ≡ cond b (Some x.1) (node_at nodes m)
+    last : (b : Bool) → is_at (nat_cmp m) x.0 ≡ b → node_at (with_numbered_node nodes n node) m ≡ node_at nodes m → cond b (Some x.1) (node_at (with_numbered_node nodes n node) m) ≡ cond b (Some x.1) (node_at nodes m)
     last true e more = refl
     last false e more = more
 
-    one : (o : Ordering) → nat_cmp n x.0 ≡ o → node_at (with_node nodes n node) m ≡ node_at nodes m → node_at (with_node (x ∷ nodes) n node) m ≡ node_at (x ∷ nodes) m
+    one : (o : Ordering) → nat_cmp n x.0 ≡ o → node_at (with_numbered_node nodes n node) m ≡ node_at nodes m → node_at (with_numbered_node (x ∷ nodes) n node) m ≡ node_at (x ∷ nodes) m
     one Less e more = rw (e, not_at m n (λ z. apart (sym z))) refl
     one Equal e more = rw e (rw (not_at m x.0 (λ z. apart (maps.nat_cmp-IsAntisymmetric n x.0 e ∙ sym z))) refl)
     one Greater e more = rw e (last (is_at (nat_cmp m) x.0) refl more)
 
-pub at_without : (nodes : List Numbered) (n m : ℕ) → Ascend is_before nodes → node_at (without_node nodes n) m ≡ cond (is_at (nat_cmp n) m) None (node_at nodes m)
+pub at_without : (nodes : List Numbered) (n m : ℕ) → Ascend is_before nodes → node_at (without_numbered_node nodes n) m ≡ cond (is_at (nat_cmp n) m) None (node_at nodes m)
 at_without [] n m up = one (is_at (nat_cmp n) m) where
   one : (b : Bool) → None ≡ cond {A = Option Node} b None None
   one true = refl
@@ -66,18 +66,18 @@ at_without (x ∷ nodes) n m up = elim (either (is_at (nat_cmp n) x.0)) [
   gone e f None g = g
   gone e f (Some node) g = absurd (less_apart x.0 m (first_below x nodes (m, node) up (at_member nodes m node g)) (sym e ∙ f))
 
-pub length_without : (nodes : List Numbered) (n : ℕ) (node : Node) → node_at nodes n ≡ Some node → suc (length (without_node nodes n)) ≡ length nodes
+pub length_without : (nodes : List Numbered) (n : ℕ) (node : Node) → node_at nodes n ≡ Some node → suc (length (without_numbered_node nodes n)) ≡ length nodes
 length_without [] n node e = absurd (none-some node e)
 length_without (x ∷ nodes) n node e = elim (either (is_at (nat_cmp n) x.0)) [
   | inl hit ↦ rw hit refl
   | inr miss ↦ rw miss (ap (λ (k : ℕ). suc k) (length_without nodes n node (rw miss at e)))
 ]
 
-pub without_items : (nodes : List Numbered) (n : ℕ) → IsItemTable is_before item_of nodes → IsItemTable is_before item_of (without_node nodes n)
-without_items nodes n t = removed_keeps nat_cmp nat_cmp_total item_of (is_at (nat_cmp n)) nodes t
+pub without_items : (nodes : List Numbered) (n : ℕ) → IsItemTable is_before item_of_node nodes → IsItemTable is_before item_of_node (without_numbered_node nodes n)
+without_items nodes n t = removed_keeps nat_cmp nat_cmp_total item_of_node (is_at (nat_cmp n)) nodes t
 
-pub with_items : (nodes : List Numbered) (n : ℕ) (node : Node) → is_item (node_item n node) ≡ true → IsItemTable is_before item_of nodes → IsItemTable is_before item_of (with_node nodes n node)
-with_items nodes n node ok t = put_keeps nat_cmp nat_cmp_total maps.nat_cmp-IsAntisymmetric item_of nodes n node ok t
+pub with_items : (nodes : List Numbered) (n : ℕ) (node : Node) → is_item (node_item n node) ≡ true → IsItemTable is_before item_of_node nodes → IsItemTable is_before item_of_node (with_numbered_node nodes n node)
+with_items nodes n node ok t = put_keeps nat_cmp nat_cmp_total maps.nat_cmp-IsAntisymmetric item_of_node nodes n node ok t
 
 -- ---- as many steps as there are nodes are enough
 
@@ -94,27 +94,27 @@ reaches_in old new keeps (suc k) m r = elim (at_or_below old k m r) [
       reaches_below new k m y.0 y.1 (subst (λ (i : ℕ). reaches_root new k i ≡ true) (sym y.2) (reaches_in old new keeps k x.parent h))
 ]
 
-keeps_rest : (nodes : List Numbered) (n : ℕ) → Ascend is_before nodes → KeepsParents (without_node nodes n) nodes
+keeps_rest : (nodes : List Numbered) (n : ℕ) → Ascend is_before nodes → KeepsParents (without_numbered_node nodes n) nodes
 keeps_rest nodes n up k x e = elim (either (is_at (nat_cmp n) k)) [
   | inl hit ↦ absurd (none-some x (sym (at_without nodes n k up ∙ rw hit refl) ∙ e))
   | inr miss ↦ (x, sym (at_without nodes n k up ∙ rw miss refl) ∙ e, refl)
 ]
 
 -- The way up doesn't meet a node, or that node is as near to the root.
-away : (nodes : List Numbered) (n k p : ℕ) → Ascend is_before nodes → reaches_root nodes k p ≡ true → (reaches_root (without_node nodes n) k p ≡ true) ⊎ ((j : ℕ) × (j ≤ k) × (reaches_root nodes j n ≡ true))
-away nodes n zero p up r = inl (subst (λ (i : ℕ). reaches_root (without_node nodes n) zero i ≡ true) (sym (at_zero nodes p r)) (at_root (without_node nodes n) zero 0 refl))
+away : (nodes : List Numbered) (n k p : ℕ) → Ascend is_before nodes → reaches_root nodes k p ≡ true → (reaches_root (without_numbered_node nodes n) k p ≡ true) ⊎ ((j : ℕ) × (j ≤ k) × (reaches_root nodes j n ≡ true))
+away nodes n zero p up r = inl (subst (λ (i : ℕ). reaches_root (without_numbered_node nodes n) zero i ≡ true) (sym (at_zero nodes p r)) (at_root (without_numbered_node nodes n) zero 0 refl))
 away nodes n (suc k) p up r = elim (at_or_below nodes k p r) [
-  | inl z ↦ inl (at_root (without_node nodes n) (suc k) p z)
+  | inl z ↦ inl (at_root (without_numbered_node nodes n) (suc k) p z)
   | inr (x, e, h) ↦ elim (either (is_at (nat_cmp n) p)) [
     | inl hit ↦ inr (suc k, (let le : suc k ≤ suc k = omega arith in le), subst (λ (i : ℕ). reaches_root nodes (suc k) i ≡ true) (sym (at_is n p hit)) r)
     | inr miss ↦ elim (away nodes n k x.parent up h) [
-      | inl far ↦ inl (reaches_below (without_node nodes n) k p x (at_without nodes n p up ∙ rw miss e) far)
+      | inl far ↦ inl (reaches_below (without_numbered_node nodes n) k p x (at_without nodes n p up ∙ rw miss e) far)
       | inr (j, le, near) ↦ inr (j, (let more : j ≤ suc k = omega arith in more), near)
     ]
   ]
 ]
 
-short_by : (bound k : ℕ) (nodes : List Numbered) (n : ℕ) → k ≤ bound → IsItemTable is_before item_of nodes → reaches_root nodes k n ≡ true → reaches_root nodes (length nodes) n ≡ true
+short_by : (bound k : ℕ) (nodes : List Numbered) (n : ℕ) → k ≤ bound → IsItemTable is_before item_of_node nodes → reaches_root nodes k n ≡ true → reaches_root nodes (length nodes) n ≡ true
 short_by bound zero nodes n le t r = at_root nodes (length nodes) n (at_zero nodes n r)
 short_by zero (suc k) nodes n le t r = absurd (omega arith)
 short_by (suc bound) (suc k) nodes n le t r = elim (at_or_below nodes k n r) [
@@ -122,19 +122,19 @@ short_by (suc bound) (suc k) nodes n le t r = elim (at_or_below nodes k n r) [
   | inr (x, e, h) ↦ elim (away nodes n k x.parent t.0 h) [
     | inl far ↦
         let less : k ≤ bound = omega arith in
-        let up = short_by bound k (without_node nodes n) x.parent less (without_items nodes n t) far in
+        let up = short_by bound k (without_numbered_node nodes n) x.parent less (without_items nodes n t) far in
         subst (λ (i : ℕ). reaches_root nodes i n ≡ true) (length_without nodes n x e)
-        (reaches_below nodes (length (without_node nodes n)) n x e (reaches_in (without_node nodes n) nodes (keeps_rest nodes n t.0) (length (without_node nodes n)) x.parent up))
+        (reaches_below nodes (length (without_numbered_node nodes n)) n x e (reaches_in (without_numbered_node nodes n) nodes (keeps_rest nodes n t.0) (length (without_numbered_node nodes n)) x.parent up))
     | inr (j, near, there) ↦ let less : j ≤ bound = omega arith in short_by bound j nodes n less t there
   ]
 ]
 
-pub short_way : (nodes : List Numbered) (k n : ℕ) → IsItemTable is_before item_of nodes → reaches_root nodes k n ≡ true → reaches_root nodes (length nodes) n ≡ true
+pub short_way : (nodes : List Numbered) (k n : ℕ) → IsItemTable is_before item_of_node nodes → reaches_root nodes k n ≡ true → reaches_root nodes (length nodes) n ≡ true
 short_way nodes k n t r = let le : k ≤ k = omega arith in short_by k k nodes n le t r
 
 -- ---- a parent is there
 
-pub parent_there : (nodes : List Numbered) (n : ℕ) (node : Node) → IsTable nodes → node_at nodes n ≡ Some node → (node.parent ≡ 0) ⊎ ((above : Node) × (node_at nodes node.parent ≡ Some above))
+pub parent_there : (nodes : List Numbered) (n : ℕ) (node : Node) → IsNodeTable nodes → node_at nodes n ≡ Some node → (node.parent ≡ 0) ⊎ ((above : Node) × (node_at nodes node.parent ≡ Some above))
 parent_there nodes n node t e = up (length nodes) refl where
   number_some : n ≡ 0 → ⊥
   number_some z = let some : 0 < n = (number_is_some n node (item_at nodes n node t.items e)).0 in absurd (omega arith)
@@ -163,15 +163,15 @@ pub item_number : (n : ℕ) (node : Node) → is_item (node_item n node) ≡ tru
 item_number n node ok z = let some : 0 < n = (number_is_some n node ok).0 in absurd (omega arith)
 
 -- a node is the new one, or was there
-pub new_or_was : (nodes : List Numbered) (n : ℕ) (node : Node) (m : ℕ) (x : Node) → node_at (with_node nodes n node) m ≡ Some x → ((m ≡ n) × (x ≡ node)) ⊎ ((m ≡ n → ⊥) × (node_at nodes m ≡ Some x))
+pub new_or_was : (nodes : List Numbered) (n : ℕ) (node : Node) (m : ℕ) (x : Node) → node_at (with_numbered_node nodes n node) m ≡ Some x → ((m ≡ n) × (x ≡ node)) ⊎ ((m ≡ n → ⊥) × (node_at nodes m ≡ Some x))
 new_or_was nodes n node m x e = elim (either (is_at (nat_cmp n) m)) [
   | inl hit ↦ inl (sym (at_is n m hit), some_is x node (sym e ∙ (at_with nodes n node m ∙ rw hit refl)))
   | inr miss ↦ inr (λ z. true≢false (sym (subst (λ (k : ℕ). is_at (nat_cmp n) k ≡ true) (sym z) (at_self n)) ∙ miss), sym (at_with nodes n node m ∙ rw miss refl) ∙ e)
 ]
 
 -- nothing hangs below the new node
-pub none_below_new : (nodes : List Numbered) (n : ℕ) (node : Node) → IsTable nodes → node_at nodes n ≡ None → is_item (node_item n node) ≡ true → MayHang nodes node.parent
-    → (m : ℕ) (x : Node) → node_at (with_node nodes n node) m ≡ Some x → x.parent ≡ n → ⊥
+pub none_below_new : (nodes : List Numbered) (n : ℕ) (node : Node) → IsNodeTable nodes → node_at nodes n ≡ None → is_item (node_item n node) ≡ true → MayHang nodes node.parent
+    → (m : ℕ) (x : Node) → node_at (with_numbered_node nodes n node) m ≡ Some x → x.parent ≡ n → ⊥
 none_below_new nodes n node t free ok hang m x e p = elim (new_or_was nodes n node m x e) [
   | inl (same, is) ↦ elim hang [
     | inl z ↦ item_number n node ok (sym (ap (λ (y : Node). y.parent) (sym is) ∙ p) ∙ z)
@@ -183,22 +183,22 @@ none_below_new nodes n node t free ok hang m x e p = elim (new_or_was nodes n no
   ]
 ]
 
-pub put_keeps_table : (nodes : List Numbered) (n : ℕ) (node : Node) → IsTable nodes → node_at nodes n ≡ None → is_item (node_item n node) ≡ true → MayHang nodes node.parent → child nodes node.parent (folded node.name) ≡ None
-    → IsTable (with_node nodes n node)
+pub put_keeps_table : (nodes : List Numbered) (n : ℕ) (node : Node) → IsNodeTable nodes → node_at nodes n ≡ None → is_item (node_item n node) ≡ true → MayHang nodes node.parent → child nodes node.parent (folded node.name) ≡ None
+    → IsNodeTable (with_numbered_node nodes n node)
 put_keeps_table nodes n node t free ok hang alone = record { items = items; rule = record { parents = parents; rooted = rooted; distinct = distinct } } where
-  items : IsItemTable is_before item_of (with_node nodes n node)
+  items : IsItemTable is_before item_of_node (with_numbered_node nodes n node)
   items = with_items nodes n node ok t.items
 
-  was : (m : ℕ) (x : Node) → node_at (with_node nodes n node) m ≡ Some x → ((m ≡ n) × (x ≡ node)) ⊎ ((m ≡ n → ⊥) × (node_at nodes m ≡ Some x))
+  was : (m : ℕ) (x : Node) → node_at (with_numbered_node nodes n node) m ≡ Some x → ((m ≡ n) × (x ≡ node)) ⊎ ((m ≡ n → ⊥) × (node_at nodes m ≡ Some x))
   was m x e = new_or_was nodes n node m x e
 
-  keeps : KeepsParents nodes (with_node nodes n node)
+  keeps : KeepsParents nodes (with_numbered_node nodes n node)
   keeps k x e = elim (either (is_at (nat_cmp n) k)) [
     | inl hit ↦ absurd (none-some x (sym free ∙ (ap (λ (m : ℕ). node_at nodes m) (at_is n k hit) ∙ e)))
     | inr miss ↦ (x, at_with nodes n node k ∙ rw miss e, refl)
   ]
 
-  parents : (m : ℕ) (x parent : Node) → node_at (with_node nodes n node) m ≡ Some x → node_at (with_node nodes n node) x.parent ≡ Some parent → IsTrue (is_directory parent)
+  parents : (m : ℕ) (x parent : Node) → node_at (with_numbered_node nodes n node) m ≡ Some x → node_at (with_numbered_node nodes n node) x.parent ≡ Some parent → IsTrue (is_directory parent)
   parents m x parent e f = elim (was x.parent parent f) [
     | inl (same, is) ↦ absurd (none_below_new nodes n node t free ok hang m x e same)
     | inr (other, g) ↦ elim (was m x e) [
@@ -210,11 +210,11 @@ put_keeps_table nodes n node t free ok hang alone = record { items = items; rule
     ]
   ]
 
-  rooted : (m : ℕ) (x : Node) → node_at (with_node nodes n node) m ≡ Some x → IsTrue (reaches_root (with_node nodes n node) (length (with_node nodes n node)) m)
+  rooted : (m : ℕ) (x : Node) → node_at (with_numbered_node nodes n node) m ≡ Some x → IsTrue (reaches_root (with_numbered_node nodes n node) (length (with_numbered_node nodes n node)) m)
   rooted m x e = elim (was m x e) [
-    | inr (apart, h) ↦ short_way (with_node nodes n node) (length nodes) m items (reaches_in nodes (with_node nodes n node) keeps (length nodes) m (t.rule.rooted m x h))
-    | inl (same, is) ↦ short_way (with_node nodes n node) (suc (length nodes)) m items
-        (reaches_below (with_node nodes n node) (length nodes) m x e (reaches_in nodes (with_node nodes n node) keeps (length nodes) x.parent (above (ap (λ (y : Node). y.parent) is))))
+    | inr (apart, h) ↦ short_way (with_numbered_node nodes n node) (length nodes) m items (reaches_in nodes (with_numbered_node nodes n node) keeps (length nodes) m (t.rule.rooted m x h))
+    | inl (same, is) ↦ short_way (with_numbered_node nodes n node) (suc (length nodes)) m items
+        (reaches_below (with_numbered_node nodes n node) (length nodes) m x e (reaches_in nodes (with_numbered_node nodes n node) keeps (length nodes) x.parent (above (ap (λ (y : Node). y.parent) is))))
   ] where
     above : x.parent ≡ node.parent → reaches_root nodes (length nodes) x.parent ≡ true
     above p = elim hang [
@@ -222,7 +222,7 @@ put_keeps_table nodes n node t free ok hang alone = record { items = items; rule
       | inr (y, f, d) ↦ subst (λ (k : ℕ). reaches_root nodes (length nodes) k ≡ true) (sym p) (t.rule.rooted node.parent y f)
     ]
 
-  distinct : (i j : ℕ) (a b : Node) → node_at (with_node nodes n node) i ≡ Some a → node_at (with_node nodes n node) j ≡ Some b → a.parent ≡ b.parent → folded a.name ≡ folded b.name → i ≡ j
+  distinct : (i j : ℕ) (a b : Node) → node_at (with_numbered_node nodes n node) i ≡ Some a → node_at (with_numbered_node nodes n node) j ≡ Some b → a.parent ≡ b.parent → folded a.name ≡ folded b.name → i ≡ j
   distinct i j a b e f p q = elim (was i a e) [
     | inl (same, is) ↦ elim (was j b f) [
       | inl (again, is2) ↦ same ∙ sym again
@@ -248,7 +248,7 @@ was_there big small gone m x p e = elim (either (gone m)) [
   | inr miss ↦ (miss, sym (p.stay m miss) ∙ e)
 ]
 
-pub pruned_keeps_table : (big small : List Numbered) (gone : ℕ → Bool) → IsTable big → Pruned big small gone → IsItemTable is_before item_of small → IsTable small
+pub pruned_keeps_table : (big small : List Numbered) (gone : ℕ → Bool) → IsNodeTable big → Pruned big small gone → IsItemTable is_before item_of_node small → IsNodeTable small
 pruned_keeps_table big small gone t p items = record { items = items; rule = record { parents = parents; rooted = rooted; distinct = distinct } } where
   there : (m : ℕ) (x : Node) → node_at small m ≡ Some x → node_at big m ≡ Some x
   there m x e = (was_there big small gone m x p e).1

@@ -11,11 +11,11 @@ use Rattle.std.proofs.lemmas.Bool.{and_parts, eqb-true, eq-eqb, lt-ltb, true≢f
 use Rattle.std.proofs.lemmas.Slice.Eq.{bytes_eq-Decides}
 use Rattle.asm_group.specs.Names.{Bytes, Path, folded, folded_path}
 use Rattle.asm_group.specs.Group.{TreeNode, TreeEntry}
-use Rattle.asm_group.specs.TreeEdits.{Tree, is_under, has_entries, is_entry, leads_to}
+use Rattle.asm_group.specs.TreeEdits.{Tree, is_under, has_entries, is_tree_entry, leads_to}
 use Rattle.asm_formats.specs.Items.{Node}
 use Rattle.asm_base.specs.Records.{Ascend}
-use Rattle.alias_tree.specs.Nodes.{Numbered, is_before, node_at, has_parent, is_under as hangs_under, IsTable}
-use Rattle.alias_tree.specs.Places.{Place, place_cmp, numbers_under, IsIndex, Member}
+use Rattle.alias_tree.specs.Nodes.{Numbered, is_before, node_at, has_parent, is_under_parent as hangs_under, IsNodeTable}
+use Rattle.alias_tree.specs.Places.{Place, place_cmp, numbers_under, IsIndex, IsNodeAmong}
 use Rattle.asm_formats.specs.Nodes.{node_kind, entry_of_node}
 use Rattle.alias_tree.specs.Trees.{tree_of, number_by}
 use Rattle.alias_tree.proofs.IndexLaws.{either, at_member, member_at}
@@ -64,7 +64,7 @@ key_any t p k there e =
 -- ---- entries and nodes
 
 -- the node that an entry shows
-pub shown_node : (nodes : List Numbered) (k : Path) → IsTable nodes → is_some (maps.get (tree_of nodes) k) ≡ true → (n : ℕ) × (node : Node) × (number_by nodes 0 k ≡ Some n) × (node_at nodes n ≡ Some node)
+pub shown_node : (nodes : List Numbered) (k : Path) → IsNodeTable nodes → is_some (maps.get (tree_of nodes) k) ≡ true → (n : ℕ) × (node : Node) × (number_by nodes 0 k ≡ Some n) × (node_at nodes n ≡ Some node)
 shown_node nodes k t there = one (number_by nodes 0 k) refl (ap is_some (sym (tree_has nodes k t)) ∙ there) where
   two : (n : ℕ) → number_by nodes 0 k ≡ Some n → (o : Option Node) → node_at nodes n ≡ o → is_some (option_map entry_of_node o) ≡ true → (n : ℕ) × (node : Node) × (number_by nodes 0 k ≡ Some n) × (node_at nodes n ≡ Some node)
   two n e None f h = absurd cc
@@ -75,36 +75,36 @@ shown_node nodes k t there = one (number_by nodes 0 k) refl (ap is_some (sym (tr
   one (Some n) e h = two n e (node_at nodes n) refl h
 
 -- the entry that shows a node
-pub shows : (nodes : List Numbered) (k : Path) (n : ℕ) (node : Node) → IsTable nodes → number_by nodes 0 k ≡ Some n → node_at nodes n ≡ Some node → maps.get (tree_of nodes) k ≡ Some (entry_of_node node)
+pub shows : (nodes : List Numbered) (k : Path) (n : ℕ) (node : Node) → IsNodeTable nodes → number_by nodes 0 k ≡ Some n → node_at nodes n ≡ Some node → maps.get (tree_of nodes) k ≡ Some (entry_of_node node)
 shows nodes k n node t e f = tree_has nodes k t ∙ ap (λ (o : Option Node). option_map entry_of_node o) (ap (λ (o : Option ℕ). option_and_then (λ m. node_at nodes m) o) e ∙ f)
 
 abbrev passes : (TreeNode → Bool) → Numbered → Bool
 passes test x = test (node_kind x.1.kind x.1.file)
 
-pub member_among : (nodes : List Numbered) (x : Numbered) → Member x nodes → Among x nodes
+pub member_among : (nodes : List Numbered) (x : Numbered) → IsNodeAmong x nodes → Among x nodes
 member_among [] x m = m
 member_among (y ∷ nodes) x m = elim m [ inl e ↦ inl e | inr later ↦ inr (member_among nodes x later) ]
 
-pub among_member : (nodes : List Numbered) (x : Numbered) → Among x nodes → Member x nodes
+pub among_member : (nodes : List Numbered) (x : Numbered) → Among x nodes → IsNodeAmong x nodes
 among_member [] x m = m
 among_member (y ∷ nodes) x m = elim m [ inl e ↦ inl e | inr later ↦ inr (among_member nodes x later) ]
 
 -- some path leads to what passes exactly where some node passes
-pub leads_is : (nodes : List Numbered) (test : TreeNode → Bool) → IsTable nodes → leads_to (tree_of nodes) test ≡ list_any (passes test) nodes
+pub leads_is : (nodes : List Numbered) (test : TreeNode → Bool) → IsNodeTable nodes → leads_to (tree_of nodes) test ≡ list_any (passes test) nodes
 leads_is nodes test t = same_bool (leads_to (tree_of nodes) test) (list_any (passes test) nodes) there back where
   there : leads_to (tree_of nodes) test ≡ true → list_any (passes test) nodes ≡ true
   there e =
-      let k = any_key (tree_of nodes) (λ key. is_entry test (maps.get (tree_of nodes) key)) e in
+      let k = any_key (tree_of nodes) (λ key. is_tree_entry test (maps.get (tree_of nodes) key)) e in
       let s = shown_node nodes k.0 t k.2 in
       let entry = shows nodes k.0 s.0 s.1 t s.2 s.3 in
-      any_of (passes test) nodes (s.0, s.1) (member_among nodes (s.0, s.1) (at_member nodes s.0 s.1 s.3)) (ap (λ (o : Option TreeEntry). is_entry test o) (sym entry) ∙ k.1)
+      any_of (passes test) nodes (s.0, s.1) (member_among nodes (s.0, s.1) (at_member nodes s.0 s.1 s.3)) (ap (λ (o : Option TreeEntry). is_tree_entry test o) (sym entry) ∙ k.1)
 
   back : list_any (passes test) nodes ≡ true → leads_to (tree_of nodes) test ≡ true
   back e =
       let x = any_some (passes test) nodes e in
       let at = member_at nodes x.0 t.items.0 (among_member nodes x.0 x.1) in
       let entry = shows nodes (way nodes x.0.0) x.0.0 x.0.1 t (way_leads nodes x.0.0 x.0.1 t at) at in
-      key_any (tree_of nodes) (λ key. is_entry test (maps.get (tree_of nodes) key)) (way nodes x.0.0) (ap is_some entry) (ap (λ (o : Option TreeEntry). is_entry test o) entry ∙ x.2)
+      key_any (tree_of nodes) (λ key. is_tree_entry test (maps.get (tree_of nodes) key)) (way nodes x.0.0) (ap is_some entry) (ap (λ (o : Option TreeEntry). is_tree_entry test o) entry ∙ x.2)
 
 -- ---- what lies below
 
@@ -139,7 +139,7 @@ hangs_at nodes m c e = one (node_at nodes c) refl e where
   one (Some node) f h = (node, f, eqb-true node.parent m h)
 
 -- a directory has names exactly where its run of the index has numbers
-pub entries_are : (nodes : List Numbered) (places : List (Place × ℕ)) (path : Path) (m : ℕ) (b : Bool) → IsTable nodes → IsIndex nodes places → IsStrictlySortedBy place_cmp (keys_of places)
+pub entries_are : (nodes : List Numbered) (places : List (Place × ℕ)) (path : Path) (m : ℕ) (b : Bool) → IsNodeTable nodes → IsIndex nodes places → IsStrictlySortedBy place_cmp (keys_of places)
     → number_by nodes 0 (folded_path path) ≡ Some m → b ≡ nat_lt 0 (length (numbers_under places m)) → b ≡ has_entries (tree_of nodes) path
 entries_are nodes places path m b t i up at is = is ∙ same_bool (nat_lt 0 (length (numbers_under places m))) (has_entries (tree_of nodes) path) back there where
   there : has_entries (tree_of nodes) path ≡ true → nat_lt 0 (length (numbers_under places m)) ≡ true
@@ -167,7 +167,7 @@ entries_are nodes places path m b t i up at is = is ∙ same_bool (nat_lt 0 (len
 -- each node of the list is the one at its number
 pub all_at : (nodes : List Numbered) → Ascend is_before nodes → AllByRecursion (λ (x : Numbered). node_at nodes x.0 ≡ Some x.1) nodes
 all_at nodes up = each nodes (λ x m. m) where
-  each : (xs : List Numbered) → ((x : Numbered) → Member x xs → Member x nodes) → AllByRecursion (λ (x : Numbered). node_at nodes x.0 ≡ Some x.1) xs
+  each : (xs : List Numbered) → ((x : Numbered) → IsNodeAmong x xs → IsNodeAmong x nodes) → AllByRecursion (λ (x : Numbered). node_at nodes x.0 ≡ Some x.1) xs
   each [] in_nodes = tt
   each (x ∷ xs) in_nodes = (member_at nodes x up (in_nodes x (inl refl)), each xs (λ y m. in_nodes y (inr m)))
 

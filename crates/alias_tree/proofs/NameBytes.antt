@@ -13,7 +13,7 @@ use Rattle.std.proofs.lemmas.List.{length-map}
 use Rattle.asm_base.proofs.NameLaws.{part_of}
 use Rattle.asm_formats.specs.Items.{Node}
 use Rattle.asm_group.specs.Names.{Bytes, folded, folded_byte, is_part, is_part_byte}
-use Rattle.alias_tree.specs.Nodes.{IsTable, Numbered, node_at}
+use Rattle.alias_tree.specs.Nodes.{IsNodeTable, Numbered, node_at}
 use Rattle.alias_tree.specs.Places.{Place, named_place, place_cmp, place_of}
 use Rattle.alias_tree.proofs.IndexLaws.{item_at}
 use Rattle.alias_tree.proofs.Readings.{name_is_part}
@@ -90,7 +90,7 @@ all_some : (bytes : Bytes) → list_all is_part_byte bytes ≡ true → AreSome 
 all_some [] e = tt
 all_some (b ∷ bytes) e = let f = and_parts (is_part_byte b) (list_all is_part_byte bytes) e in ((byte_between b f.0).0, all_some bytes f.1)
 
-pub is_part_at : (nodes : List Numbered) (n : ℕ) (node : Node) → IsTable nodes → node_at nodes n ≡ Some node → is_part 80 node.name ≡ true
+pub is_part_at : (nodes : List Numbered) (n : ℕ) (node : Node) → IsNodeTable nodes → node_at nodes n ≡ Some node → is_part 80 node.name ≡ true
 is_part_at nodes n node t e = name_is_part n node (item_at nodes n node t.items e)
 
 -- the first byte of a place's name

@@ -7,7 +7,7 @@ use Rattle.std.specs.Option.{option_map}
 use Rattle.asm_group.specs.Names.{Bytes, Path, folded_path, is_same_name, is_part}
 use Rattle.asm_group.specs.TreeEdits.{up, last_part, is_under, entry_at}
 use Rattle.asm_formats.specs.Items.{Node}
-use Rattle.alias_tree.specs.Nodes.{Numbered, IsTable}
+use Rattle.alias_tree.specs.Nodes.{Numbered, IsNodeTable}
 use Rattle.asm_formats.specs.Nodes.{entry_of_node}
 use Rattle.alias_tree.specs.Trees.{tree_of, node_by}
 use Rattle.alias_tree.proofs.Ways.{tree_has}
@@ -32,7 +32,7 @@ last_of parts rest last e = sym (ap last_part e ∙ last_append rest last)
 
 -- ---- what the tree has at a path
 
-pub entry_is : (nodes : List Numbered) (path : Path) → IsTable nodes → entry_at (tree_of nodes) path ≡ option_map entry_of_node (node_by nodes (folded_path path))
+pub entry_is : (nodes : List Numbered) (path : Path) → IsNodeTable nodes → entry_at (tree_of nodes) path ≡ option_map entry_of_node (node_by nodes (folded_path path))
 entry_is nodes path t = tree_has nodes (folded_path path) t
 
 -- ---- below a directory

@@ -4,8 +4,8 @@ use Rattle.std.specs.Prelude.{◌&&◌, IsTrue}
 use Rattle.std.specs.Option.{option_map}
 use Rattle.std.proofs.lemmas.Bool.{and_parts, eqb-true, eq-eqb, lt-ltb, ltb-true, true≢false}
 use Rattle.asm_group.specs.Names.{is_part}
-use Rattle.asm_formats.specs.Items.{node_item, Key, Node, key, is_item}
-use Rattle.asm_formats.specs.Values.{decoded_item, item_by, node_at}
+use Rattle.asm_formats.specs.Items.{node_item, Key, Node, item_key, is_item}
+use Rattle.asm_formats.specs.Values.{decoded_item, item_by, node_in_bytes}
 use Rattle.asm_base.specs.Records.{all_of}
 use Rattle.asm_base.proofs.NameLaws.{part_is_short, part_of}
 use Rattle.record_values.specs.Values.{node_reading}
@@ -40,16 +40,16 @@ hung_item n node some small parent file name = node_allowed n node some small (r
 
 -- a record of a node's kind with another key is that of no node
 pub none_is_read : (k : Key) (bytes : List ℕ) → k.kind ≡ 6 → is_node_key k ≡ false → option_map (node_item k.a) None ≡ decoded_item k bytes
-none_is_read k bytes kind other = sym (nothing_decoded k bytes (node_item k.a (node_at bytes)) form never) where
+none_is_read k bytes kind other = sym (nothing_decoded k bytes (node_item k.a (node_in_bytes bytes)) form never) where
   same : record { kind = 6; a = k.a; b = k.b } ≡ k
   same = λ i. record { kind = sym kind i; a = k.a; b = k.b }
 
-  form : item_by k bytes ≡ node_item k.a (node_at bytes)
+  form : item_by k bytes ≡ node_item k.a (node_in_bytes bytes)
   form = ap (λ (j : Key). item_by j bytes) (sym same) ∙ node_form k.a k.b bytes
 
-  never : is_item (node_item k.a (node_at bytes)) ≡ true → key (node_item k.a (node_at bytes)) ≡ k → ⊥
+  never : is_item (node_item k.a (node_in_bytes bytes)) ≡ true → item_key (node_item k.a (node_in_bytes bytes)) ≡ k → ⊥
   never ok at =
-      let some : ltb 0 k.a ≡ true = lt-ltb 0 k.a (node_fits k.a (node_at bytes) ok).0 in
+      let some : ltb 0 k.a ≡ true = lt-ltb 0 k.a (node_fits k.a (node_in_bytes bytes) ok).0 in
       let no_b : eqb k.b 0 ≡ true = ap (λ (j : Key). eqb j.b 0) (sym at) in
       let is : is_node_key k ≡ true = rw (eq-eqb k.kind 6 kind, some, no_b) refl in
       true≢false (sym is ∙ other)

@@ -5,7 +5,7 @@ use Rattle.std.proofs.lemmas.Option.{none-some}
 use Rattle.asm_group.specs.Names.{is_part}
 use Rattle.asm_formats.specs.Items.{Node}
 use Rattle.asm_base.proofs.NameLaws.{part_is, part_of}
-use Rattle.alias_tree.specs.Nodes.{node_at, with_node, reaches_root, IsTable}
+use Rattle.alias_tree.specs.Nodes.{node_at, with_numbered_node, reaches_root, IsNodeTable}
 use Rattle.alias_tree.proofs.IndexLaws.{either, at_is}
 use Rattle.std.specs.BTreeMap.{is_at}
 use Rattle.std.specs.Ordering.{nat_cmp}
@@ -24,7 +24,7 @@ one_step node e = eq-eqb node.parent 0 e
 none_at_root : (node : Node) → node_at ((1, node) ∷ []) 0 ≡ None
 none_at_root node = refl
 
-pub one_node : (node : Node) → is_part 80 node.name ≡ true → node.parent ≡ 0 → node.file ≡ 0 → IsTable (with_node [] 1 node)
+pub one_node : (node : Node) → is_part 80 node.name ≡ true → node.parent ≡ 0 → node.file ≡ 0 → IsNodeTable (with_numbered_node [] 1 node)
 one_node node name parent file = record {
   items = (tt, (single_item node name parent file, tt));
   rule = record {

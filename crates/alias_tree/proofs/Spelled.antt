@@ -8,7 +8,7 @@ use Rattle.asm_group.specs.Names.{Bytes, Path, folded, folded_path}
 use Rattle.asm_group.specs.TreeEdits.{entry_at}
 use Rattle.asm_formats.specs.Items.{Node}
 use Rattle.asm_formats.specs.Nodes.{entry_of_node}
-use Rattle.alias_tree.specs.Nodes.{IsTable, Numbered, node_at, number_of}
+use Rattle.alias_tree.specs.Nodes.{IsNodeTable, Numbered, node_at, number_of}
 use Rattle.alias_tree.specs.Spelling.{names_to}
 use Rattle.alias_tree.specs.Trees.{node_by, number_by, tree_of, way_to}
 use Rattle.alias_tree.proofs.Paths.{entry_is}
@@ -69,7 +69,7 @@ folded_names nodes (suc k) n = by (node_at nodes n) refl (λ m. folded_names nod
   by None e more = rw e refl
   by (Some node) e more = rw e (folded_more (names_to nodes k node.parent) node.name ∙ ap (λ (p : Path). p ++ folded node.name ∷ []) (more node.parent))
 
-module _ (nodes : List Numbered) (n : ℕ) (node : Node) (parts : Path) (is : IsTable nodes) (there : node_at nodes n ≡ Some node) (spelt : parts ≡ names_to nodes (length nodes) n) where
+module _ (nodes : List Numbered) (n : ℕ) (node : Node) (parts : Path) (is : IsNodeTable nodes) (there : node_at nodes n ≡ Some node) (spelt : parts ≡ names_to nodes (length nodes) n) where
   way : number_by nodes 0 (folded_path parts) ≡ Some n
   way = ap (λ (p : Path). number_by nodes 0 (folded_path p)) spelt ∙ ap (λ (p : Path). number_by nodes 0 p) (folded_names nodes (length nodes) n) ∙ way_leads nodes n node is there
 

@@ -14,8 +14,8 @@ use Rattle.std.proofs.lemmas.Bool.{eqb-true, eq-eqb, lt-ltb, true≢false}
 use Rattle.std.proofs.lemmas.Option.{none-some}
 use Rattle.asm_formats.specs.Items.{Node}
 use Rattle.asm_base.proofs.Exact.{some_is}
-use Rattle.alias_tree.specs.Nodes.{Numbered, node_at, is_under, are_distinct, IsTable}
-use Rattle.alias_tree.specs.Places.{Place, place_of, place_cmp, number_at, IsIndex, first_under, last_under, numbers_under}
+use Rattle.alias_tree.specs.Nodes.{Numbered, node_at, is_under_parent, are_distinct, IsNodeTable}
+use Rattle.alias_tree.specs.Places.{Place, place_of, place_cmp, number_at_place, IsIndex, first_under, last_under, numbers_under}
 use Rattle.alias_tree.proofs.PlaceLaws.{same_is, self_same, place_parent}
 use Rattle.alias_tree.proofs.NameBytes.{is_part_at, place_head}
 use Rattle.alias_tree.proofs.IndexLaws.{either, at_is, at_self, not_same, stands}
@@ -35,7 +35,7 @@ keeps parent p = range_contains place_cmp (Included (first_under parent)) (Inclu
 
 -- ---- places in order
 
-below_found : (x : Place) (places : Index) (p : Place) (m : ℕ) → AllByRecursion (λ y. place_cmp x y ≡ Less) (keys_of places) → number_at places p ≡ Some m → place_cmp x p ≡ Less
+below_found : (x : Place) (places : Index) (p : Place) (m : ℕ) → AllByRecursion (λ y. place_cmp x y ≡ Less) (keys_of places) → number_at_place places p ≡ Some m → place_cmp x p ≡ Less
 below_found x [] p m all e = absurd (none-some m e)
 below_found x (f ∷ places) p m all e = elim (either (is_at (place_cmp p) f.0)) [
   | inl hit ↦ ap (λ (q : Place). place_cmp x q) (same_is p f.0 hit) ∙ all.0
@@ -50,12 +50,12 @@ less_differs p q less e =
     cc
 
 -- what is found behind the first is found
-pub behind_first : (f : Place × ℕ) (places : Index) (p : Place) (m : ℕ) → IsStrictlySortedBy place_cmp (keys_of (f ∷ places)) → number_at places p ≡ Some m → number_at (f ∷ places) p ≡ Some m
+pub behind_first : (f : Place × ℕ) (places : Index) (p : Place) (m : ℕ) → IsStrictlySortedBy place_cmp (keys_of (f ∷ places)) → number_at_place places p ≡ Some m → number_at_place (f ∷ places) p ≡ Some m
 unfolding IsStrictlySortedBy
 behind_first f places p m up e = rw (not_same p f.0 (λ same. less_differs f.0 p (below_found f.0 places p m up.0 e) (sym same))) e
 
 -- a number that is kept stands at a place that is kept
-pub any_found : (keep : Place → Bool) (places : Index) (m : ℕ) → IsStrictlySortedBy place_cmp (keys_of places) → has m (kept keep places) ≡ true → (p : Place) × (number_at places p ≡ Some m) × (keep p ≡ true)
+pub any_found : (keep : Place → Bool) (places : Index) (m : ℕ) → IsStrictlySortedBy place_cmp (keys_of places) → has m (kept keep places) ≡ true → (p : Place) × (number_at_place places p ≡ Some m) × (keep p ≡ true)
 unfolding IsStrictlySortedBy
 any_found keep [] m up e = absurd (true≢false (sym e))
 any_found keep (f ∷ places) m up e = elim (either (keep f.0)) [
@@ -73,7 +73,7 @@ or_true true = refl
 or_true false = refl
 
 -- a number at a place that is kept is kept
-pub any_made : (keep : Place → Bool) (places : Index) (p : Place) (m : ℕ) → number_at places p ≡ Some m → keep p ≡ true → has m (kept keep places) ≡ true
+pub any_made : (keep : Place → Bool) (places : Index) (p : Place) (m : ℕ) → number_at_place places p ≡ Some m → keep p ≡ true → has m (kept keep places) ≡ true
 any_made keep [] p m e k = absurd (none-some m e)
 any_made keep (f ∷ places) p m e k = elim (either (is_at (place_cmp p) f.0)) [
   | inl hit ↦
@@ -90,7 +90,7 @@ any_made keep (f ∷ places) p m e k = elim (either (is_at (place_cmp p) f.0)) [
 
 -- no two places have one number
 abbrev OnePlace : Index → Type 0
-OnePlace places = (p q : Place) (m : ℕ) → number_at places p ≡ Some m → number_at places q ≡ Some m → p ≡ q
+OnePlace places = (p q : Place) (m : ℕ) → number_at_place places p ≡ Some m → number_at_place places q ≡ Some m → p ≡ q
 
 pub all_once : (keep : Place → Bool) (places : Index) → IsStrictlySortedBy place_cmp (keys_of places) → OnePlace places → are_distinct (kept keep places) ≡ true
 unfolding IsStrictlySortedBy
@@ -104,7 +104,7 @@ all_once keep (f ∷ places) up one =
             | inr absent ↦ absent
             | inl present ↦
                 let r = any_found keep places f.1 up.1 present in
-                let here : number_at (f ∷ places) f.0 ≡ Some f.1 = rw (self_same f.0) refl in
+                let here : number_at_place (f ∷ places) f.0 ≡ Some f.1 = rw (self_same f.0) refl in
                 let same : r.0 ≡ f.0 = one r.0 f.0 f.1 (behind_first f places r.0 f.1 up r.1) here in
                 absurd (less_differs f.0 r.0 (below_found f.0 places r.0 f.1 up.0 r.1) (sym same))
           ] in
@@ -138,14 +138,14 @@ pub is_forward : (parent : ℕ) → is_gt (place_cmp (first_under parent) (last_
 is_forward parent = let e : nat_cmp parent parent ≡ Equal = (Equal-is (nat_cmp parent parent)).0 (at_self parent) in rw e refl
 
 -- the place of a node lies between the bounds of its parent
-pub place_between : (nodes : List Numbered) (n : ℕ) (node : Node) (parent : ℕ) → IsTable nodes → node_at nodes n ≡ Some node
+pub place_between : (nodes : List Numbered) (n : ℕ) (node : Node) (parent : ℕ) → IsNodeTable nodes → node_at nodes n ≡ Some node
     → range_contains place_cmp (Included (first_under parent)) (Included (last_under parent)) (place_of node) ≡ eqb node.parent parent
 place_between nodes n node parent t e =
     let f = place_head node (is_part_at nodes n node t e) in
     bounds_are parent (place_of node) f.byte f.rest f.name f.some f.small ∙ ap (λ (m : ℕ). eqb m parent) (place_parent node)
 
-pub under_is : (nodes : List Numbered) (places : Index) (parent : ℕ) (numbers : List ℕ) → IsTable nodes → IsIndex nodes places → IsStrictlySortedBy place_cmp (keys_of places) → numbers ≡ numbers_under places parent
-    → (n : ℕ) → has n numbers ≡ is_under nodes parent n
+pub under_is : (nodes : List Numbered) (places : Index) (parent : ℕ) (numbers : List ℕ) → IsNodeTable nodes → IsIndex nodes places → IsStrictlySortedBy place_cmp (keys_of places) → numbers ≡ numbers_under places parent
+    → (n : ℕ) → has n numbers ≡ is_under_parent nodes parent n
 under_is nodes places parent numbers t i up is n = ap (λ (ns : List ℕ). has n ns) is ∙ one (node_at nodes n) refl where
   -- what is found is the node at the number
   found : has n (kept (keeps parent) places) ≡ true → (node : Node) × (node_at nodes n ≡ Some node) × (eqb node.parent parent ≡ true)
@@ -160,7 +160,7 @@ under_is nodes places parent numbers t i up is n = ap (λ (ns : List ℕ). has n
     | inl present ↦ let f = found present in absurd (true≢false (sym f.2 ∙ other f.0 f.1))
   ]
 
-  one : (o : Option Node) → node_at nodes n ≡ o → has n (numbers_under places parent) ≡ is_under nodes parent n
+  one : (o : Option Node) → node_at nodes n ≡ o → has n (numbers_under places parent) ≡ is_under_parent nodes parent n
   one None e = rw e (none (λ node f. absurd (none-some node (sym e ∙ f))))
   one (Some node) e = elim (either (eqb node.parent parent)) [
     | inl hit ↦ rw (e, hit) (any_made (keeps parent) places (place_of node) n (i.there n node e) (place_between nodes n node parent t e ∙ hit))

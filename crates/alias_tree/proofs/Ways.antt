@@ -13,8 +13,8 @@ use Rattle.asm_group.specs.Names.{Bytes, Path, folded, folded_path}
 use Rattle.asm_group.specs.Group.{TreeEntry}
 use Rattle.asm_formats.specs.Items.{Node}
 use Rattle.asm_base.proofs.Exact.{some_is}
-use Rattle.alias_tree.specs.Nodes.{Numbered, node_at, reaches_root, child, number_from, IsTable}
-use Rattle.alias_tree.specs.Places.{Member}
+use Rattle.alias_tree.specs.Nodes.{Numbered, node_at, reaches_root, child, number_from, IsNodeTable}
+use Rattle.alias_tree.specs.Places.{IsNodeAmong}
 use Rattle.asm_formats.specs.Nodes.{entry_of_node}
 use Rattle.alias_tree.specs.Trees.{way_to, tree_of, number_by, node_by}
 use Rattle.alias_tree.proofs.Children.{child_some, child_none}
@@ -48,12 +48,12 @@ pub record ChildAt (nodes : List Numbered) (parent : ℕ) (name : Bytes) (n : �
   pub parent_is : node.parent ≡ parent
   pub name_is : folded node.name ≡ name
 
-pub child_found : (nodes : List Numbered) (parent : ℕ) (name : Bytes) (n : ℕ) → IsTable nodes → child nodes parent name ≡ Some n → ChildAt nodes parent name n
+pub child_found : (nodes : List Numbered) (parent : ℕ) (name : Bytes) (n : ℕ) → IsNodeTable nodes → child nodes parent name ≡ Some n → ChildAt nodes parent name n
 child_found nodes parent name n t e =
     let c = child_some nodes parent name n e in
     record { node = c.node; at = member_at nodes (n, c.node) t.items.0 c.member; parent_is = c.parent_is; name_is = c.name_is }
 
-pub child_at : (nodes : List Numbered) (parent : ℕ) (name : Bytes) (n : ℕ) → IsTable nodes → ChildAt nodes parent name n → child nodes parent name ≡ Some n
+pub child_at : (nodes : List Numbered) (parent : ℕ) (name : Bytes) (n : ℕ) → IsNodeTable nodes → ChildAt nodes parent name n → child nodes parent name ≡ Some n
 child_at nodes parent name n t c = one (child nodes parent name) refl where
   one : (o : Option ℕ) → child nodes parent name ≡ o → o ≡ Some n
   one None e = absurd (child_none nodes parent name e (n, c.node) (at_member nodes n c.node c.at) c.parent_is c.name_is)
@@ -61,7 +61,7 @@ child_at nodes parent name n t c = one (child nodes parent name) refl where
       let f = child_found nodes parent name m t e in
       ap (λ (k : ℕ). Some k) (t.rule.distinct m n f.node c.node f.at c.at (f.parent_is ∙ sym c.parent_is) (f.name_is ∙ sym c.name_is))
 
-pub no_root : (nodes : List Numbered) → IsTable nodes → node_at nodes 0 ≡ None
+pub no_root : (nodes : List Numbered) → IsNodeTable nodes → node_at nodes 0 ≡ None
 no_root nodes t = one (node_at nodes 0) refl where
   one : (o : Option Node) → node_at nodes 0 ≡ o → o ≡ None
   one None e = refl
@@ -119,7 +119,7 @@ unfolding way_to
 way_none nodes n = refl
 
 -- enough steps are enough
-way_more : (nodes : List Numbered) → IsTable nodes → (k j n : ℕ) → reaches_root nodes k n ≡ true → way_to nodes (k + j) n ≡ way_to nodes k n
+way_more : (nodes : List Numbered) → IsNodeTable nodes → (k j n : ℕ) → reaches_root nodes k n ≡ true → way_to nodes (k + j) n ≡ way_to nodes k n
 way_more nodes t zero j n r =
     subst (λ (m : ℕ). way_to nodes (zero + j) m ≡ way_to nodes zero m) (sym (at_zero nodes n r)) (way_root nodes (zero + j) (no_root nodes t) ∙ sym (way_none nodes 0))
 way_more nodes t (suc k) j n r =
@@ -154,7 +154,7 @@ by_last nodes p x a m e = by_append nodes p (x ∷ []) a ∙ (ap (λ (o : Option
   one None = refl
   one (Some i) = refl
 
-way_down : (nodes : List Numbered) → IsTable nodes → (q : Path) (a n k : ℕ) → number_by nodes a q ≡ Some n → way_to nodes (k + length q) n ≡ way_to nodes k a ++ q
+way_down : (nodes : List Numbered) → IsNodeTable nodes → (q : Path) (a n k : ℕ) → number_by nodes a q ≡ Some n → way_to nodes (k + length q) n ≡ way_to nodes k a ++ q
 way_down nodes t [] a n k e =
     let same : a ≡ n = some_is a n e in
     let none : k + 0 ≡ k = omega arith in
@@ -167,7 +167,7 @@ way_down nodes t (x ∷ q) a n k e =
     let count : k + suc (length q) ≡ suc k + length q = omega arith in
     ap (λ (i : ℕ). way_to nodes i n) count ∙ (down ∙ (ap (λ (p : Path). p ++ q) at ∙ append_assoc (way_to nodes k a) (x ∷ []) q))
 
-reaches_down : (nodes : List Numbered) → IsTable nodes → (q : Path) (a n k : ℕ) → number_by nodes a q ≡ Some n → reaches_root nodes k a ≡ true → reaches_root nodes (k + length q) n ≡ true
+reaches_down : (nodes : List Numbered) → IsNodeTable nodes → (q : Path) (a n k : ℕ) → number_by nodes a q ≡ Some n → reaches_root nodes k a ≡ true → reaches_root nodes (k + length q) n ≡ true
 reaches_down nodes t [] a n k e r =
     let none : k + 0 ≡ k = omega arith in
     subst (λ (i : ℕ). reaches_root nodes i n ≡ true) (sym none) (subst (λ (m : ℕ). reaches_root nodes k m ≡ true) (some_is a n e) r)
@@ -182,7 +182,7 @@ abbrev pub way : List Numbered → ℕ → Path
 way nodes n = way_to nodes (length nodes) n
 
 -- a node has one path
-pub way_is : (nodes : List Numbered) (q : Path) (n : ℕ) → IsTable nodes → number_by nodes 0 q ≡ Some n → way nodes n ≡ q
+pub way_is : (nodes : List Numbered) (q : Path) (n : ℕ) → IsNodeTable nodes → number_by nodes 0 q ≡ Some n → way nodes n ≡ q
 way_is nodes q n t e = one (node_at nodes n) refl where
   at_end : way_to nodes (length q) n ≡ q
   at_end =
@@ -210,7 +210,7 @@ way_is nodes q n t e = one (node_at nodes n) refl where
           none-some c.node (sym f ∙ g)
       end x (y ∷ q) a e = let s = by_step nodes x (y ∷ q) a n e in end y q s.0 s.2
 
-leads : (nodes : List Numbered) → IsTable nodes → (k n : ℕ) → reaches_root nodes k n ≡ true → number_by nodes 0 (way_to nodes k n) ≡ Some n
+leads : (nodes : List Numbered) → IsNodeTable nodes → (k n : ℕ) → reaches_root nodes k n ≡ true → number_by nodes 0 (way_to nodes k n) ≡ Some n
 leads nodes t zero n r = subst (λ (m : ℕ). number_by nodes 0 (way_to nodes zero m) ≡ Some m) (sym (at_zero nodes n r)) (ap (λ (p : Path). number_by nodes 0 p) (way_none nodes 0))
 leads nodes t (suc k) n r = one (at_or_below nodes k n r) (λ m h. leads nodes t k m h) where
   one : ((n ≡ 0) ⊎ ((node : Node) × (node_at nodes n ≡ Some node) × (reaches_root nodes k node.parent ≡ true))) → ((m : ℕ) → reaches_root nodes k m ≡ true → number_by nodes 0 (way_to nodes k m) ≡ Some m) → number_by nodes 0 (way_to nodes (suc k) n) ≡ Some n
@@ -220,7 +220,7 @@ leads nodes t (suc k) n r = one (at_or_below nodes k n r) (λ m h. leads nodes t
       ∙ (by_last nodes (way_to nodes k node.parent) (folded node.name) 0 node.parent (more node.parent h) ∙ child_at nodes node.parent (folded node.name) n t (record { node = node; at = e; parent_is = refl; name_is = refl }))
 
 -- the way to a node leads there
-pub way_leads : (nodes : List Numbered) (n : ℕ) (node : Node) → IsTable nodes → node_at nodes n ≡ Some node → number_by nodes 0 (way nodes n) ≡ Some n
+pub way_leads : (nodes : List Numbered) (n : ℕ) (node : Node) → IsNodeTable nodes → node_at nodes n ≡ Some node → number_by nodes 0 (way nodes n) ≡ Some n
 way_leads nodes n node t e = leads nodes t (length nodes) n (t.rule.rooted n node e)
 
 -- ---- the tree has just the nodes' paths
@@ -231,7 +231,7 @@ entry nodes x = (way nodes x.0, entry_of_node x.1)
 abbrev in_list : Path → List (Path × TreeEntry) → Option TreeEntry
 in_list q es = maps.find (slice_cmp (slice_cmp nat_cmp)) q es
 
-listed : (nodes xs : List Numbered) (q : Path) (node : Node) → ((x : Numbered) → Member x xs → way nodes x.0 ≡ q → x.1 ≡ node) → (x : Numbered) → Member x xs → way nodes x.0 ≡ q → in_list q (map (entry nodes) xs) ≡ Some (entry_of_node node)
+listed : (nodes xs : List Numbered) (q : Path) (node : Node) → ((x : Numbered) → IsNodeAmong x xs → way nodes x.0 ≡ q → x.1 ≡ node) → (x : Numbered) → IsNodeAmong x xs → way nodes x.0 ≡ q → in_list q (map (entry nodes) xs) ≡ Some (entry_of_node node)
 listed nodes [] q node all x m e = absurd m
 listed nodes (y ∷ xs) q node all x m e = elim (either (is_key q (way nodes y.0))) [
   | inl hit ↦ rw hit (ap (λ (z : Node). Some (entry_of_node z)) (all y (inl refl) (sym (key_is q (way nodes y.0) hit))))
@@ -241,12 +241,12 @@ listed nodes (y ∷ xs) q node all x m e = elim (either (is_key q (way nodes y.0
   ]
 ]
 
-unlisted : (nodes xs : List Numbered) (q : Path) → ((x : Numbered) → Member x xs → way nodes x.0 ≡ q → ⊥) → in_list q (map (entry nodes) xs) ≡ None
+unlisted : (nodes xs : List Numbered) (q : Path) → ((x : Numbered) → IsNodeAmong x xs → way nodes x.0 ≡ q → ⊥) → in_list q (map (entry nodes) xs) ≡ None
 unlisted nodes [] q none = refl
 unlisted nodes (y ∷ xs) q none = rw (key_other q (way nodes y.0) (λ e. none y (inl refl) (sym e))) (unlisted nodes xs q (λ z i. none z (inr i)))
 
 -- The tree has at a path what stands there among the nodes.
-pub tree_has : (nodes : List Numbered) (q : Path) → IsTable nodes → maps.get (tree_of nodes) q ≡ option_map entry_of_node (node_by nodes q)
+pub tree_has : (nodes : List Numbered) (q : Path) → IsNodeTable nodes → maps.get (tree_of nodes) q ≡ option_map entry_of_node (node_by nodes q)
 unfolding tree_of
 tree_has nodes q t = maps.get-from_entries paths_total (map (entry nodes) nodes) q ∙ one (number_by nodes 0 q) refl where
   none : (node_by nodes q ≡ None) → in_list q (map (entry nodes) nodes) ≡ None

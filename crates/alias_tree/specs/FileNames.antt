@@ -18,8 +18,8 @@ FileName = declared.FileName
 abbrev pub name_cmp : FileName → FileName → Ordering
 name_cmp p q = ordering_then (nat_cmp p.file q.file) (ordering_then (bool_cmp p.is_alias q.is_alias) (nat_cmp p.number q.number))
 
-abbrev pub is_same_name : FileName → FileName → Bool
-is_same_name p q = is_eq (name_cmp p q)
+abbrev pub is_same_file_name : FileName → FileName → Bool
+is_same_file_name p q = is_eq (name_cmp p q)
 
 abbrev pub has_name : List FileName → FileName → Bool
 has_name names q = list_any (is_at (name_cmp q)) names
@@ -37,7 +37,7 @@ name_of_node n (Some node) = name_by_kind n node.file node.kind
 -- it is this name
 abbrev pub is_it : Option FileName → FileName → Bool
 is_it None q = false
-is_it (Some p) q = is_same_name p q
+is_it (Some p) q = is_same_file_name p q
 
 -- the index has just the names that the nodes are
 pub record IsFileIndex (nodes : List Numbered) (names : List FileName) : Type 0 where

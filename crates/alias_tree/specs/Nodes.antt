@@ -11,25 +11,25 @@ use Rattle.std.specs.Str.{bytes_eq}
 use Rattle.asm_group.specs.declared.NodeKind.{NodeKind}
 use Rattle.asm_group.specs.Names.{Bytes, Path, folded}
 use Rattle.asm_formats.specs.Items.{Item, node_item, Key, Node, is_directory_kind, nodes_kind}
-use Rattle.asm_base.specs.Records.{Entry}
+use Rattle.asm_base.specs.Records.{DirectoryRecord}
 use Rattle.asm_base.specs.Tables.{IsItemTable, item_record}
 
 -- a node with its number
 abbrev pub Numbered : Type 0
 Numbered = ℕ × Node
 
-abbrev pub item_of : Numbered → Item
-item_of x = node_item x.0 x.1
+abbrev pub item_of_node : Numbered → Item
+item_of_node x = node_item x.0 x.1
 
-abbrev pub entry_of : Item → Option Numbered
-entry_of (node_item n node) = Some (n, node)
-entry_of _ = None
+abbrev pub node_of_item : Item → Option Numbered
+node_of_item (node_item n node) = Some (n, node)
+node_of_item _ = None
 
-abbrev pub record_of : Numbered → Entry
-record_of x = item_record (item_of x)
+abbrev pub record_of_node : Numbered → DirectoryRecord
+record_of_node x = item_record (item_of_node x)
 
-abbrev pub is_mine : Key → Bool
-is_mine k = k.kind == nodes_kind
+abbrev pub is_key_of_node : Key → Bool
+is_key_of_node k = k.kind == nodes_kind
 
 abbrev pub is_before : ℕ → ℕ → Bool
 is_before m n = is_lt (nat_cmp m n)
@@ -37,11 +37,11 @@ is_before m n = is_lt (nat_cmp m n)
 abbrev pub node_at : List Numbered → ℕ → Option Node
 node_at nodes n = lookup (is_at (nat_cmp n)) nodes
 
-abbrev pub with_node : List Numbered → ℕ → Node → List Numbered
-with_node nodes n node = insert_entry nat_cmp nodes n node
+abbrev pub with_numbered_node : List Numbered → ℕ → Node → List Numbered
+with_numbered_node nodes n node = insert_entry nat_cmp nodes n node
 
-abbrev pub without_node : List Numbered → ℕ → List Numbered
-without_node nodes n = remove_entry (is_at (nat_cmp n)) nodes
+abbrev pub without_numbered_node : List Numbered → ℕ → List Numbered
+without_numbered_node nodes n = remove_entry (is_at (nat_cmp n)) nodes
 
 -- ---- the rule
 
@@ -68,8 +68,8 @@ pub record KeepsRule (nodes : List Numbered) : Type 0 where
   pub distinct : (m n : ℕ) (a b : Node) → node_at nodes m ≡ Some a → node_at nodes n ≡ Some b → a.parent ≡ b.parent → folded a.name ≡ folded b.name → m ≡ n
 
 -- nodes of the formats in the order of their numbers, which keep the rule
-pub record IsTable (nodes : List Numbered) : Type 0 where
-  pub items : IsItemTable is_before item_of nodes
+pub record IsNodeTable (nodes : List Numbered) : Type 0 where
+  pub items : IsItemTable is_before item_of_node nodes
   pub rule : KeepsRule nodes
 
 -- ---- paths
@@ -92,8 +92,8 @@ abbrev pub has_parent : ℕ → Option Node → Bool
 has_parent parent None = false
 has_parent parent (Some node) = node.parent == parent
 
-abbrev pub is_under : List Numbered → ℕ → ℕ → Bool
-is_under nodes parent n = has_parent parent (node_at nodes n)
+abbrev pub is_under_parent : List Numbered → ℕ → ℕ → Bool
+is_under_parent nodes parent n = has_parent parent (node_at nodes n)
 
 abbrev pub are_distinct : List ℕ → Bool
 are_distinct [] = true

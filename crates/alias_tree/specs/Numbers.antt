@@ -3,7 +3,7 @@ use Rattle.std.specs.Prelude.{◌≡◌, ℕ, ◌<◌, Bool, false, List, [], �
 use Rattle.asm_group.specs.TreeEdits as e
 use Rattle.asm_formats.specs.Items.{Node}
 use Rattle.asm_formats.specs.Nodes.{node_kind}
-use Rattle.alias_tree.specs.Nodes.{Numbered, node_at, without_node}
+use Rattle.alias_tree.specs.Nodes.{Numbered, node_at, without_numbered_node}
 
 -- the least number from 1 that no node has
 pub record IsLeastFree (nodes : List Numbered) (n : ℕ) : Type 0 where
@@ -23,4 +23,4 @@ is_name_of file (Some node) = e.names_file file (node_kind node.kind node.file)
 
 abbrev pub without_all : List Numbered → List ℕ → List Numbered
 without_all nodes [] = nodes
-without_all nodes (n ∷ ns) = without_all (without_node nodes n) ns
+without_all nodes (n ∷ ns) = without_all (without_numbered_node nodes n) ns

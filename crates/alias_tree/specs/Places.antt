@@ -29,8 +29,8 @@ abbrev pub is_same_place : Place → Place → Bool
 is_same_place p q = is_eq (place_cmp p q)
 
 -- the number at a place
-abbrev pub number_at : List (Place × ℕ) → Place → Option ℕ
-number_at places p = lookup (is_at (place_cmp p)) places
+abbrev pub number_at_place : List (Place × ℕ) → Place → Option ℕ
+number_at_place places p = lookup (is_at (place_cmp p)) places
 
 -- there is a node, and this is its place
 abbrev pub StandsAt : Option Node → Place → Type 0
@@ -39,8 +39,8 @@ StandsAt (Some node) p = place_of node ≡ p
 
 -- the index has just the places of the nodes
 pub record IsIndex (nodes : List Numbered) (places : List (Place × ℕ)) : Type 0 where
-  pub there : (n : ℕ) (node : Node) → node_at nodes n ≡ Some node → number_at places (place_of node) ≡ Some n
-  pub only : (p : Place) (n : ℕ) → number_at places p ≡ Some n → StandsAt (node_at nodes n) p
+  pub there : (n : ℕ) (node : Node) → node_at nodes n ≡ Some node → number_at_place places (place_of node) ≡ Some n
+  pub only : (p : Place) (n : ℕ) → number_at_place places p ≡ Some n → StandsAt (node_at nodes n) p
 
 -- the number at a place, where one place is left out
 abbrev pub without_place : Option Place → Place → Option ℕ → Option ℕ
@@ -61,14 +61,14 @@ numbers_under places parent = map (λ (e : Place × ℕ). e.1) (entries_between 
 
 -- ---- how the index is made
 
-abbrev pub Member : Numbered → List Numbered → Type 0
-Member x [] = ⊥
-Member x (y ∷ nodes) = (x ≡ y) ⊎ Member x nodes
+abbrev pub IsNodeAmong : Numbered → List Numbered → Type 0
+IsNodeAmong x [] = ⊥
+IsNodeAmong x (y ∷ nodes) = (x ≡ y) ⊎ IsNodeAmong x nodes
 
 -- the index of some nodes
 pub record Indexes (nodes : List Numbered) (places : List (Place × ℕ)) : Type 0 where
-  pub there : (x : Numbered) → Member x nodes → number_at places (place_of x.1) ≡ Some x.0
-  pub only : (p : Place) (n : ℕ) → number_at places p ≡ Some n → (node : Node) × Member (n, node) nodes × (place_of node ≡ p)
+  pub there : (x : Numbered) → IsNodeAmong x nodes → number_at_place places (place_of x.1) ≡ Some x.0
+  pub only : (p : Place) (n : ℕ) → number_at_place places p ≡ Some n → (node : Node) × IsNodeAmong (n, node) nodes × (place_of node ≡ p)
 
 -- the nodes have an index: no two of them have one place
 pub record HasIndex (nodes : List Numbered) : Type 0 where
@@ -88,5 +88,5 @@ pub record Clash (nodes : List Numbered) : Type 0 where
   pub left : List Numbered
   pub y : Numbered
   pub split : done ++ x ∷ left ≡ nodes
-  pub earlier : Member y done
+  pub earlier : IsNodeAmong y done
   pub same : place_of y.1 ≡ place_of x.1

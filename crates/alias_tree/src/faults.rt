@@ -4,7 +4,7 @@ ghost use Rattle.std.specs.Prelude.{◌≡◌, IfNone, IfOk, IfSome, not, find};
 ghost use Rattle.std.specs.Option.{option_map};
 ghost use Rattle.asm_base.specs.Tables.{IsItemTable};
 ghost use Rattle.alias_tree.specs.Faults.{HasFault, IsTwin, IsWithoutFault};
-ghost use Rattle.alias_tree.specs.Nodes.{is_before, is_right, item_of};
+ghost use Rattle.alias_tree.specs.Nodes.{is_before, is_right, item_of_node};
 ghost use Rattle.alias_tree.specs.Places.{HasIndex};
 
 use crate::index::add_place;
@@ -39,7 +39,7 @@ impl AliasTree {
 /// The first node that has the parent and the name of an earlier one.
 #[tactic(auto, using(crate::proofs::Readings::name_is_short, crate::proofs::Rules::so_far_none, crate::proofs::Rules::so_far_more, crate::proofs::Rules::so_far_indexed))]
 fn twin_in(alloc: Global, nodes: &Nodes) -> Result<Option<u32>, NoMemory>
-    requires { IsItemTable is_before item_of nodes.now }
+    requires { IsItemTable is_before item_of_node nodes.now }
     ensures twin { IfOk result (λ twin. IfSome twin (IsTwin nodes.now)) }
     ensures none { IfOk result (λ twin. IfNone twin (HasIndex nodes.now)) }
 {

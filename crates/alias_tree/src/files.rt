@@ -4,7 +4,7 @@ ghost use Rattle.std.specs.Prelude.{◌≡◌, ◌<◌, ◌^◌, ◌||◌, [], �
 ghost use Rattle.std.specs.Ordering.{is_gt};
 ghost use Rattle.std.specs.BTreeMap.Range.{IsInRange};
 ghost use Rattle.std.specs.declared.ops.Bound.TheVariants.{Included};
-ghost use Rattle.alias_tree.specs.FileNames.{forgotten, has_name, is_it, is_same_name, name_by_kind, name_cmp, numbers_of_file, FileName};
+ghost use Rattle.alias_tree.specs.FileNames.{forgotten, has_name, is_it, is_same_file_name, name_by_kind, name_cmp, numbers_of_file, FileName};
 
 use asm_base::{NoMemory, NodeKind};
 use std::alloc::Global;

@@ -6,8 +6,8 @@ ghost use Rattle.std.specs.Option.{option_map, MatchOption};
 ghost use Rattle.std.specs.Ordering.{nat_cmp};
 ghost use Rattle.std.specs.BTreeMap.{is_at};
 ghost use Rattle.asm_base.specs.Tables.{IsItemTable};
-ghost use Rattle.alias_tree.specs.Nodes.{IsTable, is_before, item_of, node_at, with_node, without_node};
-ghost use Rattle.alias_tree.specs.Places.{Clash, Indexes, IsIndex, Place, is_same_place, number_at, place_of, without_place};
+ghost use Rattle.alias_tree.specs.Nodes.{IsNodeTable, is_before, item_of_node, node_at, with_numbered_node, without_numbered_node};
+ghost use Rattle.alias_tree.specs.Places.{Clash, Indexes, IsIndex, Place, is_same_place, number_at_place, place_of, without_place};
 
 use crate::node::Node;
 use crate::nodes::Nodes;
@@ -23,10 +23,10 @@ pub(crate) fn put_node(
     key: u32,
     item: Node,
 ) -> Result<(), NoMemory>
-    requires was { IsTable nodes.old }
-    requires table { IsTable (with_node nodes.old key item) }
+    requires was { IsNodeTable nodes.old }
+    requires table { IsNodeTable (with_numbered_node nodes.old key item) }
     requires index { IsIndex nodes.old places.old }
-    ensures ok { OnOk result (nodes.new ≡ with_node nodes.old key item) }
+    ensures ok { OnOk result (nodes.new ≡ with_numbered_node nodes.old key item) }
     ensures err { OnErr result (nodes.new ≡ nodes.old) }
     ensures index { IsIndex nodes.new places.new }
 {
@@ -48,11 +48,11 @@ pub(crate) fn put_at(
     key: u32,
     item: Node,
 ) -> Result<(), NoMemory>
-    requires was { IsItemTable is_before item_of nodes.old }
+    requires was { IsItemTable is_before item_of_node nodes.old }
     requires index { IsIndex nodes.old places.old }
     requires at { at ≡ place_of item }
-    requires free { number_at places.old at ≡ None }
-    ensures ok { OnOk result (nodes.new ≡ with_node nodes.old key item) }
+    requires free { number_at_place places.old at ≡ None }
+    ensures ok { OnOk result (nodes.new ≡ with_numbered_node nodes.old key item) }
     // Other numbers keep their nodes.
     ensures nodes { OnOk result ((n : ℕ) → node_at nodes.new n ≡ (if is_at (nat_cmp key) n then Some item else node_at nodes.old n)) }
     ensures err { OnErr result (nodes.new ≡ nodes.old) }
@@ -71,10 +71,10 @@ pub(crate) fn put_at(
 /// Takes a node and its place away, and tells whether it was there.
 #[tactic(auto, using(crate::proofs::IndexLaws::index_without))]
 pub(crate) fn remove_node(nodes: &mut Nodes, places: &mut Places, key: u32) -> bool
-    requires was { IsItemTable is_before item_of nodes.old }
+    requires was { IsItemTable is_before item_of_node nodes.old }
     requires index { IsIndex nodes.old places.old }
     ensures there { result ≡ is_some (node_at nodes.old key) }
-    ensures after { nodes.new ≡ without_node nodes.old key }
+    ensures after { nodes.new ≡ without_numbered_node nodes.old key }
     ensures nodes { (n : ℕ) → node_at nodes.new n ≡ (if is_at (nat_cmp key) n then None else node_at nodes.old n) }
     ensures index { IsIndex nodes.new places.new }
 {
@@ -86,7 +86,7 @@ pub(crate) fn remove_node(nodes: &mut Nodes, places: &mut Places, key: u32) -> b
 /// The place of a node.
 #[tactic(auto, using(crate::proofs::IndexLaws::name_of_item))]
 fn place_at(nodes: &Nodes, key: u32) -> Option<Place>
-    requires { IsItemTable is_before item_of nodes.now }
+    requires { IsItemTable is_before item_of_node nodes.now }
     ensures { result ≡ option_map place_of (node_at nodes.now key) }
 {
     let node = nodes.get(key)?;
@@ -94,7 +94,7 @@ fn place_at(nodes: &Nodes, key: u32) -> Option<Place>
 }
 
 fn forget(places: &mut Places, at: Option<Place>)
-    ensures { (q : Place) → number_at places.new q ≡ without_place at q (number_at places.old q) }
+    ensures { (q : Place) → number_at_place places.new q ≡ without_place at q (number_at_place places.old q) }
 {
     if let Some(at) = at {
         places.remove(at);
@@ -104,7 +104,7 @@ fn forget(places: &mut Places, at: Option<Place>)
 /// The places of the nodes, or None where two of them have one.
 #[tactic(auto, using(crate::proofs::Readings::name_is_short, crate::proofs::Rules::so_far_none, crate::proofs::Rules::so_far_more, crate::proofs::Rules::so_far_clash, crate::proofs::Rules::so_far_all))]
 pub(crate) fn places_of(alloc: Global, nodes: &Nodes) -> Result<Option<Places>, NoMemory>
-    requires { IsItemTable is_before item_of nodes.now }
+    requires { IsItemTable is_before item_of_node nodes.now }
     ensures { IfOk result (λ read. MatchOption read (Clash nodes.now) (λ places. Indexes nodes.now places)) }
 {
     let mut places = Places::new(alloc);
@@ -119,8 +119,8 @@ pub(crate) fn places_of(alloc: Global, nodes: &Nodes) -> Result<Option<Places>, 
 /// Puts a node's number at its place. `false` where there is another.
 pub(crate) fn add_place(places: &mut Places, number: u32, node: &Node) -> Result<bool, NoMemory>
     requires { length node.now.name ≤ 80 }
-    ensures added { IfOk result (λ added. OnTrue added ((number_at places.old (place_of node.now) ≡ None) × ((q : Place) → number_at places.new q ≡ (if is_same_place (place_of node.now) q then Some number else number_at places.old q)))) }
-    ensures refused { IfOk result (λ added. OnFalse added (is_some (number_at places.old (place_of node.now)) ≡ true)) }
+    ensures added { IfOk result (λ added. OnTrue added ((number_at_place places.old (place_of node.now) ≡ None) × ((q : Place) → number_at_place places.new q ≡ (if is_same_place (place_of node.now) q then Some number else number_at_place places.old q)))) }
+    ensures refused { IfOk result (λ added. OnFalse added (is_some (number_at_place places.old (place_of node.now)) ≡ true)) }
 {
     let at = named_place(node.parent, node.name.as_bytes());
     if places.get(at).is_some() {

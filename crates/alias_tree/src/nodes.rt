@@ -49,7 +49,7 @@ impl Model for Nodes {
 
 impl Nodes {
     ghost use Rattle.std.specs.Prelude.{List as Items, ℕ};
-    ghost use Rattle.alias_tree.specs.Nodes.{Numbered, entry_of, is_before, is_mine, is_right, item_of, parent_is_right, reaches_root, record_of, with_node, without_node};
+    ghost use Rattle.alias_tree.specs.Nodes.{Numbered, node_of_item, is_before, is_key_of_node, is_right, item_of_node, parent_is_right, reaches_root, record_of_node, with_numbered_node, without_numbered_node};
 
     pub(crate) fn new(alloc: Global) -> Nodes
         ensures { result ≡ [] }
@@ -81,7 +81,7 @@ impl Nodes {
     }
 
     pub(crate) fn put(&mut self, number: u32, node: Node) -> Result<(), NoMemory>
-        ensures ok { OnOk result (self.new ≡ with_node self.old number node) }
+        ensures ok { OnOk result (self.new ≡ with_numbered_node self.old number node) }
         ensures at { OnOk result ((n : ℕ) → node_at self.new n ≡ (if is_at (nat_cmp number) n then Some node else node_at self.old n)) }
         ensures err { OnErr result (self.new ≡ self.old) }
     {
@@ -103,7 +103,7 @@ impl Nodes {
 
     pub(crate) fn remove(&mut self, number: u32) -> bool
         ensures there { result ≡ is_some (node_at self.old number) }
-        ensures after { self.new ≡ without_node self.old number }
+        ensures after { self.new ≡ without_numbered_node self.old number }
         ensures at { (n : ℕ) → node_at self.new n ≡ (if is_at (nat_cmp number) n then None else node_at self.old n) }
     {
         let gone = name_at(&self.map, number);
@@ -130,7 +130,7 @@ impl Nodes {
 
     /// Whether a node is a user alias of the file.
     pub(crate) fn has_alias(&self, file: u32) -> bool
-        requires { IsItemTable is_before item_of self.now }
+        requires { IsItemTable is_before item_of_node self.now }
         ensures { result ≡ list_any (λ x. is_alias_of file (node_kind x.1.kind x.1.file)) self.now }
     {
         self.names.has_alias(file)
@@ -138,7 +138,7 @@ impl Nodes {
 
     /// The first node that is a name of the file, an alias after the others.
     pub(crate) fn name_of(&self, file: u32) -> Option<u32>
-        requires { IsItemTable is_before item_of self.now }
+        requires { IsItemTable is_before item_of_node self.now }
         ensures there { is_some result ≡ list_any (λ x. names_file file (node_kind x.1.kind x.1.file)) self.now }
         ensures named { IfSome result (λ n. is_name_of file (node_at self.now n) ≡ true) }
     {
@@ -147,7 +147,7 @@ impl Nodes {
 
     /// The nodes that are names of the file.
     pub(crate) fn names_of(&self, alloc: Global, file: u32) -> Result<Vec<u32>, NoMemory>
-        requires { IsItemTable is_before item_of self.now }
+        requires { IsItemTable is_before item_of_node self.now }
         ensures { IfOk result (λ v. (n : ℕ) → list_any (λ m. m == n) v.items ≡ is_name_of file (node_at self.now n)) }
     {
         let numbers = self.names.all(alloc, file)?;
@@ -157,7 +157,7 @@ impl Nodes {
     /// Equal nodes.
     #[tactic(auto, using(crate::proofs::OpenLaws::copied))]
     pub(crate) fn copy(&self, alloc: Global) -> Result<Nodes, NoMemory>
-        requires { IsItemTable is_before item_of self.now }
+        requires { IsItemTable is_before item_of_node self.now }
         ensures { IfOk result (λ copy. copy ≡ self.now) }
     {
         let mut copy = Nodes::new(alloc);
@@ -169,8 +169,8 @@ impl Nodes {
 
     /// Puts the records of the nodes into a change. After an `Err` some of them may stand there.
     pub(crate) fn to_records(&self, alloc: Global, change: &mut Change) -> Result<(), NoMemory>
-        requires { IsItemTable is_before item_of self.now }
-        ensures put { OnOk result (change.new.put ≡ change.old.put ++ map record_of self.now) }
+        requires { IsItemTable is_before item_of_node self.now }
+        ensures put { OnOk result (change.new.put ≡ change.old.put ++ map record_of_node self.now) }
         ensures gone { change.new.gone ≡ change.old.gone }
     {
         for (number, node) in self.map.iter() {
@@ -181,15 +181,15 @@ impl Nodes {
 
     /// The nodes whose records these are.
     pub(crate) fn from_records(alloc: Global, records: &Records) -> Result<Option<Nodes>, NoMemory>
-        ensures found { IfOk result (λ read. IfSome read (λ t. IsItemTable is_before item_of t × (of_kinds is_mine records.now ≡ map record_of t))) }
-        ensures only { IfOk result (λ read. (t : Items Numbered) → IsItemTable is_before item_of t → of_kinds is_mine records.now ≡ map record_of t → read ≡ Some t) }
+        ensures found { IfOk result (λ read. IfSome read (λ t. IsItemTable is_before item_of_node t × (of_kinds is_key_of_node records.now ≡ map record_of_node t))) }
+        ensures only { IfOk result (λ read. (t : Items Numbered) → IsItemTable is_before item_of_node t → of_kinds is_key_of_node records.now ≡ map record_of_node t → read ≡ Some t) }
     {
         Nodes::read(alloc, records)
     }
 
     #[tactic(auto, using(asm_base::proofs::Tables::read_taken, asm_base::proofs::Tables::read_refused), unfolding(asm_base::specs::Records::read_from))]
     fn read(alloc: Global, records: &Records) -> Result<Option<Nodes>, NoMemory>
-        ensures { IfOk result (λ read. read ≡ read_from is_mine (add_item is_before (entry_of_record entry_of)) [] records.now) }
+        ensures { IfOk result (λ read. read ≡ read_from is_key_of_node (add_item is_before (entry_of_record node_of_item)) [] records.now) }
     {
         let mut nodes = Nodes::new(alloc);
         for (key, value) in records.iter() {
@@ -204,7 +204,7 @@ impl Nodes {
     #[tactic(auto, using(crate::proofs::Rules::taken_step, crate::proofs::Rules::refused_value, crate::proofs::Rules::refused_order))]
     fn take_up(&mut self, alloc: Global, key: Key, value: &Value) -> Result<bool, NoMemory>
         requires { Ascend is_before self.old }
-        ensures step { IfOk result (λ taken. (if is_mine key then add_item is_before (entry_of_record entry_of) self.old (key, value.now) else Some self.old) ≡ (if taken then Some self.new else None)) }
+        ensures step { IfOk result (λ taken. (if is_key_of_node key then add_item is_before (entry_of_record node_of_item) self.old (key, value.now) else Some self.old) ≡ (if taken then Some self.new else None)) }
         ensures ascending { IfOk result (λ taken. OnTrue taken (Ascend is_before self.new)) }
     {
         if key.kind != record_kind::NODES {

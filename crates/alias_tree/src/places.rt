@@ -91,7 +91,7 @@ impl Model for Places {
 }
 
 impl Places {
-    ghost use Rattle.alias_tree.specs.Places.{is_same_place, number_at, numbers_under, place_cmp, Place};
+    ghost use Rattle.alias_tree.specs.Places.{is_same_place, number_at_place, numbers_under, place_cmp, Place};
 
     pub(crate) fn new(alloc: Global) -> Places
         ensures { result ≡ [] }
@@ -102,13 +102,13 @@ impl Places {
     }
 
     pub(crate) fn get(&self, place: Place) -> Option<u32>
-        ensures { result ≡ number_at self.now place }
+        ensures { result ≡ number_at_place self.now place }
     {
         self.map.get(&place).copied()
     }
 
     pub(crate) fn put(&mut self, place: Place, number: u32) -> Result<(), NoMemory>
-        ensures ok { OnOk result ((q : Place) → number_at self.new q ≡ (if is_same_place place q then Some number else number_at self.old q)) }
+        ensures ok { OnOk result ((q : Place) → number_at_place self.new q ≡ (if is_same_place place q then Some number else number_at_place self.old q)) }
         ensures err { OnErr result (self.new ≡ self.old) }
     {
         let Ok(_) = self.map.insert(place, number) else {
@@ -118,7 +118,7 @@ impl Places {
     }
 
     pub(crate) fn remove(&mut self, place: Place)
-        ensures { (q : Place) → number_at self.new q ≡ (if is_same_place place q then None else number_at self.old q) }
+        ensures { (q : Place) → number_at_place self.new q ≡ (if is_same_place place q then None else number_at_place self.old q) }
     {
         let _ = self.map.remove(&place);
     }

@@ -29,14 +29,14 @@ pub struct AliasTree {
 impl Model for AliasTree {
     ghost use Rattle.std.specs.Prelude.{List as Items, ℕ};
     ghost use Rattle.asm_formats.specs.Items.{Node as FormatNode};
-    ghost use Rattle.alias_tree.specs.Nodes.{IsTable};
+    ghost use Rattle.alias_tree.specs.Nodes.{IsNodeTable};
     ghost use Rattle.alias_tree.specs.Places.{IsIndex};
 
     ghost Value = { Items (ℕ × FormatNode) };
 
     ghost view = { λ t. t.nodes };
 
-    ghost invariant = { λ t. IsTable t.nodes × IsIndex t.nodes t.places };
+    ghost invariant = { λ t. IsNodeTable t.nodes × IsIndex t.nodes t.places };
 }
 
 impl AliasTree {
@@ -44,7 +44,7 @@ impl AliasTree {
     ghost use Rattle.alias_tree.specs.Numbers.{IsLeastFree, is_name_of, without_all, IsFreeAbove};
     ghost use Rattle.asm_formats.specs.Nodes.{entry_of_node, node_kind};
     ghost use Rattle.alias_tree.specs.Trees.{node_by, tree_of};
-    ghost use Rattle.alias_tree.specs.Nodes.{AreByName, IsTable, KeepsRule, Numbered, are_distinct, child, is_mine, is_under, node_at, number_from, number_of, record_of, with_node, without_node};
+    ghost use Rattle.alias_tree.specs.Nodes.{AreByName, IsNodeTable, KeepsRule, Numbered, are_distinct, child, is_key_of_node, is_under_parent, node_at, number_from, number_of, record_of_node, with_numbered_node, without_numbered_node};
 
     /// A tree without names.
     #[tactic(auto, using(crate::proofs::IndexLaws::no_nodes, crate::proofs::IndexLaws::no_places))]
@@ -59,7 +59,7 @@ impl AliasTree {
 
     pub fn get(&self, key: u32) -> Option<&Node>
         ensures node { option_copied result ≡ node_at self.now key }
-        ensures table { IsTable self.now }
+        ensures table { IsNodeTable self.now }
     {
         self.nodes.get(key)
     }
@@ -67,7 +67,7 @@ impl AliasTree {
     /// The nodes in the order of their numbers.
     pub fn iter(&self) -> Iter<'_, u32, Node>
         ensures nodes { result ≡ self.now }
-        ensures table { IsTable self.now }
+        ensures table { IsNodeTable self.now }
     {
         self.nodes.iter()
     }
@@ -81,8 +81,8 @@ impl AliasTree {
 
     /// Puts a node. Where there is no memory nothing changes.
     pub fn put(&mut self, key: u32, item: Node) -> Result<(), NoMemory>
-        requires { IsTable (with_node self.old key item) }
-        ensures ok { OnOk result (self.new ≡ with_node self.old key item) }
+        requires { IsNodeTable (with_numbered_node self.old key item) }
+        ensures ok { OnOk result (self.new ≡ with_numbered_node self.old key item) }
         ensures err { OnErr result (self.new ≡ self.old) }
     {
         put_node(&mut self.nodes, &mut self.places, key, item)
@@ -91,9 +91,9 @@ impl AliasTree {
     /// Takes a node away, and tells whether it was there.
     #[tactic(auto, using(crate::proofs::IndexLaws::nodes_of))]
     pub fn remove(&mut self, key: u32) -> bool
-        requires { IsTable (without_node self.old key) }
+        requires { IsNodeTable (without_numbered_node self.old key) }
         ensures there { result ≡ is_some (node_at self.old key) }
-        ensures after { self.new ≡ without_node self.old key }
+        ensures after { self.new ≡ without_numbered_node self.old key }
     {
         remove_node(&mut self.nodes, &mut self.places, key)
     }
@@ -134,7 +134,7 @@ impl AliasTree {
 
     /// Puts the records of the nodes into a change. After an `Err` some of them may stand there.
     pub fn to_records(&self, alloc: Global, change: &mut Change) -> Result<(), NoMemory>
-        ensures put { OnOk result (change.new.put ≡ change.old.put ++ map record_of self.now) }
+        ensures put { OnOk result (change.new.put ≡ change.old.put ++ map record_of_node self.now) }
         ensures gone { change.new.gone ≡ change.old.gone }
     {
         self.nodes.to_records(alloc, change)
@@ -144,9 +144,9 @@ impl AliasTree {
     /// rule of the tree.
     pub fn from_records(alloc: Global, records: &Records) -> Result<Option<AliasTree>, NoMemory>
         // What is read is a tree with these records.
-        ensures found { IfOk result (λ read. IfSome read (λ t. IsTable t × (of_kinds is_mine records.now ≡ map record_of t))) }
+        ensures found { IfOk result (λ read. IfSome read (λ t. IsNodeTable t × (of_kinds is_key_of_node records.now ≡ map record_of_node t))) }
         // A tree that has these records is read.
-        ensures only { IfOk result (λ read. (t : Items Numbered) → IsTable t → of_kinds is_mine records.now ≡ map record_of t → read ≡ Some t) }
+        ensures only { IfOk result (λ read. (t : Items Numbered) → IsNodeTable t → of_kinds is_key_of_node records.now ≡ map record_of_node t → read ≡ Some t) }
     {
         let Some(nodes) = Nodes::from_records(alloc, records)? else {
             return Ok(None);
@@ -174,7 +174,7 @@ impl AliasTree {
     #[tactic(auto, using(crate::proofs::Under::under_is, crate::proofs::Under::under_once))]
     pub fn children(&self, alloc: Global, node: u32) -> Result<Vec<u32>, NoMemory>
         // They are just the nodes of this parent.
-        ensures each { IfOk result (λ v. (n : ℕ) → list_any (λ m. m == n) v.items ≡ is_under self.now node n) }
+        ensures each { IfOk result (λ v. (n : ℕ) → list_any (λ m. m == n) v.items ≡ is_under_parent self.now node n) }
         // None is given twice.
         ensures once { IfOk result (λ v. are_distinct v.items ≡ true) }
         ensures order { IfOk result (λ v. AreByName self.now v.items) }
@@ -196,7 +196,7 @@ impl AliasTree {
 
     /// Shows that the nodes keep the rule, and does nothing.
     pub fn keeps_rule(&self)
-        ensures { IsTable self.now }
+        ensures { IsNodeTable self.now }
     {
         let _nodes = &self.nodes;
     }
@@ -226,7 +226,7 @@ impl AliasTree {
     pub fn name_of(&self, file: u32) -> Option<u32>
         ensures there { is_some result ≡ list_any (λ x. names_file file (node_kind x.1.kind x.1.file)) self.now }
         ensures named { IfSome result (λ n. is_name_of file (node_at self.now n) ≡ true) }
-        ensures table { IsTable self.now }
+        ensures table { IsNodeTable self.now }
     {
         self.nodes.name_of(file)
     }
@@ -235,7 +235,7 @@ impl AliasTree {
     #[tactic(auto, using(crate::proofs::IndexLaws::nodes_of))]
     pub fn names_of(&self, alloc: Global, file: u32) -> Result<Vec<u32>, NoMemory>
         ensures all { IfOk result (λ v. (n : ℕ) → list_any (λ m. m == n) v.items ≡ is_name_of file (node_at self.now n)) }
-        ensures table { IfOk result (λ v. IsTable (without_all self.now v.items)) }
+        ensures table { IfOk result (λ v. IsNodeTable (without_all self.now v.items)) }
     {
         let numbers = self.nodes.names_of(alloc, file)?;
         Ok(numbers)

@@ -3,7 +3,7 @@
 ghost use Rattle.std.specs.Prelude.{◌≡◌, IfOk, IsTrue};
 ghost use Rattle.asm_formats.specs.Items.{is_item, node_item};
 ghost use Rattle.asm_formats.specs.Values.{node_value, value};
-ghost use Rattle.asm_base.specs.Cursors.{Puts};
+ghost use Rattle.asm_base.specs.Cursors.{PutsField};
 ghost use Rattle.asm_base.specs.Tables.{item_record};
 
 use crate::node::Node;
@@ -44,7 +44,7 @@ fn value_of(alloc: Global, number: u32, node: &Node) -> Result<Value, NoMemory>
 fn put_node(to: &mut Writer, number: u32, node: &Node)
     requires start { to.old.at ≡ 0 }
     requires right { IsTrue (is_item (node_item number node.now)) }
-    ensures puts { Puts to.old to.new (node_value node.now) }
+    ensures puts { PutsField to.old to.new (node_value node.now) }
     ensures at { to.new.at ≡ 90 }
 {
     put_u32(to, node.parent);

@@ -10,7 +10,7 @@ use Rattle.std.proofs.lemmas.Bool.{cases_lt, true≢false, le-leb, lt-leb, lt-lt
 use Rattle.std.proofs.lemmas.List.{length-take, length-append, length-replicate, get_or_append_left, get_or-append_right, get_or-take, get_or-replicate, get_or_past, same_lists}
 use Rattle.std.proofs.lemmas.List.FromFn.{get_or-map-range_with_len, length-map-range_with_len, length-range_with_len}
 use Rattle.allocator.specs.Words.{is_set, AllAre, AreResized, IsFreeIn, IsFirst, SetsRun, is_within, used_between}
-use Rattle.allocator.specs.UnitMaps.{UnitMap, IsUnusedFrom, resized, used_of}
+use Rattle.allocator.specs.UnitMaps.{UnitMap, IsUnusedFrom, with_unit_count, used_of}
 use Rattle.allocator.specs.Sound.{used_list, AreSound}
 use Rattle.allocator.proofs.Maps.{map_from, past_is, used_at}
 use Rattle.allocator.proofs.Runs.{past_end}
@@ -175,7 +175,7 @@ resized_sound first before units from old words sound is = record {
   none true false = refl
   none false b = refl
 
-pub resized_map : (first before units : ℕ) (old words : List ℕ) → AreResized first before units old words → map_from first units words ≡ resized (map_from first before old) units
+pub resized_map : (first before units : ℕ) (old words : List ℕ) → AreResized first before units old words → map_from first units words ≡ with_unit_count (map_from first before old) units
 resized_map first before units old words is =
     let f = λ (k : ℕ). leb first k && is_set words k in
     let g = λ (k : ℕ). get_or (used_list first old before) k false in

@@ -3,7 +3,7 @@
 ghost use Rattle.std.specs.Prelude.{◌≡◌, ◌≤◌, ◌<◌, ◌+◌, ◌*◌, ◌^◌, ◌++◌, ◌-◌, ◌↔◌, IfOk, IsTrue, MatchOption, ℕ, true, false, length, take, vec_len, replicate, if◌then◌else◌};
 ghost use Rattle.std.specs.Bool.{OnFalse, OnTrue};
 ghost use Rattle.allocator.specs.Words.{AreFresh, AreResized, SetsRun};
-ghost use Rattle.allocator.specs.UnitMaps.{HasNoRun, IsFreeRun, IsLowestRun, IsUnusedFrom, IsUsedRun, resized, taken, total_of, unused, used_of, with_run};
+ghost use Rattle.allocator.specs.UnitMaps.{HasNoRun, IsFreeRun, IsLowestRun, IsUnusedFrom, IsUsedRun, with_unit_count, taken, total_of, unused, used_of, with_run};
 
 use crate::words::{first_free, is_free, lowest_run, set_run, used_between};
 use asm_base::NoMemory;
@@ -27,11 +27,11 @@ impl Model for Units {
 
     ghost Value = { UnitMap };
 
-    ghost use Rattle.allocator.specs.Sound.{IsSound, map_of};
+    ghost use Rattle.allocator.specs.Sound.{IsSoundInside, map_of};
 
     ghost view = { map_of };
 
-    ghost invariant = { IsSound };
+    ghost invariant = { IsSoundInside };
 }
 
 impl Units {
@@ -51,7 +51,7 @@ impl Units {
         })
     }
 
-    /// An equal value. It, `new` and `resized` alone take memory.
+    /// An equal value. It, `new` and `with_unit_count` alone take memory.
     pub fn copy(&self) -> Result<Units, NoMemory>
         ensures { IfOk result (λ u. u ≡ self.now) }
     {
@@ -69,7 +69,7 @@ impl Units {
     /// Work and memory go by the number of units, a word at a time.
     pub fn resized(&self, units: u32) -> Result<Units, NoMemory>
         requires { units ≤ 16777216 }
-        ensures { IfOk result (λ u. u ≡ resized self.now units) }
+        ensures { IfOk result (λ u. u ≡ with_unit_count self.now units) }
     {
         let alloc = *self.words.allocator();
         let words = resized_words(alloc, &self.words, self.first, self.units, units)?;

@@ -6,9 +6,9 @@ use Rattle.std.proofs.lemmas.Bool.{eqb-true, eq-eqb, leb-true, le-leb}
 use Rattle.std.proofs.lemmas.List.{length-append, length-replicate, take_all}
 use Rattle.asm_formats.specs.Bytes.{whole_block}
 use Rattle.asm_formats.specs.Codes.{flag}
-use Rattle.asm_base.specs.Readings.{Reading, byte_reading, fixed_reading, flag_of, flag_reading, repeated, counted, whole}
+use Rattle.asm_base.specs.Readings.{Reading, byte_reading, fixed_reading, flag_of, flag_reading, repeated, counted_reading, whole_reading}
 use Rattle.asm_base.specs.declared.cursor.Writer.{Writer}
-use Rattle.asm_base.specs.Cursors.{Puts, written}
+use Rattle.asm_base.specs.Cursors.{PutsField, written_bytes}
 use Rattle.asm_base.proofs.Exact.{IsBytes, IsBytes-append, IsBytes-none, IsBytes-flat_map, IsExact, Begins, bind_some, test_some, some_is, decoded_exact, repeated_exact}
 
 abbrev pub one_byte : ℕ → List ℕ
@@ -67,7 +67,7 @@ flag_exact = decoded_exact flag_of flag known one_code fits_code byte_exact wher
   fits_code true = omega arith
   fits_code false = omega arith
 
-pub counted_exact : {A : Type 0} {s : A → List ℕ} {F : A → Type 0} {r : Reading A} (limit : ℕ) → limit < 256 → IsExact s F r → IsExact (λ xs. one_byte (length xs) ++ flat_map s xs) (λ xs. (length xs ≤ limit) × AllByRecursion F xs) (counted limit r)
+pub counted_exact : {A : Type 0} {s : A → List ℕ} {F : A → Type 0} {r : Reading A} (limit : ℕ) → limit < 256 → IsExact s F r → IsExact (λ xs. one_byte (length xs) ++ flat_map s xs) (λ xs. (length xs ≤ limit) × AllByRecursion F xs) (counted_reading limit r)
 counted_exact {A} {s} {F} {r} limit small law = record {
   takes = λ bytes x rest fits e.
       let a = bind_some (λ (n : ℕ × List ℕ). cond (leb n.0 limit) (repeated n.0 r n.1) None) (byte_reading bytes) (x, rest) e in
@@ -98,7 +98,7 @@ pub zeros_are : (n : ℕ) → list_all (λ b. eqb b 0) (replicate n 0) ≡ true
 zeros_are zero = refl
 zeros_are (suc n) = zeros_are n
 
-pub whole_takes : {A : Type 0} {s : A → List ℕ} {F : A → Type 0} {r : Reading A} → IsExact s F r → (bytes : List ℕ) (x : A) → length bytes ≡ 4096 → IsBytes bytes → whole r bytes ≡ Some x → (bytes ≡ whole_block (s x)) × F x
+pub whole_takes : {A : Type 0} {s : A → List ℕ} {F : A → Type 0} {r : Reading A} → IsExact s F r → (bytes : List ℕ) (x : A) → length bytes ≡ 4096 → IsBytes bytes → whole_reading r bytes ≡ Some x → (bytes ≡ whole_block (s x)) × F x
 unfolding whole_block
 whole_takes {A} {s} {F} {r} law bytes x len fits e =
     let a = bind_some (λ (y : A × List ℕ). cond (list_all (λ b. eqb b 0) y.1) (Some y.0) None) (r bytes) x e in
@@ -108,7 +108,7 @@ whole_takes {A} {s} {F} {r} law bytes x len fits e =
     let all : bytes ≡ whole_block (s a.0.0) = rw n (one.parts ∙ ap (λ (z : List ℕ). s a.0.0 ++ z) (are_zeros a.0.1 g.0)) in
     subst (λ (y : A). (bytes ≡ whole_block (s y)) × F y) g.1 (all, one.fits)
 
-pub whole_again : {A : Type 0} {s : A → List ℕ} {F : A → Type 0} {r : Reading A} → IsExact s F r → (x : A) → F x → whole r (whole_block (s x)) ≡ Some x
+pub whole_again : {A : Type 0} {s : A → List ℕ} {F : A → Type 0} {r : Reading A} → IsExact s F r → (x : A) → F x → whole_reading r (whole_block (s x)) ≡ Some x
 unfolding whole_block
 whole_again {A} {s} {F} {r} law x fits = rw (law.again x (replicate (4096 - length (s x)) 0) fits, zeros_are (4096 - length (s x))) refl
 
@@ -121,9 +121,9 @@ block_is_filled before after at len at_most put =
     rw front same
 
 -- one field put behind another is both put in a row
-pub then_puts : {a b c : Writer} {x y : List ℕ} → Puts a b x → Puts b c y → Puts a c (x ++ y)
+pub then_puts : {a b c : Writer} {x y : List ℕ} → PutsField a b x → PutsField b c y → PutsField a c (x ++ y)
 then_puts {a} {b} {c} {x} {y} first second = record {
-  written = second.written ∙ ap (λ (w : List ℕ). w ++ y) first.written ∙ append_assoc (written a) x y;
+  written = second.written ∙ ap (λ (w : List ℕ). w ++ y) first.written ∙ append_assoc (written_bytes a) x y;
   size = second.size;
   same_block = second.same_block ∙ first.same_block;
 }

@@ -6,12 +6,12 @@ use Rattle.std.specs.Option.{option_map}
 use Rattle.std.specs.List.{list_all}
 use Rattle.std.proofs.lemmas.Bool.{and_parts, leb-true, le-leb, ltb-true, lt-ltb}
 use Rattle.std.proofs.lemmas.List.{take_at, drop_at, take-append-drop, length-append, length-take}
-use Rattle.asm_formats.specs.Bytes.{number, whole_block}
+use Rattle.asm_formats.specs.Bytes.{number_bytes, whole_block}
 use Rattle.asm_formats.specs.Items.{Key}
 use Rattle.asm_formats.specs.Records.{Frame, frame_spelling, is_frame, decoded_frame}
 use Rattle.asm_formats.proofs.Bodies.{frame_codec}
-use Rattle.asm_base.specs.Records.{Entry}
-use Rattle.asm_base.specs.Frames.{frame_fields, entry_frame, entry_in, framed, Head, HeadParts, to_head, head_reading}
+use Rattle.asm_base.specs.Records.{DirectoryRecord}
+use Rattle.asm_base.specs.Frames.{frame_fields, entry_frame, framed_entry, framed, Head, HeadParts, to_head, head_reading}
 use Rattle.asm_base.proofs.Exact.{IsBytes, IsExact, bind_some, test_some, both_exact, as_exact, fits_exact}
 use Rattle.asm_base.proofs.Numbers.{number_exact}
 use Rattle.asm_base.proofs.FieldLaws.{fixed_exact, are_zeros, zeros_are}
@@ -20,7 +20,7 @@ use Rattle.asm_base.proofs.NameLaws.{zeros_bytes}
 
 -- what stands before the value
 head_fields : Head → List ℕ
-head_fields h = codes "ASMR" ++ (number w16 h.0.kind ++ (number w32 h.0.a ++ (number w32 h.0.b ++ (number w16 h.1 ++ replicate 16 0))))
+head_fields h = codes "ASMR" ++ (number_bytes w16 h.0.kind ++ (number_bytes w32 h.0.a ++ (number_bytes w32 h.0.b ++ (number_bytes w16 h.1 ++ replicate 16 0))))
 
 record FitsHead (h : Head) : Type 0 where
   kind : h.0.kind < 2 ^ 16
@@ -52,14 +52,14 @@ head_exact =
 head_then_value : (k : Key) (v : List ℕ) → head_fields (k, length v) ++ v ≡ frame_fields (k, v)
 unfolding head_fields frame_fields
 head_then_value k v =
-    let a = number w16 k.kind in
-    let b = number w32 k.a in
-    let c = number w32 k.b in
-    let d = number w16 (length v) in
+    let a = number_bytes w16 k.kind in
+    let b = number_bytes w32 k.a in
+    let c = number_bytes w32 k.b in
+    let d = number_bytes w16 (length v) in
     let z : List ℕ = replicate 16 0 in
     rw (append_assoc a (b ++ (c ++ (d ++ z))) v, append_assoc b (c ++ (d ++ z)) v, append_assoc c (d ++ z) v, append_assoc d z v) refl
 
-pub spelling_is : (e : Entry) → frame_spelling (entry_frame e) ≡ whole_block (frame_fields e)
+pub spelling_is : (e : DirectoryRecord) → frame_spelling (entry_frame e) ≡ whole_block (frame_fields e)
 unfolding frame_spelling frame_fields
 spelling_is e = refl
 
@@ -93,9 +93,9 @@ filled : (fields : List ℕ) → whole_block fields ≡ fields ++ replicate (409
 unfolding whole_block
 filled fields = refl
 
-frame_found : (bytes : List ℕ) → length bytes ≡ 4096 → IsBytes bytes → (f : Frame) → option_map entry_frame (entry_in bytes) ≡ Some f → (is_frame f ≡ true) × (bytes ≡ frame_spelling f)
+frame_found : (bytes : List ℕ) → length bytes ≡ 4096 → IsBytes bytes → (f : Frame) → option_map entry_frame (framed_entry bytes) ≡ Some f → (is_frame f ≡ true) × (bytes ≡ frame_spelling f)
 frame_found bytes len are f e =
-    let m = map_some entry_frame (entry_in bytes) f e in
+    let m = map_some entry_frame (framed_entry bytes) f e in
     let h = bind_some (λ (h : Head × List ℕ). framed h.0 h.1) (head_reading bytes) m.0 m.1 in
     let one = head_exact.takes bytes h.0.0 h.0.1 are h.1 in
     let k = h.0.0.0 in
@@ -117,7 +117,7 @@ frame_found bytes len are f e =
     let ok : is_frame (entry_frame (k, v)) ≡ true = frame_is (entry_frame (k, v)) (record { kind = one.fits.kind; a = one.fits.a; b = one.fits.b; few = omega (arith, few, v_len) }) in
     subst (λ (x : Frame). (is_frame x ≡ true) × (bytes ≡ frame_spelling x)) (ap entry_frame t.1 ∙ m.2) (ok, all ∙ sym (spelling_is (k, v)))
 
-frame_again : (bytes : List ℕ) (f : Frame) → is_frame f ≡ true → bytes ≡ frame_spelling f → option_map entry_frame (entry_in bytes) ≡ Some f
+frame_again : (bytes : List ℕ) (f : Frame) → is_frame f ≡ true → bytes ≡ frame_spelling f → option_map entry_frame (framed_entry bytes) ≡ Some f
 frame_again bytes f ok e =
     let fits = frame_fits f ok in
     let k = f.key in
@@ -130,5 +130,5 @@ frame_again bytes f ok e =
     rw (le-leb (length v) 4064 fits.few, le-leb (length v) (length (v ++ zeros)) (omega (arith, length-append v zeros)), drop_at v zeros (length v) refl, zeros_are (4096 - length (frame_fields (k, v))), take_at v zeros (length v) refl) refl in
     rw (all, read, inside) refl
 
-pub frame_is_read : (bytes : List ℕ) → length bytes ≡ 4096 → IsBytes bytes → option_map entry_frame (entry_in bytes) ≡ decoded_frame bytes
-frame_is_read bytes len are = is_decoded frame_codec bytes (option_map entry_frame (entry_in bytes)) (frame_found bytes len are) (frame_again bytes)
+pub frame_is_read : (bytes : List ℕ) → length bytes ≡ 4096 → IsBytes bytes → option_map entry_frame (framed_entry bytes) ≡ decoded_frame bytes
+frame_is_read bytes len are = is_decoded frame_codec bytes (option_map entry_frame (framed_entry bytes)) (frame_found bytes len are) (frame_again bytes)

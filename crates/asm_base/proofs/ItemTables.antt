@@ -9,11 +9,11 @@ use Rattle.std.specs.Map.{remove_entry}
 use Rattle.std.specs.List.{AllByRecursion}
 use Rattle.std.specs.Option.{option_and_then, option_map}
 use Rattle.std.proofs.lemmas.Option.{none-some}
-use Rattle.asm_formats.specs.Items.{Item, Key, key, is_item}
+use Rattle.asm_formats.specs.Items.{Item, Key, item_key, is_item}
 use Rattle.asm_formats.specs.Values.{value, decoded_item}
 use Rattle.asm_formats.proofs.Bodies.{item_codec}
 use Rattle.asm_base.specs.Readings.{Reading}
-use Rattle.asm_base.specs.Records.{Entry, Ascend, add_item, all_of, ends_below, of_kinds, read_from}
+use Rattle.asm_base.specs.Records.{DirectoryRecord, Ascend, add_item, all_of, ends_below, of_kinds, read_from}
 use Rattle.asm_base.specs.Tables.{IsItemTable, entry_of_record, item_record}
 use Rattle.asm_base.proofs.Exact.{IsExact, bind_some, test_some}
 use Rattle.asm_base.proofs.Tables.{all_again, all_takes, read_again, read_found}
@@ -23,12 +23,12 @@ use Rattle.asm_base.proofs.Lists.{IsItem, ascend_push, insert_at_end, is_list_ta
 
 -- What is read is an item of the key with this value, and each such item is read: so the reading gives what is decoded.
 pub item_is_decoded : (k : Key) (bytes : List ℕ) (read : Option Item)
-    → ((i : Item) → read ≡ Some i → (is_item i ≡ true) × (key i ≡ k) × (bytes ≡ value i))
-    → ((i : Item) → is_item i ≡ true → key i ≡ k → bytes ≡ value i → read ≡ Some i)
+    → ((i : Item) → read ≡ Some i → (is_item i ≡ true) × (item_key i ≡ k) × (bytes ≡ value i))
+    → ((i : Item) → is_item i ≡ true → item_key i ≡ k → bytes ≡ value i → read ≡ Some i)
     → read ≡ decoded_item k bytes
 item_is_decoded k bytes (Some i) found only =
     let f = found i refl in
-    sym (ap (λ (j : Key). decoded_item j bytes) (sym f.1) ∙ ap (λ (b : List ℕ). decoded_item (key i) b) f.2 ∙ item_codec.again i f.0)
+    sym (ap (λ (j : Key). decoded_item j bytes) (sym f.1) ∙ ap (λ (b : List ℕ). decoded_item (item_key i) b) f.2 ∙ item_codec.again i f.0)
 item_is_decoded k bytes None found only = none (decoded_item k bytes) refl where
   none : (o : Option Item) → decoded_item k bytes ≡ o → None ≡ decoded_item k bytes
   none None e = sym e
@@ -37,8 +37,8 @@ item_is_decoded k bytes None found only = none (decoded_item k bytes) refl where
 -- A value that is read field by field and then tested is the item that is decoded.
 pub value_is_decoded : {A : Type 0} {s : A → List ℕ} {F : A → Type 0} {r : Reading A} (test : A → Bool) (make : A → Item) → IsExact s F r → (k : Key)
     → ((x : A) → value (make x) ≡ s x)
-    → ((x : A) → F x → test x ≡ true → (is_item (make x) ≡ true) × (key (make x) ≡ k))
-    → ((i : Item) → is_item i ≡ true → key i ≡ k → (x : A) × (make x ≡ i) × F x × (test x ≡ true))
+    → ((x : A) → F x → test x ≡ true → (is_item (make x) ≡ true) × (item_key (make x) ≡ k))
+    → ((i : Item) → is_item i ≡ true → item_key i ≡ k → (x : A) × (make x ≡ i) × F x × (test x ≡ true))
     → (bytes : List ℕ) → option_map make (option_and_then (λ x. cond (test x) (Some x) None) (all_of r bytes)) ≡ decoded_item k bytes
 value_is_decoded {A} {s} {F} {r} test make law k spelt allowed known bytes =
     item_is_decoded k bytes (option_map make (option_and_then (λ x. cond (test x) (Some x) None) (all_of r bytes))) found only where
@@ -46,7 +46,7 @@ value_is_decoded {A} {s} {F} {r} test make law k spelt allowed known bytes =
       made (Some x) i e = (x, refl, cc)
       made None i e = absurd cc
 
-      found : (i : Item) → option_map make (option_and_then (λ x. cond (test x) (Some x) None) (all_of r bytes)) ≡ Some i → (is_item i ≡ true) × (key i ≡ k) × (bytes ≡ value i)
+      found : (i : Item) → option_map make (option_and_then (λ x. cond (test x) (Some x) None) (all_of r bytes)) ≡ Some i → (is_item i ≡ true) × (item_key i ≡ k) × (bytes ≡ value i)
       found i e =
           let m = made (option_and_then (λ x. cond (test x) (Some x) None) (all_of r bytes)) i e in
           let a = bind_some (λ (x : A). cond (test x) (Some x) None) (all_of r bytes) m.0 m.1 in
@@ -54,9 +54,9 @@ value_is_decoded {A} {s} {F} {r} test make law k spelt allowed known bytes =
           let w = all_takes law bytes a.0 a.1 in
           let ok = allowed a.0 w.1 t.0 in
           let same : make a.0 ≡ i = ap make t.1 ∙ m.2 in
-          subst (λ (j : Item). (is_item j ≡ true) × (key j ≡ k) × (bytes ≡ value j)) same (ok.0, ok.1, w.0 ∙ sym (spelt a.0))
+          subst (λ (j : Item). (is_item j ≡ true) × (item_key j ≡ k) × (bytes ≡ value j)) same (ok.0, ok.1, w.0 ∙ sym (spelt a.0))
 
-      only : (i : Item) → is_item i ≡ true → key i ≡ k → bytes ≡ value i → option_map make (option_and_then (λ x. cond (test x) (Some x) None) (all_of r bytes)) ≡ Some i
+      only : (i : Item) → is_item i ≡ true → item_key i ≡ k → bytes ≡ value i → option_map make (option_and_then (λ x. cond (test x) (Some x) None) (all_of r bytes)) ≡ Some i
       only i ok at e =
           let x = known i ok at in
           let spelling : bytes ≡ s x.0 = e ∙ ap value (sym x.1) ∙ spelt x.0 in
@@ -71,11 +71,11 @@ pub record IsEntry {X : Type 0} (item_of : X → Item) (entry_of : Item → Opti
 
 -- each item of the kinds is that of an entry
 abbrev pub AreEntries : {X : Type 0} → (Key → Bool) → (X → Item) → Type 0
-AreEntries {X} is_mine item_of = (i : Item) → is_mine (key i) ≡ true → (x : X) × (i ≡ item_of x)
+AreEntries {X} is_mine item_of = (i : Item) → is_mine (item_key i) ≡ true → (x : X) × (i ≡ item_of x)
 
 -- then a record of the kinds that says no entry says no item
 pub nothing_decoded : {X : Type 0} {item_of : X → Item} {entry_of : Item → Option X} → IsEntry item_of entry_of → (is_mine : Key → Bool) → AreEntries is_mine item_of
-    → (e : Entry) → is_mine e.0 ≡ true → entry_of_record entry_of e ≡ None → decoded_item e.0 e.1 ≡ None
+    → (e : DirectoryRecord) → is_mine e.0 ≡ true → entry_of_record entry_of e ≡ None → decoded_item e.0 e.1 ≡ None
 unfolding entry_of_record
 nothing_decoded {X} {item_of} {entry_of} law is_mine all e mine none = by (decoded_item e.0 e.1) refl where
   by : (o : Option Item) → decoded_item e.0 e.1 ≡ o → o ≡ None
@@ -86,16 +86,16 @@ nothing_decoded {X} {item_of} {entry_of} law is_mine all e mine none = by (decod
 
 -- the entry of a record whose value was read
 pub entry_is_read : {X A : Type 0} {item_of : X → Item} {entry_of : Item → Option X} → IsEntry item_of entry_of → (make : A → Item) (entry : A → X) → ((x : A) → make x ≡ item_of (entry x))
-    → (e : Entry) (read : Option A) → option_map make read ≡ decoded_item e.0 e.1 → entry_of_record entry_of e ≡ option_map entry read
+    → (e : DirectoryRecord) (read : Option A) → option_map make read ≡ decoded_item e.0 e.1 → entry_of_record entry_of e ≡ option_map entry read
 unfolding entry_of_record
 entry_is_read {X} {A} {item_of} {entry_of} law make entry same e (Some x) is = rw (← is) (ap entry_of (same x) ∙ law.back (entry x))
 entry_is_read {X} {A} {item_of} {entry_of} law make entry same e None is = rw (← is) refl
 
 module _ {K T : Type 0} {item_of : K × T → Item} {entry_of : Item → Option (K × T)} (law : IsEntry item_of entry_of) where
-  abbrev record_of : K × T → Entry
+  abbrev record_of : K × T → DirectoryRecord
   record_of x = item_record (item_of x)
 
-  takes : (is_mine : Key → Bool) (e : Entry) (x : K × T) → is_mine e.0 ≡ true → entry_of_record entry_of e ≡ Some x → (record_of x ≡ e) × (is_item (item_of x) ≡ true)
+  takes : (is_mine : Key → Bool) (e : DirectoryRecord) (x : K × T) → is_mine e.0 ≡ true → entry_of_record entry_of e ≡ Some x → (record_of x ≡ e) × (is_item (item_of x) ≡ true)
   unfolding entry_of_record
   takes is_mine e x mine read =
       let b = bind_some entry_of (decoded_item e.0 e.1) x read in
@@ -112,7 +112,7 @@ module _ {K T : Type 0} {item_of : K × T → Item} {entry_of : Item → Option 
   is_entry_item is_mine = record { takes = takes is_mine; again = again }
 
   -- what is read is a table whose records are those of its kinds
-  pub items_found : (is_mine : Key → Bool) (is_below : K → K → Bool) (records : List Entry) (read : Option (List (K × T)))
+  pub items_found : (is_mine : Key → Bool) (is_below : K → K → Bool) (records : List DirectoryRecord) (read : Option (List (K × T)))
       → read ≡ read_from is_mine (add_item is_below (entry_of_record entry_of)) [] records
       → IfSome read (λ t. IsItemTable is_below item_of t × (of_kinds is_mine records ≡ map record_of t))
   items_found is_mine is_below records None e = tt
@@ -120,13 +120,13 @@ module _ {K T : Type 0} {item_of : K × T → Item} {entry_of : Item → Option 
       let f = read_found (is_list_table (is_entry_item is_mine) is_below) [] records t (tt, tt) (sym e) in (f.1, f.0)
 
   -- every table that has these records is read
-  pub items_again : (is_mine : Key → Bool) (is_below : K → K → Bool) (records : List Entry) (read : Option (List (K × T))) (t : List (K × T))
+  pub items_again : (is_mine : Key → Bool) (is_below : K → K → Bool) (records : List DirectoryRecord) (read : Option (List (K × T))) (t : List (K × T))
       → read ≡ read_from is_mine (add_item is_below (entry_of_record entry_of)) [] records
       → IsItemTable is_below item_of t → of_kinds is_mine records ≡ map record_of t → read ≡ Some t
   items_again is_mine is_below records read t e fits same = e ∙ read_again (is_list_table (is_entry_item is_mine) is_below) [] records t (tt, tt) fits same
 
   -- a record whose entry comes behind the others is taken up by an insert
-  pub entry_taken : (R : K → K → Ordering) → IsTotalOrder R → (items new : List (K × T)) (e : Entry) (x : K × T)
+  pub entry_taken : (R : K → K → Ordering) → IsTotalOrder R → (items new : List (K × T)) (e : DirectoryRecord) (x : K × T)
       → Ascend (λ a b. is_lt (R a b)) items → entry_of_record entry_of e ≡ Some x → ends_below (λ a b. is_lt (R a b)) items x.0 ≡ true → new ≡ insert_entry R items x.0 x.1
       → (add_item (λ a b. is_lt (R a b)) (entry_of_record entry_of) items e ≡ Some new) × Ascend (λ a b. is_lt (R a b)) new
   entry_taken R order items new e x up read ends put =

@@ -7,16 +7,16 @@ use Rattle.std.specs.BTreeMap.{insert_entry}
 use Rattle.std.specs.List.{AllByRecursion, slice_get}
 use Rattle.std.proofs.lemmas.List.{map_push}
 use Rattle.asm_formats.specs.Items.{Key}
-use Rattle.asm_base.specs.Records.{Entry, add_item, ends_below, Ascend}
+use Rattle.asm_base.specs.Records.{DirectoryRecord, add_item, ends_below, Ascend}
 use Rattle.asm_base.proofs.Exact.{bind_some, test_some, some_is}
 use Rattle.asm_base.proofs.Tables.{IsTable}
 
 -- an item is read exactly from its record
-pub record IsItem {K T : Type 0} (is_mine : Key → Bool) (record_of : K × T → Entry) (F : K × T → Type 0) (item_of : Entry → Option (K × T)) : Type 0 where
-  pub takes : (e : Entry) (x : K × T) → is_mine e.0 ≡ true → item_of e ≡ Some x → (record_of x ≡ e) × F x
+pub record IsItem {K T : Type 0} (is_mine : Key → Bool) (record_of : K × T → DirectoryRecord) (F : K × T → Type 0) (item_of : DirectoryRecord → Option (K × T)) : Type 0 where
+  pub takes : (e : DirectoryRecord) (x : K × T) → is_mine e.0 ≡ true → item_of e ≡ Some x → (record_of x ≡ e) × F x
   pub again : (x : K × T) → F x → item_of (record_of x) ≡ Some x
 
-module _ {K T : Type 0} {is_mine : Key → Bool} {record_of : K × T → Entry} {F : K × T → Type 0} {item_of : Entry → Option (K × T)} (law : IsItem is_mine record_of F item_of) (is_below : K → K → Bool) where
+module _ {K T : Type 0} {is_mine : Key → Bool} {record_of : K × T → DirectoryRecord} {F : K × T → Type 0} {item_of : DirectoryRecord → Option (K × T)} (law : IsItem is_mine record_of F item_of) (is_below : K → K → Bool) where
   abbrev pub Fits : List (K × T) → Type 0
   Fits t = Ascend is_below t × AllByRecursion F t
 
@@ -29,23 +29,23 @@ module _ {K T : Type 0} {is_mine : Key → Bool} {record_of : K × T → Entry} 
   all_push [] x all f = (f, tt)
   all_push (a ∷ t) x all f = (all.0, all_push t x all.1 f)
 
-  next_item : (t : List (K × T)) (e : Entry) (u : List (K × T)) → is_mine e.0 ≡ true → Fits t → add_item is_below item_of t e ≡ Some u → (map record_of t ++ e ∷ [] ≡ map record_of u) × Fits u
+  next_item : (t : List (K × T)) (e : DirectoryRecord) (u : List (K × T)) → is_mine e.0 ≡ true → Fits t → add_item is_below item_of t e ≡ Some u → (map record_of t ++ e ∷ [] ≡ map record_of u) × Fits u
   next_item t e u mine fits a =
       let b = bind_some (λ (x : K × T). cond (ends_below is_below t x.0) (Some (t ++ x ∷ [])) None) (item_of e) u a in
       let x = b.0 in
       let g = test_some (ends_below is_below t x.0) (t ++ x ∷ []) u b.2 in
       let item = law.takes e x mine b.1 in
-      let made : map record_of t ++ e ∷ [] ≡ map record_of (t ++ x ∷ []) = ap (λ (r : Entry). map record_of t ++ r ∷ []) (sym item.0) ∙ sym (map_push record_of t x) in
+      let made : map record_of t ++ e ∷ [] ≡ map record_of (t ++ x ∷ []) = ap (λ (r : DirectoryRecord). map record_of t ++ r ∷ []) (sym item.0) ∙ sym (map_push record_of t x) in
       subst (λ (v : List (K × T)). (map record_of t ++ e ∷ [] ≡ map record_of v) × Fits v) g.1 (made, (ascend_push t x fits.0 g.0, all_push t x fits.1 item.1))
 
-  heads : (r s : Entry) (rs ss : List Entry) → r ∷ rs ≡ s ∷ ss → (r ≡ s) × (rs ≡ ss)
+  heads : (r s : DirectoryRecord) (rs ss : List DirectoryRecord) → r ∷ rs ≡ s ∷ ss → (r ≡ s) × (rs ≡ ss)
   heads r s rs ss e = (cc, cc)
 
   one_item : (x y : K × T) → F x → F y → record_of x ≡ record_of y → x ≡ y
   one_item x y f g e = some_is x y (sym (law.again x f) ∙ ap item_of e ∙ law.again y g)
 
   -- the next record of a table is one of an item behind the others
-  item_follows : (t : List (K × T)) (e : Entry) (es : List Entry) (whole : List (K × T)) → AllByRecursion F t → Fits whole → map record_of t ++ e ∷ es ≡ map record_of whole → (x : K × T) × (item_of e ≡ Some x) × (ends_below is_below t x.0 ≡ true)
+  item_follows : (t : List (K × T)) (e : DirectoryRecord) (es : List DirectoryRecord) (whole : List (K × T)) → AllByRecursion F t → Fits whole → map record_of t ++ e ∷ es ≡ map record_of whole → (x : K × T) × (item_of e ≡ Some x) × (ends_below is_below t x.0 ≡ true)
   item_follows [] e es [] all fits s = absurd cc
   item_follows [] e es (w ∷ ws) all fits s =
       let h = heads e (record_of w) es (map record_of ws) s in
@@ -62,7 +62,7 @@ module _ {K T : Type 0} {is_mine : Key → Bool} {record_of : K × T → Entry} 
       let h = heads (record_of a) (record_of w) (map record_of (b ∷ t) ++ e ∷ es) (map record_of (v ∷ ws)) s in
       item_follows (b ∷ t) e es (v ∷ ws) all.1 (fits.0.1, fits.1.1) h.1
 
-  follows_item : (t : List (K × T)) (e : Entry) (es : List Entry) (whole : List (K × T)) → Fits t → Fits whole → map record_of t ++ e ∷ es ≡ map record_of whole → (u : List (K × T)) × (add_item is_below item_of t e ≡ Some u)
+  follows_item : (t : List (K × T)) (e : DirectoryRecord) (es : List DirectoryRecord) (whole : List (K × T)) → Fits t → Fits whole → map record_of t ++ e ∷ es ≡ map record_of whole → (u : List (K × T)) × (add_item is_below item_of t e ≡ Some u)
   follows_item t e es whole fits fits_whole s =
       let x = item_follows t e es whole fits.1 fits_whole s in
       (t ++ x.0 ∷ [], rw (x.1, x.2) refl)

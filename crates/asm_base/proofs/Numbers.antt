@@ -6,7 +6,7 @@ use Rattle.std.proofs.lemmas.List.{append-nil, drop_at, take-append-drop, length
 use Rattle.std.proofs.lemmas.Nat.{same_from_place, mod_below}
 use Rattle.byteorder.specs.Endian.{big_from}
 use Rattle.byteorder.specs.Numbers.{big_from-cons, big_from-lt, big_from-take, big_number-reads_back, length-bytes_high_first}
-use Rattle.asm_formats.specs.Bytes.{number}
+use Rattle.asm_formats.specs.Bytes.{number_bytes}
 use Rattle.asm_base.specs.Readings.{number_reading}
 use Rattle.asm_base.proofs.Exact.{IsBytes, IsExact, Begins}
 
@@ -51,8 +51,8 @@ written_again n bytes long fits =
     ap (λ (bs : List ℕ). big_from 0 n bs) (sym (append-nil (bytes_high_first n (big_from 0 n bytes)))) ∙ big_number-reads_back n (big_from 0 n bytes) [] (big_from-lt 0 n bytes fits) in
     same_bytes n (bytes_high_first n (big_from 0 n bytes)) (take n bytes) (length-bytes_high_first n (big_from 0 n bytes)) (omega (arith, length-take n bytes)) (IsBytes-of_number n (big_from 0 n bytes)) front (read ∙ sym (big_from-take 0 n n bytes (omega arith)))
 
-pub length-number : (w : Width) (x : ℕ) → length (number w x) ≡ byte_len w
-unfolding number
+pub length-number : (w : Width) (x : ℕ) → length (number_bytes w x) ≡ byte_len w
+unfolding number_bytes
 length-number w x = length-bytes_high_first (byte_len w) x
 
 -- a test that failed
@@ -60,18 +60,18 @@ else_some : {A : Type 0} (b : Bool) (x y : A) → cond b None (Some x) ≡ Some 
 else_some true x y e = absurd cc
 else_some false x y e = (refl, cc)
 
-pub number_exact : (w : Width) → IsExact (number w) (λ x. x < 256 ^ byte_len w) (number_reading w)
-unfolding number number_reading
+pub number_exact : (w : Width) → IsExact (number_bytes w) (λ x. x < 256 ^ byte_len w) (number_reading w)
+unfolding number_bytes number_reading
 number_exact w = let n = byte_len w in record {
   takes = λ bytes x rest fits e.
       let g = else_some (ltb (length bytes) n) (big_from 0 n bytes, drop n bytes) (x, rest) e in
       let long : n ≤ length bytes = ltb-false _ _ g.0 in
-      let whole : Begins (number w) (λ y. y < 256 ^ n) bytes (big_from 0 n bytes) (drop n bytes) = record {
+      let whole : Begins (number_bytes w) (λ y. y < 256 ^ n) bytes (big_from 0 n bytes) (drop n bytes) = record {
         parts = rw (written_again n bytes long fits) (sym (take-append-drop n bytes));
         fits = big_from-lt 0 n bytes fits;
         rest_bytes = IsBytes-drop n bytes fits;
       } in
-      subst (λ (p : ℕ × List ℕ). Begins (number w) (λ y. y < 256 ^ n) bytes p.0 p.1) g.1 whole;
+      subst (λ (p : ℕ × List ℕ). Begins (number_bytes w) (λ y. y < 256 ^ n) bytes p.0 p.1) g.1 whole;
   again = λ x rest fits.
       let len = length-bytes_high_first n x in
       let long : ltb (length (bytes_high_first n x ++ rest)) n ≡ false = le-ltb _ _ (omega (arith, length-append (bytes_high_first n x) rest)) in

@@ -10,5 +10,5 @@ Chunk = ℕ × ℕ
 abbrev pub chunk_cmp : Chunk → Chunk → Ordering
 chunk_cmp x y = ordering_then (nat_cmp x.0 y.0) (nat_cmp x.1 y.1)
 
-abbrev pub is_before : Chunk → Chunk → Bool
-is_before x y = is_lt (chunk_cmp x y)
+abbrev pub is_chunk_before : Chunk → Chunk → Bool
+is_chunk_before x y = is_lt (chunk_cmp x y)

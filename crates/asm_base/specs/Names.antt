@@ -15,8 +15,8 @@ abbrev pub folded_cmp : Bytes → Bytes → Ordering
 folded_cmp a b = slice_cmp nat_cmp (folded a) (folded b)
 
 -- `+`, the group's name, and the parts, each after `/`
-abbrev pub path_text : Bytes → List Bytes → Bytes
-path_text group parts = 43 ∷ group ++ flat_map (λ part. 47 ∷ part) parts
+abbrev pub path_text_in_group : Bytes → List Bytes → Bytes
+path_text_in_group group parts = 43 ∷ group ++ flat_map (λ part. 47 ∷ part) parts
 
 -- a path of the grammar
 pub record IsPath (group : Bytes) (parts : List Bytes) : Type 0 where

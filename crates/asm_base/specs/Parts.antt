@@ -10,11 +10,11 @@ use Rattle.asm_formats.specs.Items.{Home, DiskInfo, Pending, Node, Settings}
 use Rattle.asm_base.specs.Readings.{Reading, both, byte_reading, decoded, number_reading}
 
 -- an absent home is 255 and 0
-abbrev pub home_of : ℕ × ℕ → Option (Option Home)
-home_of p = if p.0 == 255 then (if p.1 == 0 then Some None else None) else Some (Some (record { disk = p.0; unit = p.1 }))
+abbrev pub home_of_numbers : ℕ × ℕ → Option (Option Home)
+home_of_numbers p = if p.0 == 255 then (if p.1 == 0 then Some None else None) else Some (Some (record { disk = p.0; unit = p.1 }))
 
 unfoldable pub home_reading : Reading (Option Home)
-home_reading = decoded home_of (both byte_reading (number_reading w32))
+home_reading = decoded home_of_numbers (both byte_reading (number_reading w32))
 
 abbrev pub DiskParts : Type 0
 DiskParts = ℕ × (Bytes × Bytes)

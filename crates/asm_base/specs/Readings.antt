@@ -62,8 +62,8 @@ repeated zero reading bytes = Some ([], bytes)
 repeated (suc n) reading bytes = option_and_then (λ x. option_and_then (λ xs. Some (x.0 ∷ xs.0, xs.1)) (repeated n reading x.1)) (reading bytes)
 
 -- a number of one byte, and then as many values
-abbrev pub counted : {A : Type 0} → ℕ → Reading A → Reading (List A)
-counted limit reading bytes = option_and_then (λ n. if nat_le n.0 limit then repeated n.0 reading n.1 else None) (byte_reading bytes)
+abbrev pub counted_reading : {A : Type 0} → ℕ → Reading A → Reading (List A)
+counted_reading limit reading bytes = option_and_then (λ n. if nat_le n.0 limit then repeated n.0 reading n.1 else None) (byte_reading bytes)
 
 -- ---- fields that are made so
 
@@ -78,5 +78,5 @@ name_reading width = tested (is_part width) (text_reading width)
 -- ---- whole bodies
 
 -- what a reading makes of all the bytes, where only zeros stand behind what it takes
-abbrev pub whole : {A : Type 0} → Reading A → List ℕ → Option A
-whole reading bytes = option_and_then (λ x. if list_all (λ b. b == 0) x.1 then Some x.0 else None) (reading bytes)
+abbrev pub whole_reading : {A : Type 0} → Reading A → List ℕ → Option A
+whole_reading reading bytes = option_and_then (λ x. if list_all (λ b. b == 0) x.1 then Some x.0 else None) (reading bytes)

@@ -18,26 +18,26 @@ abbrev pub is_key : Key → Key → Bool
 is_key x y = is_at (key_cmp x) y
 
 -- a record, as a key and the bytes of its value
-abbrev pub Entry : Type 0
-Entry = Key × List ℕ
+abbrev pub DirectoryRecord : Type 0
+DirectoryRecord = Key × List ℕ
 
 -- the keys of records
-abbrev pub keys_of : List Entry → List Key
+abbrev pub keys_of : List DirectoryRecord → List Key
 keys_of records = map (λ e. e.0) records
 
 -- the value at a key
-abbrev pub record_at : List Entry → Key → Option (List ℕ)
+abbrev pub record_at : List DirectoryRecord → Key → Option (List ℕ)
 record_at records key = lookup (is_at (key_cmp key)) records
 
 -- the records with another value at a key, and without a key
-abbrev pub with_record : List Entry → Key → List ℕ → List Entry
+abbrev pub with_record : List DirectoryRecord → Key → List ℕ → List DirectoryRecord
 with_record records key value = insert_entry key_cmp records key value
 
-abbrev pub without_record : List Entry → Key → List Entry
+abbrev pub without_record : List DirectoryRecord → Key → List DirectoryRecord
 without_record records key = remove_entry (is_at (key_cmp key)) records
 
 -- the records of some kinds, in order
-abbrev pub of_kinds : (Key → Bool) → List Entry → List Entry
+abbrev pub of_kinds : (Key → Bool) → List DirectoryRecord → List DirectoryRecord
 of_kinds is_mine records = filter (λ e. is_mine e.0) records
 
 -- each is a byte
@@ -49,7 +49,7 @@ unfoldable pub all_of : {A : Type 0} → Reading A → List ℕ → Option A
 all_of reading bytes = if are_bytes bytes then option_and_then (λ x. if length x.1 == 0 then Some x.0 else None) (reading bytes) else None
 
 -- a table that takes up the records of its kinds one after the other, or None where one doesn't follow
-unfoldable pub read_from : {T : Type 0} → (Key → Bool) → (T → Entry → Option T) → T → List Entry → Option T
+unfoldable pub read_from : {T : Type 0} → (Key → Bool) → (T → DirectoryRecord → Option T) → T → List DirectoryRecord → Option T
 read_from is_mine add table [] = Some table
 read_from is_mine add table (e ∷ es) = if is_mine e.0 then option_and_then (λ next. read_from is_mine add next es) (add table e) else read_from is_mine add table es
 
@@ -62,7 +62,7 @@ ends_below is_below (x ∷ []) k = is_below x.0 k
 ends_below is_below (x ∷ y ∷ ys) k = ends_below is_below (y ∷ ys) k
 
 -- the table with the item of one record more, where that comes behind the others
-abbrev pub add_item : {K T : Type 0} → (K → K → Bool) → (Entry → Option (K × T)) → List (K × T) → Entry → Option (List (K × T))
+abbrev pub add_item : {K T : Type 0} → (K → K → Bool) → (DirectoryRecord → Option (K × T)) → List (K × T) → DirectoryRecord → Option (List (K × T))
 add_item is_below item_of table e = option_and_then (λ x. if ends_below is_below table x.0 then Some (table ++ x ∷ []) else None) (item_of e)
 
 -- each item's key is below the next one's

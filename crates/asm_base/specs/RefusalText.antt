@@ -6,7 +6,7 @@ use Rattle.asm_base.specs.declared.refusal_text.Argument.{Argument}
 use Rattle.asm_base.specs.declared.refusal_text.Argument.TheVariants as argument
 
 -- the words of an argument: one or none
-abbrev pub printed : Argument → List Bytes
-printed argument.Nothing = []
-printed (argument.Text text) = text.now ∷ []
-printed (argument.Number n) = decimal n ∷ []
+abbrev pub argument_words : Argument → List Bytes
+argument_words argument.Nothing = []
+argument_words (argument.Text text) = text.now ∷ []
+argument_words (argument.Number n) = decimal n ∷ []

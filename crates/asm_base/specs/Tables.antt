@@ -2,16 +2,16 @@
 use Rattle.std.specs.Prelude.{List, Bool, Option, IsTrue}
 use Rattle.std.specs.List.{AllByRecursion}
 use Rattle.std.specs.Option.{option_and_then}
-use Rattle.asm_formats.specs.Items.{Item, key, is_item}
+use Rattle.asm_formats.specs.Items.{Item, item_key, is_item}
 use Rattle.asm_formats.specs.Values.{value, decoded_item}
-use Rattle.asm_base.specs.Records.{Entry, Ascend}
+use Rattle.asm_base.specs.Records.{DirectoryRecord, Ascend}
 
 -- the record of an item
-abbrev pub item_record : Item → Entry
-item_record i = (key i, value i)
+abbrev pub item_record : Item → DirectoryRecord
+item_record i = (item_key i, value i)
 
 -- what the item of a record is as an entry, where entry_of says which entry an item is
-unfoldable pub entry_of_record : {X : Type 0} → (Item → Option X) → Entry → Option X
+unfoldable pub entry_of_record : {X : Type 0} → (Item → Option X) → DirectoryRecord → Option X
 entry_of_record entry_of e = option_and_then entry_of (decoded_item e.0 e.1)
 
 -- the keys ascend, and each entry is an item of the formats, where item_of says which

@@ -4,9 +4,9 @@
 ghost use Rattle.std.specs.Prelude.{◌≡◌, ◌≤◌, ◌+◌, ◌++◌, ◌∷◌, [], ◌<◌, ◌^◌, ◌==◌, List, ℕ, drop, length, replicate};
 ghost use Rattle.std.specs.Int.{w16, w32, w64};
 ghost use Rattle.std.specs.List.{list_all};
-ghost use Rattle.asm_formats.specs.Bytes.{number, whole_block};
+ghost use Rattle.asm_formats.specs.Bytes.{number_bytes, whole_block};
 ghost use Rattle.asm_formats.specs.Codes.{flag};
-ghost use Rattle.asm_base.specs.Cursors.{Puts, Takes, Reads, written};
+ghost use Rattle.asm_base.specs.Cursors.{PutsField, TakesValue, Reads, written_bytes};
 ghost use Rattle.asm_base.specs.Readings.{byte_reading, number_reading, fixed_reading, flag_reading};
 
 use crate::block::Block;
@@ -25,7 +25,7 @@ pub struct Writer<'a> {
 /// Puts bytes behind what was put before.
 pub fn put_bytes(to: &mut Writer, bytes: &[u8])
     requires { to.old.at + length bytes.now ≤ 4096 }
-    ensures puts { Puts to.old to.new bytes.now }
+    ensures puts { PutsField to.old to.new bytes.now }
     ensures at { to.new.at ≡ to.old.at + length bytes.now }
 {
     let at = to.at as usize;
@@ -37,7 +37,7 @@ pub fn put_bytes(to: &mut Writer, bytes: &[u8])
 
 pub fn put_u8(to: &mut Writer, value: u8)
     requires { to.old.at + 1 ≤ 4096 }
-    ensures puts { Puts to.old to.new (value ∷ []) }
+    ensures puts { PutsField to.old to.new (value ∷ []) }
     ensures at { to.new.at ≡ to.old.at + 1 }
 {
     put_bytes(to, &[value]);
@@ -46,7 +46,7 @@ pub fn put_u8(to: &mut Writer, value: u8)
 #[tactic(auto, unfolding(asm_formats::specs::Bytes::number))]
 pub fn put_u16(to: &mut Writer, value: u16)
     requires { to.old.at + 2 ≤ 4096 }
-    ensures puts { Puts to.old to.new (number w16 value) }
+    ensures puts { PutsField to.old to.new (number_bytes w16 value) }
     ensures at { to.new.at ≡ to.old.at + 2 }
 {
     let mut field = [0; 2];
@@ -57,7 +57,7 @@ pub fn put_u16(to: &mut Writer, value: u16)
 #[tactic(auto, unfolding(asm_formats::specs::Bytes::number))]
 pub fn put_u32(to: &mut Writer, value: u32)
     requires { to.old.at + 4 ≤ 4096 }
-    ensures puts { Puts to.old to.new (number w32 value) }
+    ensures puts { PutsField to.old to.new (number_bytes w32 value) }
     ensures at { to.new.at ≡ to.old.at + 4 }
 {
     let mut field = [0; 4];
@@ -68,7 +68,7 @@ pub fn put_u32(to: &mut Writer, value: u32)
 #[tactic(auto, unfolding(asm_formats::specs::Bytes::number))]
 pub fn put_u64(to: &mut Writer, value: u64)
     requires { to.old.at + 8 ≤ 4096 }
-    ensures puts { Puts to.old to.new (number w64 value) }
+    ensures puts { PutsField to.old to.new (number_bytes w64 value) }
     ensures at { to.new.at ≡ to.old.at + 8 }
 {
     let mut field = [0; 8];
@@ -79,7 +79,7 @@ pub fn put_u64(to: &mut Writer, value: u64)
 /// Puts 1 for yes and 0 for no.
 pub fn put_flag(to: &mut Writer, value: bool)
     requires { to.old.at + 1 ≤ 4096 }
-    ensures puts { Puts to.old to.new (flag value ∷ []) }
+    ensures puts { PutsField to.old to.new (flag value ∷ []) }
     ensures at { to.new.at ≡ to.old.at + 1 }
 {
     put_u8(to, value as u8);
@@ -88,7 +88,7 @@ pub fn put_flag(to: &mut Writer, value: bool)
 /// Puts a set of disks: bit k, counted from the least, is disk k.
 pub fn put_set(to: &mut Writer, value: DiskSet)
     requires { to.old.at + 8 ≤ 4096 }
-    ensures puts { Puts to.old to.new (number w64 value) }
+    ensures puts { PutsField to.old to.new (number_bytes w64 value) }
     ensures at { to.new.at ≡ to.old.at + 8 }
 {
     put_u64(to, value.bits());
@@ -97,7 +97,7 @@ pub fn put_set(to: &mut Writer, value: DiskSet)
 /// Puts zeros.
 pub fn put_zeros(to: &mut Writer, count: u32)
     requires { to.old.at + count ≤ 4096 }
-    ensures puts { Puts to.old to.new (replicate count 0) }
+    ensures puts { PutsField to.old to.new (replicate count 0) }
     ensures at { to.new.at ≡ to.old.at + count }
 {
     let zeros = [0; 4096];
@@ -108,7 +108,7 @@ pub fn put_zeros(to: &mut Writer, count: u32)
 #[tactic(auto, using(crate::proofs::FieldLaws::block_is_filled), unfolding(asm_formats::specs::Bytes::whole_block))]
 pub fn finish(to: &mut Writer)
     requires { to.old.at ≤ 4096 }
-    ensures filled { to.new.block.now.bytes ≡ whole_block (written to.old) }
+    ensures filled { to.new.block.now.bytes ≡ whole_block (written_bytes to.old) }
     ensures same_block { to.new.block.ghost_name ≡ to.old.block.ghost_name }
 {
     let left = 4096 - to.at;
@@ -133,7 +133,7 @@ impl<'a> Model for Reader<'a> {
 
 /// Takes a byte, or None where none is left.
 pub fn take_u8(from: &mut Reader) -> Option<u8>
-    ensures { Takes from.old from.new result (byte_reading from.old) }
+    ensures { TakesValue from.old from.new result (byte_reading from.old) }
 {
     let rest = &from.bytes[from.at as usize..];
     let value = *rest.first()?;
@@ -144,7 +144,7 @@ pub fn take_u8(from: &mut Reader) -> Option<u8>
 /// Takes a number of two bytes, or None where fewer are left.
 #[tactic(auto, unfolding(crate::specs::Readings::number_reading))]
 pub fn take_u16(from: &mut Reader) -> Option<u16>
-    ensures { Takes from.old from.new result (number_reading w16 from.old) }
+    ensures { TakesValue from.old from.new result (number_reading w16 from.old) }
 {
     let rest = &from.bytes[from.at as usize..];
     if rest.len() < 2 {
@@ -158,7 +158,7 @@ pub fn take_u16(from: &mut Reader) -> Option<u16>
 /// Takes a number of four bytes, or None where fewer are left.
 #[tactic(auto, unfolding(crate::specs::Readings::number_reading))]
 pub fn take_u32(from: &mut Reader) -> Option<u32>
-    ensures { Takes from.old from.new result (number_reading w32 from.old) }
+    ensures { TakesValue from.old from.new result (number_reading w32 from.old) }
 {
     let rest = &from.bytes[from.at as usize..];
     if rest.len() < 4 {
@@ -172,7 +172,7 @@ pub fn take_u32(from: &mut Reader) -> Option<u32>
 /// Takes a number of eight bytes, or None where fewer are left.
 #[tactic(auto, unfolding(crate::specs::Readings::number_reading))]
 pub fn take_u64(from: &mut Reader) -> Option<u64>
-    ensures { Takes from.old from.new result (number_reading w64 from.old) }
+    ensures { TakesValue from.old from.new result (number_reading w64 from.old) }
 {
     let rest = &from.bytes[from.at as usize..];
     if rest.len() < 8 {
@@ -196,7 +196,7 @@ pub fn take_flag(from: &mut Reader) -> Option<bool>
 
 /// Takes a set of disks.
 pub fn take_set(from: &mut Reader) -> Option<DiskSet>
-    ensures { Takes from.old from.new result (number_reading w64 from.old) }
+    ensures { TakesValue from.old from.new result (number_reading w64 from.old) }
 {
     Some(DiskSet::from_bits(take_u64(from)?))
 }

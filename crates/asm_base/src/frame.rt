@@ -3,8 +3,8 @@
 ghost use Rattle.std.specs.Prelude.{◌≡◌, ◌≤◌, ◌<◌, ◌^◌, length, IfOk};
 ghost use Rattle.std.specs.Option.{option_map};
 ghost use Rattle.asm_formats.specs.Records.{frame_spelling, decoded_frame};
-ghost use Rattle.asm_base.specs.Cursors.{Puts, Reads};
-ghost use Rattle.asm_base.specs.Frames.{entry_frame, entry_in, frame_fields, head_reading};
+ghost use Rattle.asm_base.specs.Cursors.{PutsField, Reads};
+ghost use Rattle.asm_base.specs.Frames.{entry_frame, framed_entry, frame_fields, head_reading};
 
 use crate::block::Block;
 use crate::cursor::{
@@ -32,7 +32,7 @@ pub fn encode_record(key: &Key, value: &Value, block: &mut Block)
 fn put_frame(to: &mut Writer, key: Key, value: &[u8])
     requires start { to.old.at ≡ 0 }
     requires few { length value.now ≤ 4064 }
-    ensures puts { Puts to.old to.new (frame_fields (key, value.now)) }
+    ensures puts { PutsField to.old to.new (frame_fields (key, value.now)) }
     ensures at { to.new.at ≤ 4096 }
 {
     put_bytes(to, b"ASMR");
@@ -63,7 +63,7 @@ fn decode_bytes(alloc: Global, bytes: &[u8]) -> Result<Option<(Key, Value)>, NoM
 
 fn read_bytes(alloc: Global, bytes: &[u8]) -> Result<Option<(Key, Value)>, NoMemory>
     requires { length bytes.now ≤ 4096 }
-    ensures { IfOk result (λ read. read ≡ entry_in bytes.now) }
+    ensures { IfOk result (λ read. read ≡ framed_entry bytes.now) }
 {
     let mut from = Reader { bytes, at: 0 };
     let Some((key, len)) = take_record_head(&mut from) else {

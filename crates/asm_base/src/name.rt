@@ -5,7 +5,7 @@ ghost use Rattle.std.specs.List.{list_all};
 ghost use Rattle.std.specs.Option.{option_copied};
 ghost use Rattle.asm_group.specs.Names.{folded_byte, is_name, is_name_byte, is_letter, is_part, is_part_byte, is_same_name};
 ghost use Rattle.asm_formats.specs.Bytes.{name_field};
-ghost use Rattle.asm_base.specs.Cursors.{Puts, Takes};
+ghost use Rattle.asm_base.specs.Cursors.{PutsField, TakesValue};
 ghost use Rattle.asm_base.specs.Names.{folded_cmp, name_of};
 ghost use Rattle.asm_base.specs.Readings.{name_reading, text_in, text_reading};
 
@@ -159,7 +159,7 @@ fn folded_order(a: &[u8], b: &[u8]) -> Ordering
 pub fn put_text(to: &mut Writer, text: &[u8], width: u8)
     requires fits { length text.now ≤ width }
     requires room { to.old.at + width + 1 ≤ 4096 }
-    ensures puts { Puts to.old to.new (name_field width text.now) }
+    ensures puts { PutsField to.old to.new (name_field width text.now) }
     ensures at { to.new.at ≡ to.old.at + width + 1 }
 {
     let len = text.len() as u8;
@@ -172,7 +172,7 @@ pub fn put_text(to: &mut Writer, text: &[u8], width: u8)
 pub fn put_name(to: &mut Writer, name: &Name, width: u8)
     requires fits { length name.now ≤ width }
     requires room { to.old.at + width + 1 ≤ 4096 }
-    ensures puts { Puts to.old to.new (name_field width name.now) }
+    ensures puts { PutsField to.old to.new (name_field width name.now) }
     ensures at { to.new.at ≡ to.old.at + width + 1 }
 {
     put_text(to, name.as_bytes(), width);
@@ -181,7 +181,7 @@ pub fn put_name(to: &mut Writer, name: &Name, width: u8)
 /// Takes a text of a width, or None where the field is short, or isn't a spelling of one.
 #[tactic(auto, unfolding(crate::specs::Readings::text_reading))]
 pub fn take_text(alloc: Global, from: &mut Reader, width: u8) -> Result<Option<Text>, NoMemory>
-    ensures read { IfOk result (λ read. Takes from.old from.new read (text_reading width from.old)) }
+    ensures read { IfOk result (λ read. TakesValue from.old from.new read (text_reading width from.old)) }
     ensures err { OnErr result (from.new ≡ from.old) }
 {
     let Some(text) = text_in(&from.bytes[from.at as usize..], width) else {
@@ -196,7 +196,7 @@ pub fn take_text(alloc: Global, from: &mut Reader, width: u8) -> Result<Option<T
 /// spelling of one.
 #[tactic(auto, unfolding(crate::specs::Readings::text_reading), using(crate::proofs::NameLaws::part_is_longer))]
 pub fn take_name(alloc: Global, from: &mut Reader, width: u8) -> Result<Option<Name>, NoMemory>
-    ensures read { IfOk result (λ read. Takes from.old from.new read (name_reading width from.old)) }
+    ensures read { IfOk result (λ read. TakesValue from.old from.new read (name_reading width from.old)) }
     ensures err { OnErr result (from.new ≡ from.old) }
 {
     let Some(text) = text_in(&from.bytes[from.at as usize..], width) else {

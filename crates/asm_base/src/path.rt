@@ -2,7 +2,7 @@
 
 ghost use Rattle.std.specs.Prelude.{◌≡◌, ◌≤◌, length, IfOk, Some, None, if◌then◌else◌};
 ghost use Rattle.asm_group.specs.Names.{is_name, all_parts};
-ghost use Rattle.asm_base.specs.Paths.{behind, between_slashes, in_group, path_of, slash_at};
+ghost use Rattle.asm_base.specs.Paths.{parts_behind_slash, parts_between_slashes, path_with_group, path_of, slash_at};
 
 use crate::kinds::NoMemory;
 use crate::list::List;
@@ -41,7 +41,7 @@ impl Path {
 /// The same, without `+`.
 #[tactic(auto, using(crate::proofs::PathLaws::path_is, crate::proofs::PathLaws::no_group_name, crate::proofs::PathLaws::no_parts))]
 fn read_in_group(alloc: Global, bytes: &[u8]) -> Result<Option<Path>, NoMemory>
-    ensures { IfOk result (λ read. read ≡ in_group (between_slashes bytes.now)) }
+    ensures { IfOk result (λ read. read ≡ path_with_group (parts_between_slashes bytes.now)) }
 {
     let n = slash_at(bytes);
     let Some(group) = read_group(alloc, &bytes[..n])? else {
@@ -70,7 +70,7 @@ fn read_group(alloc: Global, bytes: &[u8]) -> Result<Option<Name>, NoMemory>
 /// The parts of which each stands behind a slash.
 #[tactic(auto, using(crate::proofs::PathLaws::refused, crate::proofs::PathLaws::read_more, crate::proofs::PathLaws::all_read))]
 fn read_parts(alloc: Global, bytes: &[u8]) -> Result<Option<List<Name>>, NoMemory>
-    ensures { IfOk result (λ read. read ≡ all_parts (behind bytes.now)) }
+    ensures { IfOk result (λ read. read ≡ all_parts (parts_behind_slash bytes.now)) }
 {
     let mut parts = List::new(alloc);
     let mut left = bytes;

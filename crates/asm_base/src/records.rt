@@ -2,7 +2,7 @@
 
 ghost use Rattle.std.specs.Prelude.{◌≡◌, ◌≤◌, [], length, if◌then◌else◌, IfOk, None, OnErr, OnOk, Some};
 ghost use Rattle.std.specs.Option.{option_copied};
-ghost use Rattle.asm_base.specs.Cursors.{written};
+ghost use Rattle.asm_base.specs.Cursors.{written_bytes};
 
 use crate::cursor::Writer;
 use crate::kinds::NoMemory;
@@ -87,7 +87,7 @@ impl Value {
     /// The bytes that a writer has put.
     pub fn from_writer(alloc: Global, from: &Writer) -> Result<Value, NoMemory>
         requires { from.now.at ≤ 4064 }
-        ensures { IfOk result (λ v. v ≡ written from.now) }
+        ensures { IfOk result (λ v. v ≡ written_bytes from.now) }
     {
         let block = &*from.block;
         Value::from_slice(alloc, &block.bytes[..from.at as usize])

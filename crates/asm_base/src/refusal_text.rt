@@ -5,8 +5,8 @@ ghost use Rattle.std.specs.Prelude.{◌≡◌, ◌++◌, ◌∷◌, [], ℕ, tak
 ghost use Rattle.std.specs.List.{flat_map};
 ghost use Rattle.asm_group.specs.Names.{Bytes};
 ghost use Rattle.asm_group.specs.Refusal.{limited_text, mode_text, refused, refusal_line, refusal_words, NoMemory as NoMemoryCause};
-ghost use Rattle.asm_base.specs.Refusals.{disk_name, limited_said, said};
-ghost use Rattle.asm_base.specs.RefusalText.{printed};
+ghost use Rattle.asm_base.specs.Refusals.{referred_disk_name, limited_said, said};
+ghost use Rattle.asm_base.specs.RefusalText.{argument_words};
 
 use crate::kinds::{Mode, NoMemory};
 use crate::refusal::{DiskRef, Limited, Refusal};
@@ -87,7 +87,7 @@ impl Refusal {
     /// The cause's arguments, where there are two, one or none.
     #[tactic(auto, unfolding(crate::specs::Refusals::said))]
     fn arguments<'a>(&'a self, disk: &'a [u8]) -> (Argument<'a>, Argument<'a>)
-        ensures { printed result.0 ++ printed result.1 ≡ drop 3 (refusal_words (said (λ _. disk.now) self.now)) }
+        ensures { argument_words result.0 ++ argument_words result.1 ≡ drop 3 (refusal_words (said (λ _. disk.now) self.now)) }
     {
         match self {
             Refusal::Syntax { at: n } | Refusal::BadPower { n } => {
@@ -155,7 +155,7 @@ pub fn no_memory_line() -> &'static [u8]
 impl DiskRef {
     /// The name of the disk, where its number stands for the name that is given.
     fn name<'a>(&'a self, numbered: &'a [u8]) -> &'a [u8]
-        ensures { result.now ≡ disk_name (λ _. numbered.now) self.now }
+        ensures { result.now ≡ referred_disk_name (λ _. numbered.now) self.now }
     {
         match self {
             DiskRef::Number(_) => numbered,
@@ -190,7 +190,7 @@ fn mode_text(mode: Mode) -> &'static [u8]
 
 /// The line with the argument after a space at its end, or as it is where there is none.
 fn with(line: Vec<u8>, argument: Argument<'_>) -> Result<Vec<u8>, NoMemory>
-    ensures { IfOk result (λ longer. longer.items ≡ line.items ++ flat_map (λ word. 32 ∷ word) (printed argument.entry)) }
+    ensures { IfOk result (λ longer. longer.items ≡ line.items ++ flat_map (λ word. 32 ∷ word) (argument_words argument.entry)) }
 {
     match argument {
         Argument::Nothing => Ok(line),

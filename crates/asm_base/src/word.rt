@@ -2,7 +2,7 @@
 
 ghost use Rattle.std.specs.Prelude.{◌≡◌, ◌≤◌, ◌+◌, ◌∷◌, []};
 ghost use Rattle.asm_formats.specs.Codes.{kind_code, mode_code, stripe_code, node_code, pending_code};
-ghost use Rattle.asm_base.specs.Cursors.{Puts, Reads};
+ghost use Rattle.asm_base.specs.Cursors.{PutsField, Reads};
 ghost use Rattle.asm_base.specs.Words.{kind_reading, mode_reading, stripe_reading, node_kind_reading, pending_kind_reading};
 
 use crate::cursor::{Reader, Writer, put_u8, take_u8};
@@ -11,7 +11,7 @@ use crate::kinds::{GroupKind, Mode, NodeKind, PendingKind, Stripe};
 /// Puts the kind of a group: 1 EXTERNAL, 2 NORMAL, 3 HIGH redundancy.
 pub fn put_kind(to: &mut Writer, kind: GroupKind)
     requires { to.old.at + 1 ≤ 4096 }
-    ensures puts { Puts to.old to.new (kind_code kind ∷ []) }
+    ensures puts { PutsField to.old to.new (kind_code kind ∷ []) }
     ensures at { to.new.at ≡ to.old.at + 1 }
 {
     let code = match kind {
@@ -37,7 +37,7 @@ pub fn take_kind(from: &mut Reader) -> Option<GroupKind>
 /// Puts the mode of a disk: 1 online, 2 offline, 3 syncing, 4 dropping, 5 forced.
 pub fn put_mode(to: &mut Writer, mode: Mode)
     requires { to.old.at + 1 ≤ 4096 }
-    ensures puts { Puts to.old to.new (mode_code mode ∷ []) }
+    ensures puts { PutsField to.old to.new (mode_code mode ∷ []) }
     ensures at { to.new.at ≡ to.old.at + 1 }
 {
     let code = match mode {
@@ -67,7 +67,7 @@ pub fn take_mode(from: &mut Reader) -> Option<Mode>
 /// Puts a stripe: 1 COARSE, 2 FINE.
 pub fn put_stripe(to: &mut Writer, stripe: Stripe)
     requires { to.old.at + 1 ≤ 4096 }
-    ensures puts { Puts to.old to.new (stripe_code stripe ∷ []) }
+    ensures puts { PutsField to.old to.new (stripe_code stripe ∷ []) }
     ensures at { to.new.at ≡ to.old.at + 1 }
 {
     let code = match stripe {
@@ -91,7 +91,7 @@ pub fn take_stripe(from: &mut Reader) -> Option<Stripe>
 /// Puts the kind of a node: 1 directory, 2 system name, 3 alias.
 pub fn put_node_kind(to: &mut Writer, kind: NodeKind)
     requires { to.old.at + 1 ≤ 4096 }
-    ensures puts { Puts to.old to.new (node_code kind ∷ []) }
+    ensures puts { PutsField to.old to.new (node_code kind ∷ []) }
     ensures at { to.new.at ≡ to.old.at + 1 }
 {
     let code = match kind {
@@ -117,7 +117,7 @@ pub fn take_node_kind(from: &mut Reader) -> Option<NodeKind>
 /// Puts the kind of a pending operation: 1 create, 2 remove, 3 grow, 4 shrink.
 pub fn put_pending_kind(to: &mut Writer, kind: PendingKind)
     requires { to.old.at + 1 ≤ 4096 }
-    ensures puts { Puts to.old to.new (pending_code kind ∷ []) }
+    ensures puts { PutsField to.old to.new (pending_code kind ∷ []) }
     ensures at { to.new.at ≡ to.old.at + 1 }
 {
     let code = match kind {

@@ -8,12 +8,12 @@ use Rattle.asm_formats.specs.Bytes.{block_size, block, is_open}
 use Rattle.asm_formats.specs.Regions.{region_start, log_blocks, first_log, second_log, has_region}
 use Rattle.asm_formats.specs.Header.{Header}
 use Rattle.asm_formats.specs.Content.{Content, records_in}
-use Rattle.asm_formats.specs.Logs.{Log, log_at, log_decodes, newest_first, open_logs, logs_decode, slot_decodes, image_of, image_in, in_log}
+use Rattle.asm_formats.specs.Logs.{Log, log_at, log_decodes, newest_first, open_logs, logs_decode, slot_decodes, logged_image, image_in, in_log}
 use Rattle.asm_formats.specs.Pages.{home_page, page_at, pages_of, content_by, copy_content, decodes_in, IsCheckpointed, with_images, committed}
 use Rattle.asm_formats.specs.Metadata.{metadata, header_of, content_of}
 use Rattle.asm_formats.specs.Places.{SameElsewhere, SameButBlocks}
 use Rattle.asm_formats.specs.Slots.{ArePair}
-use Rattle.asm_formats.specs.LogSlots.{LogMoment, log_as_before, log_closed, log_put, MayClose, IsLogPut, IsLogClose, IsCheckpoint}
+use Rattle.asm_formats.specs.LogSlots.{LogMoment, log_as_before, log_closed, log_put, MayCloseLog, IsLogPut, IsLogClose, IsCheckpoint}
 use Rattle.asm_formats.specs.Commits.{Commits, not_committed, is_committed, HoldsLog}
 use Rattle.asm_formats.proofs.Blocks.{SameSlot, open_out, block_out, slot_before, slot_behind}
 use Rattle.asm_formats.proofs.SameLogs.{SameLogs, open_logs_same, logs_decode_same, page_same, content_same, closed_content}
@@ -131,7 +131,7 @@ open_logs_decode h bytes is whole ok =
     content_decodes d bytes (open_logs d bytes) refl
     (sym (ap decodes_in (cond-true (has_region d (length bytes)) (content_by d bytes (open_logs d bytes)) None whole)) ∙ sym (ap (λ (o : Option Header). decodes_in (content_of o bytes)) is) ∙ ok)
 
-pub closed_may_close : (d : ℕ) (bytes : Bytes) (k other : ℕ) → ArePair (first_log d) (second_log d) k other → is_open bytes k ≡ false → is_open bytes other ≡ false → MayClose d bytes k other
+pub closed_may_close : (d : ℕ) (bytes : Bytes) (k other : ℕ) → ArePair (first_log d) (second_log d) k other → is_open bytes k ≡ false → is_open bytes other ≡ false → MayCloseLog d bytes k other
 closed_may_close d bytes k other pair shut other_shut = record {
   pair = pair;
   free = inl shut;
@@ -179,7 +179,7 @@ commit_is_checkpointed d old new later k other log few checked p holds same home
     } in
     let logs_are = open_logs_same d new later logs ∙ put_logs d old k other p.may_close new p.elsewhere log few p.is_log p.above holds in
     ap (λ (l : List Log). unwrap_or (image_in l page) (home_page later page)) logs_are
-    ∙ go (image_of log.images page) (homes page lt)
+    ∙ go (logged_image log.images page) (homes page lt)
   where
     go : (o : Option Bytes) → home_page later page ≡ unwrap_or o (home_page old page)
         → unwrap_or (option_or o (image_in (in_log d old other) page)) (home_page later page) ≡ home_page later page
@@ -226,7 +226,7 @@ module _ (h : Header) (old new : Bytes) (k other : ℕ) (is : header_of old ≡ 
   still_open : is_open new k ≡ true → metadata new ≡ metadata old
   still_open opened = keeps h old new (k * block_size) (1 * block_size) is p.elsewhere low_gate (not_closed opened)
 
-  pub close_keeps : MayClose e old k other → metadata new ≡ metadata old
+  pub close_keeps : MayCloseLog e old k other → metadata new ≡ metadata old
   close_keeps may = ⊎_elim still_open
       (λ shut. keeps h old new (k * block_size) (1 * block_size) is p.elsewhere low_gate
       (closed_keeps e old k other may new (widen old new (k * block_size) (1 * block_size) (log_blocks * block_size) (omega arith) p.elsewhere) shut))

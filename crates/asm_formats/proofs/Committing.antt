@@ -7,11 +7,11 @@ use Rattle.asm_group.specs.Names.{Bytes}
 use Rattle.asm_formats.specs.Bytes.{block_size, is_open}
 use Rattle.asm_formats.specs.Regions.{region_start, log_blocks, first_log, second_log, has_region}
 use Rattle.asm_formats.specs.Content.{records_in}
-use Rattle.asm_formats.specs.Logs.{Log, log_at, log_decodes, in_log, open_logs, slot_decodes, logs_decode, image_of, image_in}
+use Rattle.asm_formats.specs.Logs.{Log, log_at, log_decodes, in_log, open_logs, slot_decodes, logs_decode, logged_image, image_in}
 use Rattle.asm_formats.specs.Pages.{home_page, page_at, with_images, content_by, copy_content, committed}
 use Rattle.asm_formats.specs.Places.{SameButBlocks}
 use Rattle.asm_formats.specs.Slots.{ArePair}
-use Rattle.asm_formats.specs.LogSlots.{IsLog, MayClose}
+use Rattle.asm_formats.specs.LogSlots.{IsLog, MayCloseLog}
 use Rattle.asm_formats.specs.Commits.{HoldsLog}
 use Rattle.asm_formats.proofs.Among.{map_range_same}
 use Rattle.asm_formats.proofs.Blocks.{SameSlot, block_out, slot_before, slot_behind}
@@ -23,7 +23,7 @@ pub pair_closed : (d : ℕ) (bytes : Bytes) (k other : ℕ) → ArePair (first_l
 pair_closed d bytes k other (inl p) shut other_shut = closed_content d bytes (ap (is_open bytes) (sym p.0) ∙ shut) (ap (is_open bytes) (sym p.1) ∙ other_shut)
 pair_closed d bytes k other (inr p) shut other_shut = closed_content d bytes (ap (is_open bytes) (sym p.1) ∙ other_shut) (ap (is_open bytes) (sym p.0) ∙ shut)
 
-module _ (d : ℕ) (old : Bytes) (k other : ℕ) (may : MayClose d old k other) where
+module _ (d : ℕ) (old : Bytes) (k other : ℕ) (may : MayCloseLog d old k other) where
   -- where the slot is open, the other one is, and holds
   other_is_open : is_open old k ≡ true → is_open old other ≡ true
   other_is_open opened = ⊎_elim (λ shut. absurd (false≢true (sym shut ∙ opened))) (λ p. p.0) may.free
@@ -48,7 +48,7 @@ module _ (d : ℕ) (old : Bytes) (k other : ℕ) (may : MayClose d old k other) 
       let logs = two_logs opened in
       let checked : unwrap_or (image_in (open_logs d old) page) (home_page old page) ≡ home_page old page = may.checkpointed opened page lt in
       ap (λ (l : List Log). unwrap_or (image_in l page) (home_page old page)) alone
-      ∙ go (image_of (log_at d old other).images page) (image_in (log_at d old k ∷ []) page) (sym (ap (λ (l : List Log). unwrap_or (image_in l page) (home_page old page)) logs) ∙ checked)
+      ∙ go (logged_image (log_at d old other).images page) (image_in (log_at d old k ∷ []) page) (sym (ap (λ (l : List Log). unwrap_or (image_in l page) (home_page old page)) logs) ∙ checked)
       ∙ sym (ap (λ (l : List Log). unwrap_or (image_in l page) (home_page old page)) logs))
       (λ shut. ap (λ (l : List Log). unwrap_or (image_in l page) (home_page old page)) (sym (other_alone d old k other may.pair shut)))
       (cases_Bool (is_open old k))
@@ -144,7 +144,7 @@ module _ (d : ℕ) (old : Bytes) (k other : ℕ) (may : MayClose d old k other) 
 
       pub put_page : (page : ℕ) → page < d → page_at d new page ≡ with_images log.images (page_at d old) page
       unfolding page_at
-      put_page page lt = ap (λ (l : List Log). unwrap_or (image_in l page) (home_page new page)) put_logs ∙ go (image_of log.images page)
+      put_page page lt = ap (λ (l : List Log). unwrap_or (image_in l page) (home_page new page)) put_logs ∙ go (logged_image log.images page)
         where
           go : (x : Option Bytes) → unwrap_or (option_or x (image_in (in_log d old other) page)) (home_page new page) ≡ unwrap_or x (page_at d old page)
           go None = (λ i. unwrap_or (image_in (in_log d old other) page) (home_same page lt i)) ∙ rest_page page lt

@@ -14,9 +14,9 @@ use Rattle.asm_formats.specs.Claim.{decoded_claim}
 use Rattle.asm_formats.specs.Status.{decoded_status}
 use Rattle.asm_formats.specs.Items.{Item}
 use Rattle.asm_formats.specs.Content.{is_page, records_in}
-use Rattle.asm_formats.specs.Logs.{LogHead, PageImage, Log, decoded_log_head, blocks_from, images_at, log_at, log_decodes, in_log, newest_first, open_logs, slot_decodes, logs_decode, image_of, image_in}
+use Rattle.asm_formats.specs.Logs.{LogHead, PageImage, Log, decoded_log_head, blocks_from, images_at, log_at, log_decodes, in_log, newest_first, open_logs, slot_decodes, logs_decode, logged_image, image_in}
 use Rattle.asm_formats.specs.Pages.{home_page, page_at, pages_of, content_by, copy_content, decodes_in}
-use Rattle.asm_formats.specs.PageLaws.{AreApart}
+use Rattle.asm_formats.specs.PageLaws.{HaveOwnKeys}
 use Rattle.asm_formats.specs.Metadata.{metadata, in_slot, header_of, content_of}
 use Rattle.asm_formats.specs.Damage.{is_spoiled, body_damage, is_bad_page, head_damage, log_damage, directory_damage, IsBodyDamage}
 use Rattle.asm_formats.proofs.Among.{all_split, all_join, among_map}
@@ -164,13 +164,13 @@ module _ (d : ℕ) (bytes : Bytes) (k : ℕ) where
 abbrev are_pages : Log → Bool
 are_pages l = list_all (λ (i : PageImage). is_page i.1) l.images
 
-image_is_page : (images : List PageImage) (page : ℕ) (image : Bytes) → list_all (λ (i : PageImage). is_page i.1) images ≡ true → image_of images page ≡ Some image → is_page image ≡ true
+image_is_page : (images : List PageImage) (page : ℕ) (image : Bytes) → list_all (λ (i : PageImage). is_page i.1) images ≡ true → logged_image images page ≡ Some image → is_page image ≡ true
 image_is_page [] page image ok e = absurd (none-some image e)
 image_is_page (i ∷ images) page image ok e =
     let p = and_parts (is_page i.1) (list_all (λ (i : PageImage). is_page i.1) images) ok in
     go (i.0 == page) p.0 (λ f. image_is_page images page image p.1 f) e
   where
-    go : (b : Bool) → is_page i.1 ≡ true → (image_of images page ≡ Some image → is_page image ≡ true)
+    go : (b : Bool) → is_page i.1 ≡ true → (logged_image images page ≡ Some image → is_page image ≡ true)
         → option_map (λ (j : PageImage). j.1) (cond b (Some i) (find (λ (j : PageImage). j.0 == page) images)) ≡ Some image → is_page image ≡ true
     go true here rest found = ap is_page (sym (same_Some i.1 image found)) ∙ here
     go false here rest found = rest found
@@ -179,9 +179,9 @@ logged_is_page : (logs : List Log) (page : ℕ) (image : Bytes) → list_all are
 logged_is_page [] page image ok e = absurd (none-some image e)
 logged_is_page (log ∷ older) page image ok e =
     let p = and_parts (are_pages log) (list_all are_pages older) ok in
-    go (image_of log.images page) refl p.0 (λ f. logged_is_page older page image p.1 f) e
+    go (logged_image log.images page) refl p.0 (λ f. logged_is_page older page image p.1 f) e
   where
-    go : (o : Option Bytes) → image_of log.images page ≡ o → are_pages log ≡ true → (image_in older page ≡ Some image → is_page image ≡ true) → option_or o (image_in older page) ≡ Some image → is_page image ≡ true
+    go : (o : Option Bytes) → logged_image log.images page ≡ o → are_pages log ≡ true → (image_in older page ≡ Some image → is_page image ≡ true) → option_or o (image_in older page) ≡ Some image → is_page image ≡ true
     go None is here rest found = rest found
     go (Some x) is here rest found = image_is_page log.images page image here (is ∙ found)
 
@@ -325,18 +325,18 @@ module _ (d : ℕ) (bytes : Bytes) where
       go page None e logs bad = ap is_page (counts page None e) ∙ not_not (is_page (home_page bytes page)) (sym (ap (λ (x : Option Bytes). not (is_some x) && not (is_page (home_page bytes page))) e) ∙ bad)
       go page (Some image) e logs bad = ap is_page (counts page (Some image) e) ∙ logged_is_page (open_logs d bytes) page image logs e
 
-  some_records : all_damage ≡ None → AreApart (pages_of d bytes) → (logs : List Log) → decodes_in (content_by d bytes logs) ≡ true
+  some_records : all_damage ≡ None → HaveOwnKeys (pages_of d bytes) → (logs : List Log) → decodes_in (content_by d bytes logs) ≡ true
   some_records e apart [] = refl
   some_records e apart (log ∷ older) =
       let w = whole_pages e in
       let r = have_records (pages_of d bytes) (λ page h. from_range (page_at d bytes) (range_with_len 0 d) page h (λ k m. w.1 k (omega (arith, (among_range 0 d k m).1)))) apart in
       ap is_some (cond-true (logs_decode d bytes) (records_in (pages_of d bytes)) None w.0 ∙ r.1)
 
-  copy_decodes : directory_damage d bytes ≡ None → AreApart (pages_of d bytes) → decodes_in (copy_content d bytes) ≡ true
+  copy_decodes : directory_damage d bytes ≡ None → HaveOwnKeys (pages_of d bytes) → decodes_in (copy_content d bytes) ≡ true
   unfolding copy_content directory_damage
   copy_decodes = go (has_region d (length bytes)) (is_open bytes a || is_open bytes b) refl
     where
-      go : (r o : Bool) → (is_open bytes a || is_open bytes b) ≡ o → cond (r && o) all_damage None ≡ None → AreApart (pages_of d bytes) → decodes_in (cond r (content_by d bytes (open_logs d bytes)) None) ≡ true
+      go : (r o : Bool) → (is_open bytes a || is_open bytes b) ≡ o → cond (r && o) all_damage None ≡ None → HaveOwnKeys (pages_of d bytes) → decodes_in (cond r (content_by d bytes (open_logs d bytes)) None) ≡ true
       go false o e k apart = refl
       go true false e k apart = ap (λ (l : List Log). decodes_in (content_by d bytes l)) (closed_logs d bytes (shut_parts e).0 (shut_parts e).1)
       go true true e k apart = some_records k apart (open_logs d bytes)
@@ -347,7 +347,7 @@ pub damage_is_seen : (h : Header) (bytes : Bytes) → header_of bytes ≡ Some h
 unfolding metadata
 damage_is_seen h bytes is ok = copy_damage h.shape.dir_blocks bytes (sym (ap (λ (o : Option Header). decodes_in (content_of o bytes)) is) ∙ ok)
 
-pub whole_copy_decodes : (h : Header) (bytes : Bytes) → header_of bytes ≡ Some h → directory_damage h.shape.dir_blocks bytes ≡ None → AreApart (pages_of h.shape.dir_blocks bytes)
+pub whole_copy_decodes : (h : Header) (bytes : Bytes) → header_of bytes ≡ Some h → directory_damage h.shape.dir_blocks bytes ≡ None → HaveOwnKeys (pages_of h.shape.dir_blocks bytes)
     → (metadata bytes).decodes ≡ true
 unfolding metadata
 whole_copy_decodes h bytes is none apart = ap (λ (o : Option Header). decodes_in (content_of o bytes)) is ∙ copy_decodes h.shape.dir_blocks bytes none apart

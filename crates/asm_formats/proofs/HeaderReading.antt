@@ -7,29 +7,29 @@ use Rattle.asm_group.specs.declared.GroupKind.{GroupKind}
 use Rattle.asm_group.specs.declared.GroupKind.TheVariants.{External, Normal, High}
 use Rattle.asm_group.specs.Names.{Bytes, is_name}
 use Rattle.asm_group.specs.Shape.{is_shape, is_unit_size, is_step, is_sector, unit_sizes}
-use Rattle.asm_formats.specs.Bytes.{number, name_field, whole_block, block_size}
-use Rattle.asm_formats.specs.Codes.{kind_code, kind_of, flag}
+use Rattle.asm_formats.specs.Bytes.{number_bytes, name_field, whole_block, block_size}
+use Rattle.asm_formats.specs.Codes.{kind_code, group_kind_of, flag}
 use Rattle.asm_formats.specs.Header.{Header, form, header_fields, header_spelling, header_at, is_header, decoded_header}
 use Rattle.asm_formats.specs.Claim.{Claim, claim_spelling, claim_at, is_claim, decoded_claim}
 use Rattle.asm_formats.proofs.Codec.{own_spelling}
 use Rattle.asm_formats.proofs.Fields.{number16, number32, number64, name_again, name_len, flag_again, join, after, passes_if_all}
 
-kind_again : (k : GroupKind) → kind_of (kind_code k) ≡ k
+kind_again : (k : GroupKind) → group_kind_of (kind_code k) ≡ k
 kind_again External = refl
 kind_again Normal = refl
 kind_again High = refl
 
 -- ---- the claim
 
-claim_fields : (c : Claim) (zeros : Bytes) → c.id < 2 ^ 64 → c.epoch < 2 ^ 64 → claim_at ((codes "ASMC" ++ (number w64 c.id ++ number w64 c.epoch)) ++ zeros) ≡ c
+claim_fields : (c : Claim) (zeros : Bytes) → c.id < 2 ^ 64 → c.epoch < 2 ^ 64 → claim_at ((codes "ASMC" ++ (number_bytes w64 c.id ++ number_bytes w64 c.epoch)) ++ zeros) ≡ c
 unfolding claim_at
-claim_fields c zeros id epoch = rw (append_assoc (number w64 c.id) (number w64 c.epoch) zeros, number64 c.id (number w64 c.epoch ++ zeros) id, number64 c.epoch zeros epoch) refl
+claim_fields c zeros id epoch = rw (append_assoc (number_bytes w64 c.id) (number_bytes w64 c.epoch) zeros, number64 c.id (number_bytes w64 c.epoch ++ zeros) id, number64 c.epoch zeros epoch) refl
 
 pub claim_again : (c : Claim) → is_claim c ≡ true → decoded_claim (claim_spelling c) ≡ Some c
 unfolding decoded_claim claim_spelling whole_block is_claim
 claim_again c ok =
     let p = and_parts (nat_lt c.id (2 ^ 64)) (nat_lt c.epoch (2 ^ 64)) ok in
-    let fields = codes "ASMC" ++ (number w64 c.id ++ number w64 c.epoch) in
+    let fields = codes "ASMC" ++ (number_bytes w64 c.id ++ number_bytes w64 c.epoch) in
     own_spelling is_claim claim_spelling c (claim_at (claim_spelling c)) ok
     (claim_fields c (replicate (block_size - length fields) 0) (ltb-true c.id (2 ^ 64) p.0) (ltb-true c.epoch (2 ^ 64) p.1))
 
@@ -48,16 +48,16 @@ record HeaderFits (h : Header) : Type 0 where
 
 module _ (h : Header) (zeros : Bytes) where
   abbrev r12 : Bytes
-  r12 = number w16 h.shape.dir_blocks ++ zeros
+  r12 = number_bytes w16 h.shape.dir_blocks ++ zeros
 
   abbrev r11 : Bytes
-  r11 = number w16 h.shape.step ++ r12
+  r11 = number_bytes w16 h.shape.step ++ r12
 
   abbrev r10 : Bytes
-  r10 = number w16 h.shape.sector ++ r11
+  r10 = number_bytes w16 h.shape.sector ++ r11
 
   abbrev r9 : Bytes
-  r9 = number w32 h.shape.au ++ r10
+  r9 = number_bytes w32 h.shape.au ++ r10
 
   abbrev r8 : Bytes
   r8 = flag h.quorum ∷ r9
@@ -72,13 +72,13 @@ module _ (h : Header) (zeros : Bytes) where
   r5 = kind_code h.shape.kind ∷ r6
 
   abbrev r4 : Bytes
-  r4 = number w64 h.birth ++ r5
+  r4 = number_bytes w64 h.birth ++ r5
 
   abbrev r3 : Bytes
   r3 = h.number ∷ r4
 
   abbrev r2 : Bytes
-  r2 = number w64 h.id ++ r3
+  r2 = number_bytes w64 h.id ++ r3
 
   abbrev r1 : Bytes
   r1 = name_field 30 h.group ++ r2
@@ -86,16 +86,16 @@ module _ (h : Header) (zeros : Bytes) where
   in_a_row : header_fields h ++ zeros ≡ codes "ASMH" ++ (form ∷ r1)
   unfolding header_fields
   in_a_row =
-      let e11 = append_assoc (number w16 h.shape.step) (number w16 h.shape.dir_blocks) zeros in
-      let e10 = join (number w16 h.shape.sector) _ r11 zeros e11 in
-      let e9 = join (number w32 h.shape.au) _ r10 zeros e10 in
+      let e11 = append_assoc (number_bytes w16 h.shape.step) (number_bytes w16 h.shape.dir_blocks) zeros in
+      let e10 = join (number_bytes w16 h.shape.sector) _ r11 zeros e11 in
+      let e9 = join (number_bytes w32 h.shape.au) _ r10 zeros e10 in
       let e8 = after (flag h.quorum) _ r9 zeros e9 in
       let e7 = join (name_field 30 h.failgroup) _ r8 zeros e8 in
       let e6 = join (name_field 30 h.disk) _ r7 zeros e7 in
       let e5 = after (kind_code h.shape.kind) _ r6 zeros e6 in
-      let e4 = join (number w64 h.birth) _ r5 zeros e5 in
+      let e4 = join (number_bytes w64 h.birth) _ r5 zeros e5 in
       let e3 = after h.number _ r4 zeros e4 in
-      let e2 = join (number w64 h.id) _ r3 zeros e3 in
+      let e2 = join (number_bytes w64 h.id) _ r3 zeros e3 in
       let e1 = join (name_field 30 h.group) _ r2 zeros e2 in
       ap (λ (l : Bytes). codes "ASMH" ++ (form ∷ l)) e1
 

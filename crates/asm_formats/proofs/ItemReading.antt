@@ -12,17 +12,17 @@ use Rattle.asm_group.specs.declared.PendingKind.{PendingKind}
 use Rattle.asm_group.specs.declared.PendingKind.TheVariants.{Create, Remove, Grow, Shrink}
 use Rattle.asm_group.specs.Names.{Bytes, is_name, is_part}
 use Rattle.asm_group.specs.Group.{Template}
-use Rattle.asm_formats.specs.Bytes.{number, name_field, repeated}
-use Rattle.asm_formats.specs.Codes.{flag, stripe_code, stripe_of, node_code, node_kind_of, pending_code, pending_kind_of}
-use Rattle.asm_formats.specs.Items.{FileHead, Home, Homes, DiskInfo, Pending, Node, Settings, Item, file_item, chunk_item, disk_item, rebalance_item, pending_item, templates_item, node_item, settings_item, marks_item, Key, key, is_same_key, is_redundancy, is_home, chunk_len, is_homes, is_text, names_ascend, is_template, is_item}
-use Rattle.asm_formats.specs.Values.{home_fields, template_fields, file_value, disk_value, pending_value, node_value, settings_value, value, file_head_at, home_at, homes_at, disk_info_at, pending_at, template_at, templates_at, node_at, settings_at, item_by, decoded_item}
+use Rattle.asm_formats.specs.Bytes.{number_bytes, name_field, values_at}
+use Rattle.asm_formats.specs.Codes.{flag, stripe_code, stripe_of_code, node_code, node_kind_of, pending_code, pending_kind_of}
+use Rattle.asm_formats.specs.Items.{FileHead, Home, Homes, DiskInfo, Pending, Node, Settings, Item, file_item, chunk_item, disk_item, rebalance_item, pending_item, templates_item, node_item, settings_item, marks_item, Key, item_key, is_same_key, is_redundancy, is_home, chunk_len, is_homes, is_text, names_ascend, is_template, is_item}
+use Rattle.asm_formats.specs.Values.{home_fields, template_fields, file_value, disk_value, pending_value, node_value, settings_value, value, file_head_at, home_in_bytes, homes_in_bytes, disk_info_at, pending_at, template_in_bytes, templates_at, node_in_bytes, settings_at, item_by, decoded_item}
 use Rattle.asm_formats.proofs.Codec.{own_spelling, spelled}
 use Rattle.asm_formats.proofs.Fields.{number32, number64, end16, end32, end64, name_again, name_end, name_len, part_len, flag_again, repeated_again}
 
 text_len : (t : Bytes) → is_text t ≡ true → length t ≤ 30
 text_len t h = leb-true (length t) 30 (and_parts (nat_le (length t) 30) _ h).0
 
-stripe_again : (s : Stripe) → stripe_of (stripe_code s) ≡ s
+stripe_again : (s : Stripe) → stripe_of_code (stripe_code s) ≡ s
 stripe_again Coarse = refl
 stripe_again Fine = refl
 
@@ -42,10 +42,10 @@ pending_kind_again Shrink = refl
 file_again : (h : FileHead) → length h.type_name ≤ 30 → h.size < 2 ^ 64 → h.incarnation < 2 ^ 64 → h.system < 2 ^ 32 → h.alias < 2 ^ 32 → file_head_at (file_value h) ≡ h
 file_again h name size incarnation system alias =
     rw (
-      name_again 30 h.type_name (number w64 h.size ++ (number w64 h.incarnation ++ (number w32 h.system ++ number w32 h.alias))) name,
-      number64 h.size (number w64 h.incarnation ++ (number w32 h.system ++ number w32 h.alias)) size,
-      number64 h.incarnation (number w32 h.system ++ number w32 h.alias) incarnation,
-      number32 h.system (number w32 h.alias) system,
+      name_again 30 h.type_name (number_bytes w64 h.size ++ (number_bytes w64 h.incarnation ++ (number_bytes w32 h.system ++ number_bytes w32 h.alias))) name,
+      number64 h.size (number_bytes w64 h.incarnation ++ (number_bytes w32 h.system ++ number_bytes w32 h.alias)) size,
+      number64 h.incarnation (number_bytes w32 h.system ++ number_bytes w32 h.alias) incarnation,
+      number32 h.system (number_bytes w32 h.alias) system,
       end32 h.alias alias,
       stripe_again h.stripe,
     ) refl
@@ -55,17 +55,17 @@ disk_again d birth name failgroup =
     rw (number64 d.birth (name_field 30 d.name ++ name_field 30 d.failgroup) birth, name_again 30 d.name (name_field 30 d.failgroup) name, name_end 30 d.failgroup failgroup) refl
 
 pending_again : (p : Pending) → p.file < 2 ^ 32 → p.kept < 2 ^ 64 → pending_at (pending_value p) ≡ p
-pending_again p file kept = rw (number32 p.file (number w64 p.kept) file, end64 p.kept kept, pending_kind_again p.kind) refl
+pending_again p file kept = rw (number32 p.file (number_bytes w64 p.kept) file, end64 p.kept kept, pending_kind_again p.kind) refl
 
-node_again : (n : Node) → n.parent < 2 ^ 32 → n.file < 2 ^ 32 → length n.name ≤ 80 → node_at (node_value n) ≡ n
+node_again : (n : Node) → n.parent < 2 ^ 32 → n.file < 2 ^ 32 → length n.name ≤ 80 → node_in_bytes (node_value n) ≡ n
 node_again n parent file name =
-    rw (number32 n.parent (node_code n.kind ∷ (number w32 n.file ++ name_field 80 n.name)) parent, number32 n.file (name_field 80 n.name) file, name_end 80 n.name name, node_kind_again n.kind) refl
+    rw (number32 n.parent (node_code n.kind ∷ (number_bytes w32 n.file ++ name_field 80 n.name)) parent, number32 n.file (name_field 80 n.name) file, name_end 80 n.name name, node_kind_again n.kind) refl
 
 settings_again : (s : Settings) → s.incarnation < 2 ^ 64 → s.attributes.repair < 2 ^ 64 → length s.attributes.asm ≤ 30 → length s.attributes.rdbms ≤ 30 → length s.attributes.advm ≤ 30 → settings_at (settings_value s) ≡ s
 settings_again s incarnation repair asm rdbms advm =
     let t = s.attributes in
     rw (
-      number64 s.incarnation (number w64 t.repair ++ (name_field 30 t.asm ++ (name_field 30 t.rdbms ++ name_field 30 t.advm))) incarnation,
+      number64 s.incarnation (number_bytes w64 t.repair ++ (name_field 30 t.asm ++ (name_field 30 t.rdbms ++ name_field 30 t.advm))) incarnation,
       number64 t.repair (name_field 30 t.asm ++ (name_field 30 t.rdbms ++ name_field 30 t.advm)) repair,
       name_again 30 t.asm (name_field 30 t.rdbms ++ name_field 30 t.advm) asm,
       name_again 30 t.rdbms (name_field 30 t.advm) rdbms,
@@ -74,43 +74,43 @@ settings_again s incarnation repair asm rdbms advm =
 
 -- ---- lists of values
 
-home_again : (o : Option Home) (rest : Bytes) → is_home o ≡ true → home_at (home_fields o ++ rest) ≡ (o, rest)
+home_again : (o : Option Home) (rest : Bytes) → is_home o ≡ true → home_in_bytes (home_fields o ++ rest) ≡ (o, rest)
 home_again None rest ok = rw (number32 0 rest (omega arith)) refl
 home_again (Some h) rest ok =
     let p = and_parts (nat_lt h.disk 255) (nat_lt h.unit (2 ^ 32)) ok in
     let disk : (h.disk == 255) ≡ false = ne_eqb h.disk 255 (λ e. omega (arith, e, ltb-true h.disk 255 p.0)) in
     rw (number32 h.unit rest (ltb-true h.unit (2 ^ 32) p.1), disk) refl
 
-homes_again : (hs : Homes) (rest : Bytes) → is_homes hs ≡ true → repeated home_at 3 (flat_map home_fields hs ++ rest) ≡ (hs, rest)
+homes_again : (hs : Homes) (rest : Bytes) → is_homes hs ≡ true → values_at home_in_bytes 3 (flat_map home_fields hs ++ rest) ≡ (hs, rest)
 homes_again hs rest ok =
     let p = and_parts (length hs == 3) (list_all is_home hs) ok in
-    ap (λ (n : ℕ). repeated home_at n (flat_map home_fields hs ++ rest)) (sym (eqb-true (length hs) 3 p.0)) ∙ repeated_again home_at home_fields is_home home_again hs rest p.1
+    ap (λ (n : ℕ). values_at home_in_bytes n (flat_map home_fields hs ++ rest)) (sym (eqb-true (length hs) 3 p.0)) ∙ repeated_again home_in_bytes home_fields is_home home_again hs rest p.1
 
-chunk_again : (homes : List Homes) → length homes ≡ 256 → list_all is_homes homes ≡ true → homes_at (flat_map (flat_map home_fields) homes) ≡ homes
-unfolding homes_at
+chunk_again : (homes : List Homes) → length homes ≡ 256 → list_all is_homes homes ≡ true → homes_in_bytes (flat_map (flat_map home_fields) homes) ≡ homes
+unfolding homes_in_bytes
 chunk_again homes len ok =
-    ap (λ (l : Bytes). (repeated (repeated home_at 3) 256 l).0) (sym (append-nil (flat_map (flat_map home_fields) homes)))
-    ∙ ap (λ (n : ℕ). (repeated (repeated home_at 3) n (flat_map (flat_map home_fields) homes ++ [])).0) (sym len)
-    ∙ ap (λ (y : List Homes × Bytes). y.0) (repeated_again (repeated home_at 3) (flat_map home_fields) is_homes homes_again homes [] ok)
+    ap (λ (l : Bytes). (values_at (values_at home_in_bytes 3) 256 l).0) (sym (append-nil (flat_map (flat_map home_fields) homes)))
+    ∙ ap (λ (n : ℕ). (values_at (values_at home_in_bytes 3) n (flat_map (flat_map home_fields) homes ++ [])).0) (sym len)
+    ∙ ap (λ (y : List Homes × Bytes). y.0) (repeated_again (values_at home_in_bytes 3) (flat_map home_fields) is_homes homes_again homes [] ok)
 
-template_again : (t : Template) (rest : Bytes) → is_template t ≡ true → template_at (template_fields t ++ rest) ≡ (t, rest)
+template_again : (t : Template) (rest : Bytes) → is_template t ≡ true → template_in_bytes (template_fields t ++ rest) ≡ (t, rest)
 template_again t rest ok =
     let p = and_parts (is_name t.name) (is_redundancy t.copies) ok in
     let tail = t.copies ∷ stripe_code t.stripe ∷ flag t.system ∷ [] in
-    ap template_at (append_assoc (name_field 30 t.name) tail rest)
+    ap template_in_bytes (append_assoc (name_field 30 t.name) tail rest)
     ∙ rw (name_again 30 t.name (tail ++ rest) (name_len t.name p.0), stripe_again t.stripe, flag_again t.system) refl
 
 templates_again : (ts : List Template) → list_all is_template ts ≡ true → templates_at (length ts ∷ flat_map template_fields ts) ≡ ts
 templates_again ts ok =
-    ap (λ (l : Bytes). (repeated template_at (length ts) l).0) (sym (append-nil (flat_map template_fields ts)))
-    ∙ ap (λ (y : List Template × Bytes). y.0) (repeated_again template_at template_fields is_template template_again ts [] ok)
+    ap (λ (l : Bytes). (values_at template_in_bytes (length ts) l).0) (sym (append-nil (flat_map template_fields ts)))
+    ∙ ap (λ (y : List Template × Bytes). y.0) (repeated_again template_in_bytes template_fields is_template template_again ts [] ok)
 
 -- ---- items
 
 after_zero : (c : ℕ) → ((c + 1) == 0) ≡ false
 after_zero c = ne_eqb (c + 1) 0 (λ e. omega (arith, e))
 
-pub item_again : (i : Item) → is_item i ≡ true → item_by (key i) (value i) ≡ i
+pub item_again : (i : Item) → is_item i ≡ true → item_by (item_key i) (value i) ≡ i
 unfolding item_by value is_item
 item_again (file_item f h) ok =
     let a = and_parts (nat_lt f (2 ^ 32)) _ ok in
@@ -127,8 +127,8 @@ item_again (chunk_item f c homes) ok =
     let d = and_parts (length homes == chunk_len) (list_all is_homes homes) b.1 in
     let back : c + 1 - 1 ≡ c = omega arith in
     let whole = flat_map (flat_map home_fields) homes in
-    cond-false ((c + 1) == 0) (file_item f (file_head_at whole)) (chunk_item f (c + 1 - 1) (homes_at whole)) (after_zero c)
-    ∙ ap (λ (n : ℕ). chunk_item f n (homes_at whole)) back ∙ ap (chunk_item f c) (chunk_again homes (eqb-true (length homes) 256 d.0) d.1)
+    cond-false ((c + 1) == 0) (file_item f (file_head_at whole)) (chunk_item f (c + 1 - 1) (homes_in_bytes whole)) (after_zero c)
+    ∙ ap (λ (n : ℕ). chunk_item f n (homes_in_bytes whole)) back ∙ ap (chunk_item f c) (chunk_again homes (eqb-true (length homes) 256 d.0) d.1)
 item_again (disk_item d info) ok =
     let a = and_parts (nat_lt d 64) _ ok in
     let b = and_parts (nat_lt info.birth (2 ^ 64)) _ a.1 in
@@ -177,20 +177,20 @@ same_key j k h =
     let b = eqb-true j.b k.b q.1 in
     λ i. record { kind = kind i; a = a i; b = b i }
 
-pub decoded_again : (i : Item) → is_item i ≡ true → decoded_item (key i) (value i) ≡ Some i
+pub decoded_again : (i : Item) → is_item i ≡ true → decoded_item (item_key i) (value i) ≡ Some i
 unfolding decoded_item
 decoded_again i ok =
-    own_spelling (λ j. is_item j && is_same_key (key j) (key i)) value i (item_by (key i) (value i)) (and_from (is_item i) (is_same_key (key i) (key i)) ok (same_key_self (key i))) (item_again i ok)
+    own_spelling (λ j. is_item j && is_same_key (item_key j) (item_key i)) value i (item_by (item_key i) (value i)) (and_from (is_item i) (is_same_key (item_key i) (item_key i)) ok (same_key_self (item_key i))) (item_again i ok)
 
 -- what is decoded is an item of this key, and the bytes are its value
 pub record IsItemOf (k : Key) (bytes : Bytes) (i : Item) : Type 0 where
   pub allowed : is_item i ≡ true
-  pub key_is : key i ≡ k
+  pub key_is : item_key i ≡ k
   pub same : bytes ≡ value i
 
 pub item_spelled : (k : Key) (bytes : Bytes) (i : Item) → decoded_item k bytes ≡ Some i → IsItemOf k bytes i
 unfolding decoded_item
 item_spelled k bytes i e =
-    let s = spelled (λ j. is_item j && is_same_key (key j) k) value bytes (item_by k bytes) i e in
-    let p = and_parts (is_item i) (is_same_key (key i) k) s.allowed in
-    record { allowed = p.0; key_is = same_key (key i) k p.1; same = s.same }
+    let s = spelled (λ j. is_item j && is_same_key (item_key j) k) value bytes (item_by k bytes) i e in
+    let p = and_parts (is_item i) (is_same_key (item_key i) k) s.allowed in
+    record { allowed = p.0; key_is = same_key (item_key i) k p.1; same = s.same }

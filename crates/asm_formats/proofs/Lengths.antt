@@ -6,23 +6,23 @@ use Rattle.std.proofs.lemmas.Bool.{and_parts, leb-true, eqb-true}
 use Rattle.std.proofs.lemmas.List.{length-append, length-replicate}
 use Rattle.asm_group.specs.Names.{Bytes, is_name, is_part}
 use Rattle.asm_group.specs.Group.{Template}
-use Rattle.asm_formats.specs.Bytes.{number, name_field}
+use Rattle.asm_formats.specs.Bytes.{number_bytes, name_field}
 use Rattle.asm_formats.specs.Codes.{flag, stripe_code, node_code}
 use Rattle.asm_formats.specs.Items.{Home, Homes, Item, file_item, chunk_item, disk_item, rebalance_item, pending_item, templates_item, node_item, settings_item, marks_item, is_redundancy, is_home, chunk_len, is_homes, is_text, is_template, names_ascend, most_templates, is_item}
 use Rattle.asm_formats.specs.Values.{home_fields, template_fields, value}
 use Rattle.asm_formats.specs.Records.{most_value}
 use Rattle.asm_formats.proofs.Fields.{name_len, part_len}
 
-pub len16 : (n : ℕ) → length (number w16 n) ≡ 2
-unfolding number
+pub len16 : (n : ℕ) → length (number_bytes w16 n) ≡ 2
+unfolding number_bytes
 len16 n = refl
 
-pub len32 : (n : ℕ) → length (number w32 n) ≡ 4
-unfolding number
+pub len32 : (n : ℕ) → length (number_bytes w32 n) ≡ 4
+unfolding number_bytes
 len32 n = refl
 
-pub len64 : (n : ℕ) → length (number w64 n) ≡ 8
-unfolding number
+pub len64 : (n : ℕ) → length (number_bytes w64 n) ≡ 8
+unfolding number_bytes
 len64 n = refl
 
 pub len_name : (width : ℕ) (name : Bytes) → length name ≤ width → length (name_field width name) ≡ width + 1
@@ -58,15 +58,15 @@ len_value (file_item f h) ok =
     let a = and_parts (nat_lt f (2 ^ 32)) _ ok in
     let b = and_parts (is_redundancy h.copies) _ a.1 in
     let c = and_parts (is_part 30 h.type_name) _ b.1 in
-    let last = number w32 h.system ++ number w32 h.alias in
-    let middle = number w64 h.incarnation ++ last in
-    let all = number w64 h.size ++ middle in
+    let last = number_bytes w32 h.system ++ number_bytes w32 h.alias in
+    let middle = number_bytes w64 h.incarnation ++ last in
+    let all = number_bytes w64 h.size ++ middle in
     omega (
       arith,
       length-append (name_field 30 h.type_name) all,
-      length-append (number w64 h.size) middle,
-      length-append (number w64 h.incarnation) last,
-      length-append (number w32 h.system) (number w32 h.alias),
+      length-append (number_bytes w64 h.size) middle,
+      length-append (number_bytes w64 h.incarnation) last,
+      length-append (number_bytes w32 h.system) (number_bytes w32 h.alias),
       len_name 30 h.type_name (part_len 30 h.type_name c.0),
       len64 h.size,
       len64 h.incarnation,
@@ -85,14 +85,14 @@ len_value (disk_item d info) ok =
     let names = name_field 30 info.name ++ name_field 30 info.failgroup in
     omega (
       arith,
-      length-append (number w64 info.birth) names,
+      length-append (number_bytes w64 info.birth) names,
       length-append (name_field 30 info.name) (name_field 30 info.failgroup),
       len64 info.birth,
       len_name 30 info.name (name_len info.name c.0),
       len_name 30 info.failgroup (name_len info.failgroup c.1),
     )
 len_value (rebalance_item power) ok = omega (arith, len16 power)
-len_value (pending_item op) ok = omega (arith, length-append (number w32 op.file) (number w64 op.kept), len32 op.file, len64 op.kept)
+len_value (pending_item op) ok = omega (arith, length-append (number_bytes w32 op.file) (number_bytes w64 op.kept), len32 op.file, len64 op.kept)
 len_value (templates_item ts) ok =
     let a = and_parts (nat_le (length ts) most_templates) _ ok in
     let b = and_parts (list_all is_template ts) (names_ascend ts) a.1 in
@@ -102,11 +102,11 @@ len_value (node_item n node) ok =
     let a = and_parts (nat_lt n (2 ^ 32)) _ z.1 in
     let b = and_parts (nat_lt node.parent (2 ^ 32)) _ a.1 in
     let c = and_parts (nat_lt node.file (2 ^ 32)) (is_part 80 node.name) b.1 in
-    let name = number w32 node.file ++ name_field 80 node.name in
+    let name = number_bytes w32 node.file ++ name_field 80 node.name in
     omega (
       arith,
-      length-append (number w32 node.parent) (node_code node.kind ∷ name),
-      length-append (number w32 node.file) (name_field 80 node.name),
+      length-append (number_bytes w32 node.parent) (node_code node.kind ∷ name),
+      length-append (number_bytes w32 node.file) (name_field 80 node.name),
       len32 node.parent,
       len32 node.file,
       len_name 80 node.name (part_len 80 node.name c.1),
@@ -121,8 +121,8 @@ len_value (settings_item s) ok =
     let three = name_field 30 t.asm ++ two in
     omega (
       arith,
-      length-append (number w64 s.incarnation) (number w64 t.repair ++ three),
-      length-append (number w64 t.repair) three,
+      length-append (number_bytes w64 s.incarnation) (number_bytes w64 t.repair ++ three),
+      length-append (number_bytes w64 t.repair) three,
       length-append (name_field 30 t.asm) two,
       length-append (name_field 30 t.rdbms) (name_field 30 t.advm),
       len64 s.incarnation,

@@ -9,7 +9,7 @@ use Rattle.asm_group.specs.Names.{Bytes}
 use Rattle.asm_formats.specs.Bytes.{block, is_open}
 use Rattle.asm_formats.specs.Regions.{first_log, second_log}
 use Rattle.asm_formats.specs.Content.{is_page}
-use Rattle.asm_formats.specs.Logs.{PageImage, Log, head_of, log_head_at, decoded_log_head, blocks_from, images_at, log_at, log_decodes, in_log, newest_first, open_logs, slot_decodes, logs_decode}
+use Rattle.asm_formats.specs.Logs.{PageImage, Log, head_of_log, log_head_at, decoded_log_head, blocks_from, images_at, log_at, log_decodes, in_log, newest_first, open_logs, slot_decodes, logs_decode}
 use Rattle.asm_formats.specs.Slots.{ArePair}
 use Rattle.asm_formats.specs.LogSlots.{IsLog}
 use Rattle.asm_formats.specs.Commits.{HoldsLog}
@@ -23,13 +23,13 @@ zip_back [] = refl
 zip_back (i ∷ images) = ap (λ (l : List PageImage). i ∷ l) (zip_back images)
 
 module _ (d : ℕ) (bytes : Bytes) (k : ℕ) (log : Log) (small : d ≤ 2 ^ 32) (ok : IsLog d log) (holds : HoldsLog bytes k log) where
-  head_read : log_head_at (block bytes (k + 1)) ≡ head_of log
-  head_read = ap log_head_at holds.head ∙ log_head_read d (head_of log) small ok.0
+  head_read : log_head_at (block bytes (k + 1)) ≡ head_of_log log
+  head_read = ap log_head_at holds.head ∙ log_head_read d (head_of_log log) small ok.0
 
-  head_decoded : decoded_log_head d (block bytes (k + 1)) ≡ Some (head_of log)
-  head_decoded = ap (decoded_log_head d) holds.head ∙ log_head_again d (head_of log) small ok.0
+  head_decoded : decoded_log_head d (block bytes (k + 1)) ≡ Some (head_of_log log)
+  head_decoded = ap (decoded_log_head d) holds.head ∙ log_head_again d (head_of_log log) small ok.0
 
-  images_read : images_at bytes (k + 2) (Some (head_of log)) ≡ log.images
+  images_read : images_at bytes (k + 2) (Some (head_of_log log)) ≡ log.images
   images_read =
       let count = length-map log.images (λ (i : PageImage). i.0) in
       ap (λ (n : ℕ). zip (map (λ (i : PageImage). i.0) log.images) (blocks_from bytes (k + 2) n)) count

@@ -4,7 +4,7 @@ use Rattle.std.specs.List.{list_all, flat_map}
 use Rattle.std.specs.Prelude.{nat_le, nat_lt}
 use Rattle.std.proofs.lemmas.Bool.{and_parts, and_from, ltb-true, leb-true, lt-ltb}
 use Rattle.asm_group.specs.Names.{Bytes}
-use Rattle.asm_formats.specs.Bytes.{number, number_at, whole_block, block_size}
+use Rattle.asm_formats.specs.Bytes.{number_bytes, number_at, whole_block, block_size}
 use Rattle.asm_formats.specs.Regions.{log_pages}
 use Rattle.asm_formats.specs.Status.{ascends_from}
 use Rattle.asm_formats.specs.Logs.{LogHead, log_head_spelling, is_log_head, log_head_at, decoded_log_head}
@@ -20,21 +20,21 @@ all_below d (n ∷ ns) le h =
 
 module _ (h : LogHead) (zeros : Bytes) where
   abbrev p2 : Bytes
-  p2 = flat_map (number w32) h.pages ++ zeros
+  p2 = flat_map (number_bytes w32) h.pages ++ zeros
 
   abbrev p1 : Bytes
-  p1 = number w32 (length h.pages) ++ p2
+  p1 = number_bytes w32 (length h.pages) ++ p2
 
   abbrev p0 : Bytes
-  p0 = number w64 h.commit ++ p1
+  p0 = number_bytes w64 h.commit ++ p1
 
   abbrev fields : Bytes
-  fields = codes "ASML" ++ (number w64 h.commit ++ (number w32 (length h.pages) ++ flat_map (number w32) h.pages))
+  fields = codes "ASML" ++ (number_bytes w64 h.commit ++ (number_bytes w32 (length h.pages) ++ flat_map (number_bytes w32) h.pages))
 
   row : fields ++ zeros ≡ codes "ASML" ++ p0
   row =
-      let e1 = join (number w32 (length h.pages)) _ p2 zeros refl in
-      ap (λ (l : Bytes). codes "ASML" ++ l) (join (number w64 h.commit) _ p1 zeros e1)
+      let e1 = join (number_bytes w32 (length h.pages)) _ p2 zeros refl in
+      ap (λ (l : Bytes). codes "ASML" ++ l) (join (number_bytes w64 h.commit) _ p1 zeros e1)
 
   read_head : h.commit < 2 ^ 64 → length h.pages ≤ 64 → list_all (λ p. nat_lt p (2 ^ 32)) h.pages ≡ true → log_head_at (codes "ASML" ++ p0) ≡ h
   unfolding log_head_at
@@ -42,7 +42,7 @@ module _ (h : LogHead) (zeros : Bytes) where
       rw (
         number64 h.commit p1 commit,
         number32 (length h.pages) p2 (omega (arith, count)),
-        repeated_again (number_at w32) (number w32) (λ p. nat_lt p (2 ^ 32)) (λ n rest ok. number32 n rest (ltb-true n (2 ^ 32) ok)) h.pages zeros pages,
+        repeated_again (number_at w32) (number_bytes w32) (λ p. nat_lt p (2 ^ 32)) (λ n rest ok. number32 n rest (ltb-true n (2 ^ 32) ok)) h.pages zeros pages,
       ) refl
 
 pub log_head_read : (d : ℕ) (h : LogHead) → d ≤ 2 ^ 32 → is_log_head d h ≡ true → log_head_at (log_head_spelling h) ≡ h

@@ -11,7 +11,7 @@ use Rattle.asm_formats.specs.Status.{Status, is_status, status_spelling, decoded
 use Rattle.asm_formats.specs.Pages.{decodes_in}
 use Rattle.asm_formats.specs.Metadata.{metadata, in_slot, header_of, content_of}
 use Rattle.asm_formats.specs.Places.{SameButBlocks}
-use Rattle.asm_formats.specs.Slots.{Moment, as_before, closed, put, IsPut, ArePair, Said, same_said, nothing_said, new_said}
+use Rattle.asm_formats.specs.Slots.{Moment, as_before, closed, open_with_body, IsPut, ArePair, MaySayAfter, same_said, nothing_said, new_said}
 use Rattle.asm_formats.specs.Puts.{PutsClaim, PutsStatus, PutsHeader, header_as_before, no_header, new_header}
 use Rattle.asm_formats.proofs.HeaderReading.{header_again, claim_again}
 use Rattle.asm_formats.proofs.StatusReading.{status_again}
@@ -19,10 +19,10 @@ use Rattle.asm_formats.proofs.Blocks.{SameSlot, in_slot_same, slot_before, slot_
 use Rattle.asm_formats.proofs.Framing.{header_write, claim_write, status_write, content_behind, copy_behind}
 
 module _ {A : Type 0} (decoded : Bytes → Option A) (old new : Bytes) (k : ℕ) (body : Bytes) (x : A) (reads : decoded body ≡ Some x) where
-  in_slot_after : Moment old new k body → Said (in_slot decoded old k) (in_slot decoded new k) x
+  in_slot_after : Moment old new k body → MaySayAfter (in_slot decoded old k) (in_slot decoded new k) x
   in_slot_after (as_before open_ same_body) = same_said (λ i. cond (open_ i) (decoded (same_body i) ∷ []) [])
   in_slot_after (closed shut) = nothing_said (cond-false (is_open new k) (decoded (block new (k + 1)) ∷ []) [] shut)
-  in_slot_after (put open_ is_body) = new_said (cond-true (is_open new k) (decoded (block new (k + 1)) ∷ []) [] open_ ∙ ap (λ (b : Bytes). decoded b ∷ []) is_body ∙ ap (λ (o : Option A). o ∷ []) reads)
+  in_slot_after (open_with_body open_ is_body) = new_said (cond-true (is_open new k) (decoded (block new (k + 1)) ∷ []) [] open_ ∙ ap (λ (b : Bytes). decoded b ∷ []) is_body ∙ ap (λ (o : Option A). o ∷ []) reads)
 
 -- the other slot of a pair
 other_same : (old new : Bytes) (a b k other : ℕ) → a + 2 ≡ b → ArePair a b k other → SameButBlocks old new k 2 → SameSlot old new other 2
@@ -78,7 +78,7 @@ header_put old new h long ok p = go p.moment
         shut_header : (a b : Bool) → b ≡ false → cond (a && b) (decoded_header (block new 1)) None ≡ None
         shut_header true b e = cond-false b (decoded_header (block new 1)) None e
         shut_header false b e = refl
-    go (put open_ is_body) =
+    go (open_with_body open_ is_body) =
         let size : nat_le least_size (length new) ≡ true = le-leb least_size (length new) (omega (arith, long, p.elsewhere.size)) in
         let header : header_of new ≡ Some h = cond-true (nat_le least_size (length new) && is_open new header_gate) (decoded_header (block new 1)) None (and_from (nat_le least_size (length new)) (is_open new header_gate) size open_)
         ∙ ap decoded_header is_body ∙ header_again h ok in

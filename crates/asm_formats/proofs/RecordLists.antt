@@ -7,14 +7,14 @@ use Rattle.std.proofs.lemmas.Option.{same_Some, none-some}
 use Rattle.asm_group.specs.Names.{Bytes}
 use Rattle.asm_formats.specs.Among.{IsAmong}
 use Rattle.asm_formats.specs.Status.{ascends_from}
-use Rattle.asm_formats.specs.Items.{Item, key, key_rank}
+use Rattle.asm_formats.specs.Items.{Item, item_key, key_rank}
 use Rattle.asm_formats.specs.Content.{is_page, page_items, with_item, with_items, records_in}
-use Rattle.asm_formats.specs.PageLaws.{AreRecordsOf, AreApart}
+use Rattle.asm_formats.specs.PageLaws.{AreRecordsOf, HaveOwnKeys}
 use Rattle.asm_formats.proofs.Among.{among_index}
 use Rattle.asm_formats.proofs.PageReading.{page_read}
 
 abbrev rank : Item → ℕ
-rank i = key_rank (key i)
+rank i = key_rank (item_key i)
 
 abbrev ranks : List Item → List ℕ
 ranks items = map rank items
@@ -137,7 +137,7 @@ records_of (page ∷ pages) items e = by_page page pages items (λ others. recor
 abbrev HasRecords : List Bytes → Type 0
 HasRecords pages = (items : List Item) × (records_in pages ≡ Some items)
 
-module _ (page : Bytes) (pages : List Bytes) (apart : AreApart (page ∷ pages)) (others : List Item) (rest : records_in pages ≡ Some others) where
+module _ (page : Bytes) (pages : List Bytes) (apart : HaveOwnKeys (page ∷ pages)) (others : List Item) (rest : records_in pages ≡ Some others) where
   -- an item of the page finds its place
   one_place : (i : Item) → page_items page ≡ Some (i ∷ []) → (o : Option (List Item)) → Placed i others o → (items : List Item) × (o ≡ Some items)
   one_place i at None p =
@@ -153,7 +153,7 @@ module _ (page : Bytes) (pages : List Bytes) (apart : AreApart (page ∷ pages))
       (found.0, ap (λ (l : List Item). with_items l others) p.1 ∙ found.1))
       (page_cases page is at)
 
-pub have_records : (pages : List Bytes) → ((page : Bytes) → IsAmong pages page → is_page page ≡ true) → AreApart pages → HasRecords pages
+pub have_records : (pages : List Bytes) → ((page : Bytes) → IsAmong pages page → is_page page ≡ true) → HaveOwnKeys pages → HasRecords pages
 unfolding records_in
 have_records [] decode apart = ([], refl)
 have_records (page ∷ pages) decode apart =
@@ -166,7 +166,7 @@ have_records (page ∷ pages) decode apart =
     some_of None e = absurd (false≢true e)
     some_of (Some l) e = (l, refl)
 
-pub pages_have_records : (pages : List Bytes) → ((page : Bytes) → IsAmong pages page → is_page page ≡ true) → AreApart pages → is_some (records_in pages) ≡ true
+pub pages_have_records : (pages : List Bytes) → ((page : Bytes) → IsAmong pages page → is_page page ≡ true) → HaveOwnKeys pages → is_some (records_in pages) ≡ true
 pages_have_records pages decode apart = ap is_some (have_records pages decode apart).1
 
 -- ---- one list
@@ -238,7 +238,7 @@ module _ (page : Bytes) (pages : List Bytes) (items : List Item) where
       go None rest e = absurd (none-some items e)
       go (Some others) rest e = (others, rest)
 
-pub records_apart : (pages : List Bytes) (items : List Item) → records_in pages ≡ Some items → AreApart pages
+pub records_apart : (pages : List Bytes) (items : List Item) → records_in pages ≡ Some items → HaveOwnKeys pages
 unfolding records_in
 records_apart [] items e p q i j lt below = absurd (omega (arith, below))
 records_apart (page ∷ pages) items e p zero i j lt below = absurd (omega (arith, lt))

@@ -6,8 +6,8 @@ use Rattle.std.proofs.lemmas.Bool.{and_parts, and_from, ltb-true, leb-true, lt-l
 use Rattle.std.proofs.lemmas.List.{take_at}
 use Rattle.std.proofs.lemmas.Option.{none-some}
 use Rattle.asm_group.specs.Names.{Bytes}
-use Rattle.asm_formats.specs.Bytes.{number, whole_block, block_size}
-use Rattle.asm_formats.specs.Items.{Item, file_item, chunk_item, disk_item, rebalance_item, pending_item, templates_item, node_item, settings_item, marks_item, Key, key, is_item}
+use Rattle.asm_formats.specs.Bytes.{number_bytes, whole_block, block_size}
+use Rattle.asm_formats.specs.Items.{Item, file_item, chunk_item, disk_item, rebalance_item, pending_item, templates_item, node_item, settings_item, marks_item, Key, item_key, is_item}
 use Rattle.asm_formats.specs.Values.{decoded_item}
 use Rattle.asm_formats.specs.Records.{Frame, most_value, frame_spelling, is_frame, frame_at, decoded_frame, frame_of, record_spelling, decoded_record}
 use Rattle.asm_formats.proofs.Codec.{own_spelling, IsSpelledBy, spelled}
@@ -43,27 +43,27 @@ module _ (f : Frame) (zeros : Bytes) where
   t4 = replicate 16 0 ++ (f.value ++ zeros)
 
   abbrev t3 : Bytes
-  t3 = number w16 (length f.value) ++ t4
+  t3 = number_bytes w16 (length f.value) ++ t4
 
   abbrev t2 : Bytes
-  t2 = number w32 f.key.b ++ t3
+  t2 = number_bytes w32 f.key.b ++ t3
 
   abbrev t1 : Bytes
-  t1 = number w32 f.key.a ++ t2
+  t1 = number_bytes w32 f.key.a ++ t2
 
   abbrev t0 : Bytes
-  t0 = number w16 f.key.kind ++ t1
+  t0 = number_bytes w16 f.key.kind ++ t1
 
   abbrev frame_fields : Bytes
-  frame_fields = codes "ASMR" ++ (number w16 f.key.kind ++ (number w32 f.key.a ++ (number w32 f.key.b ++ (number w16 (length f.value) ++ (replicate 16 0 ++ f.value)))))
+  frame_fields = codes "ASMR" ++ (number_bytes w16 f.key.kind ++ (number_bytes w32 f.key.a ++ (number_bytes w32 f.key.b ++ (number_bytes w16 (length f.value) ++ (replicate 16 0 ++ f.value)))))
 
   frame_row : frame_fields ++ zeros ≡ codes "ASMR" ++ t0
   frame_row =
       let e4 = append_assoc (replicate 16 0) f.value zeros in
-      let e3 = join (number w16 (length f.value)) _ t4 zeros e4 in
-      let e2 = join (number w32 f.key.b) _ t3 zeros e3 in
-      let e1 = join (number w32 f.key.a) _ t2 zeros e2 in
-      let e0 = join (number w16 f.key.kind) _ t1 zeros e1 in
+      let e3 = join (number_bytes w16 (length f.value)) _ t4 zeros e4 in
+      let e2 = join (number_bytes w32 f.key.b) _ t3 zeros e3 in
+      let e1 = join (number_bytes w32 f.key.a) _ t2 zeros e2 in
+      let e0 = join (number_bytes w16 f.key.kind) _ t1 zeros e1 in
       ap (λ (l : Bytes). codes "ASMR" ++ l) e0
 
   read_frame : FrameFits f → frame_at (codes "ASMR" ++ t0) ≡ f
@@ -88,7 +88,7 @@ record KeyFits (k : Key) : Type 0 where
   a : k.a < 2 ^ 32
   b : k.b < 2 ^ 32
 
-key_fits : (i : Item) → is_item i ≡ true → KeyFits (key i)
+key_fits : (i : Item) → is_item i ≡ true → KeyFits (item_key i)
 unfolding is_item
 key_fits (file_item f h) ok = record { kind = omega arith; a = ltb-true f (2 ^ 32) (and_parts (nat_lt f (2 ^ 32)) _ ok).0; b = omega arith }
 key_fits (chunk_item f c homes) ok =

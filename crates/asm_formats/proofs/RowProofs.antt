@@ -2,7 +2,7 @@
 use Rattle.std.proofs.Common.{inl, inr, ⊎_elim, ℕ, ◌+◌, ◌*◌, List, [], ◌∷◌, length, refl, ap, arith}
 use Rattle.asm_group.specs.Names.{is_name, is_part}
 use Rattle.asm_group.specs.Shape.{is_shape}
-use Rattle.asm_formats.specs.Bytes.{number, name_field, whole_block}
+use Rattle.asm_formats.specs.Bytes.{number_bytes, name_field, whole_block}
 use Rattle.asm_formats.specs.Header.{is_header, header_fields, header_spelling}
 use Rattle.asm_formats.specs.Claim.{claim_spelling}
 use Rattle.asm_formats.specs.Sets.{has_bit, elements}
@@ -16,7 +16,7 @@ unfolding is_header header_fields header_spelling whole_block name_field is_name
 header_row = (refl, refl, refl)
 
 pub claim_row : ClaimRow
-unfolding claim_spelling whole_block number
+unfolding claim_spelling whole_block number_bytes
 claim_row = refl
 
 pub status_row : StatusRow

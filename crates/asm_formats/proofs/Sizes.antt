@@ -6,7 +6,7 @@ use Rattle.std.proofs.lemmas.Bool.{and_parts, leb-true, ltb-true}
 use Rattle.std.proofs.lemmas.List.{length-append, length-replicate}
 use Rattle.asm_group.specs.Names.{Bytes, is_name}
 use Rattle.asm_group.specs.Shape.{is_shape}
-use Rattle.asm_formats.specs.Bytes.{block_size, number, name_field, whole_block}
+use Rattle.asm_formats.specs.Bytes.{block_size, number_bytes, name_field, whole_block}
 use Rattle.asm_formats.specs.Codes.{flag, kind_code, mode_code}
 use Rattle.asm_formats.specs.Sets.{most_disks}
 use Rattle.asm_formats.specs.Header.{Header, form, is_header, header_fields, header_spelling}
@@ -25,14 +25,14 @@ unfolding whole_block
 whole_len fields le = omega (arith, length-append fields (replicate (block_size - length fields) 0), length-replicate {A = ℕ} (block_size - length fields) 0, le)
 
 -- one field more in front
-more16 : (n : ℕ) (rest : Bytes) → length (number w16 n ++ rest) ≡ 2 + length rest
-more16 n rest = omega (arith, length-append (number w16 n) rest, len16 n)
+more16 : (n : ℕ) (rest : Bytes) → length (number_bytes w16 n ++ rest) ≡ 2 + length rest
+more16 n rest = omega (arith, length-append (number_bytes w16 n) rest, len16 n)
 
-more32 : (n : ℕ) (rest : Bytes) → length (number w32 n ++ rest) ≡ 4 + length rest
-more32 n rest = omega (arith, length-append (number w32 n) rest, len32 n)
+more32 : (n : ℕ) (rest : Bytes) → length (number_bytes w32 n ++ rest) ≡ 4 + length rest
+more32 n rest = omega (arith, length-append (number_bytes w32 n) rest, len32 n)
 
-more64 : (n : ℕ) (rest : Bytes) → length (number w64 n ++ rest) ≡ 8 + length rest
-more64 n rest = omega (arith, length-append (number w64 n) rest, len64 n)
+more64 : (n : ℕ) (rest : Bytes) → length (number_bytes w64 n ++ rest) ≡ 8 + length rest
+more64 n rest = omega (arith, length-append (number_bytes w64 n) rest, len64 n)
 
 more_name : (name rest : Bytes) → is_name name ≡ true → length (name_field 30 name ++ rest) ≡ 31 + length rest
 more_name name rest ok = omega (arith, length-append (name_field 30 name) rest, len_name 30 name (name_len name ok))
@@ -48,14 +48,14 @@ header_len h ok =
     let d = and_parts (nat_lt h.number most_disks) _ c.1 in
     let e = and_parts (nat_lt h.birth (2 ^ 64)) _ d.1 in
     let f = and_parts (is_name h.disk) (is_name h.failgroup) e.1 in
-    let s4 = number w16 h.shape.dir_blocks in
-    let s3 = number w16 h.shape.step ++ s4 in
-    let s2 = number w16 h.shape.sector ++ s3 in
-    let s1 = number w32 h.shape.au ++ s2 in
+    let s4 = number_bytes w16 h.shape.dir_blocks in
+    let s3 = number_bytes w16 h.shape.step ++ s4 in
+    let s2 = number_bytes w16 h.shape.sector ++ s3 in
+    let s1 = number_bytes w32 h.shape.au ++ s2 in
     let n2 = name_field 30 h.failgroup ++ (flag h.quorum ∷ s1) in
     let n1 = name_field 30 h.disk ++ n2 in
-    let birth = number w64 h.birth ++ (kind_code h.shape.kind ∷ n1) in
-    let id = number w64 h.id ++ (h.number ∷ birth) in
+    let birth = number_bytes w64 h.birth ++ (kind_code h.shape.kind ∷ n1) in
+    let id = number_bytes w64 h.id ++ (h.number ∷ birth) in
     whole_len (codes "ASMH" ++ (form ∷ name_field 30 h.group ++ id)) (omega (
       arith,
       more_name h.group id b.0,
@@ -71,17 +71,17 @@ header_len h ok =
 
 claim_len : (c : Claim) → length (claim_spelling c) ≡ block_size
 unfolding claim_spelling
-claim_len c = whole_len (codes "ASMC" ++ (number w64 c.id ++ number w64 c.epoch)) (omega (arith, more64 c.id (number w64 c.epoch), len64 c.epoch))
+claim_len c = whole_len (codes "ASMC" ++ (number_bytes w64 c.id ++ number_bytes w64 c.epoch)) (omega (arith, more64 c.id (number_bytes w64 c.epoch), len64 c.epoch))
 
 -- ---- status records
 
 entry_len : (e : Entry) → length (entry_fields e) ≡ 40
 unfolding entry_fields
 entry_len e =
-    let p3 = number w64 e.partners in
-    let p2 = number w64 e.repair ++ p3 in
-    let p1 = number w64 e.since ++ p2 in
-    let units = number w32 e.units ++ p1 in
+    let p3 = number_bytes w64 e.partners in
+    let p2 = number_bytes w64 e.repair ++ p3 in
+    let p1 = number_bytes w64 e.since ++ p2 in
+    let units = number_bytes w32 e.units ++ p1 in
     omega (arith, more64 e.birth (mode_code e.mode ∷ e.failgroup ∷ flag e.quorum ∷ units), more32 e.units p1, more64 e.since p2, more64 e.repair p3, len64 e.partners)
 
 -- ascending numbers below a bound are few
@@ -123,18 +123,18 @@ tail_len r = omega (arith, more64 r.directories (length r.entries ∷ flat_map e
 front_len : (version : ℕ) (r : Status) (rest : Bytes) → length (front_fields version r rest) ≡ 47 + length rest
 unfolding front_fields
 front_len version r rest =
-    let q5 = number w64 r.holders ++ rest in
-    let q4 = number w64 r.births ++ q5 in
-    let q2 = number w64 r.turn ++ (flag r.gone ∷ q4) in
-    let q1 = number w64 r.epoch ++ q2 in
-    let q0 = number w64 r.id ++ q1 in
+    let q5 = number_bytes w64 r.holders ++ rest in
+    let q4 = number_bytes w64 r.births ++ q5 in
+    let q2 = number_bytes w64 r.turn ++ (flag r.gone ∷ q4) in
+    let q1 = number_bytes w64 r.epoch ++ q2 in
+    let q0 = number_bytes w64 r.id ++ q1 in
     omega (arith, more16 version q0, more64 r.id q1, more64 r.epoch q2, more64 r.turn (flag r.gone ∷ q4), more64 r.births q5, more64 r.holders rest)
 
 status_len : (r : Status) → is_status r ≡ true → length (status_spelling r) ≡ block_size
 unfolding status_spelling
 status_len r ok =
-    whole_len (front_fields 2 r (number w64 r.next_holders ++ tail_fields r))
-    (omega (arith, front_len 2 r (number w64 r.next_holders ++ tail_fields r), more64 r.next_holders (tail_fields r), tail_len r, few_entries r ok))
+    whole_len (front_fields 2 r (number_bytes w64 r.next_holders ++ tail_fields r))
+    (omega (arith, front_len 2 r (number_bytes w64 r.next_holders ++ tail_fields r), more64 r.next_holders (tail_fields r), tail_len r, few_entries r ok))
 
 status_len_1 : (r : Status) → is_status r ≡ true → length (status_spelling_1 r) ≡ block_size
 unfolding status_spelling_1
@@ -149,10 +149,10 @@ frame_len f ok =
     let q = and_parts (nat_lt f.key.a (2 ^ 32)) _ p.1 in
     let r = and_parts (nat_lt f.key.b (2 ^ 32)) (nat_le (length f.value) most_value) q.1 in
     let t4 = replicate 16 0 ++ f.value in
-    let t3 = number w16 (length f.value) ++ t4 in
-    let t2 = number w32 f.key.b ++ t3 in
-    let t1 = number w32 f.key.a ++ t2 in
-    whole_len (codes "ASMR" ++ (number w16 f.key.kind ++ t1)) (omega (
+    let t3 = number_bytes w16 (length f.value) ++ t4 in
+    let t2 = number_bytes w32 f.key.b ++ t3 in
+    let t1 = number_bytes w32 f.key.a ++ t2 in
+    whole_len (codes "ASMR" ++ (number_bytes w16 f.key.kind ++ t1)) (omega (
       arith,
       more16 f.key.kind t1,
       more32 f.key.a t2,
@@ -173,13 +173,13 @@ all_pages (p ∷ ps) = all_pages ps
 log_head_size : (d : ℕ) (h : LogHead) → is_log_head d h ≡ true → length (log_head_spelling h) ≡ block_size
 unfolding log_head_spelling
 log_head_size d h ok =
-    let pages = flat_map (number w32) h.pages in
-    let count = number w32 (length h.pages) ++ pages in
-    whole_len (codes "ASML" ++ (number w64 h.commit ++ count)) (omega (
+    let pages = flat_map (number_bytes w32) h.pages in
+    let count = number_bytes w32 (length h.pages) ++ pages in
+    whole_len (codes "ASML" ++ (number_bytes w64 h.commit ++ count)) (omega (
       arith,
       more64 h.commit count,
       more32 (length h.pages) pages,
-      len_flat_map (number w32) any_page 4 (λ n any. len32 n) h.pages (all_pages h.pages),
+      len_flat_map (number_bytes w32) any_page 4 (λ n any. len32 n) h.pages (all_pages h.pages),
       log_head_len d h ok,
     ))
 

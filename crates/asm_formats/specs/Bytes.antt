@@ -25,8 +25,8 @@ is_open bytes k = slice_index bytes (k * block_size) == open_byte
 
 -- ---- fields as they are written
 
-unfoldable pub number : Width → ℕ → Bytes
-number w n = to_be_bytes w n
+unfoldable pub number_bytes : Width → ℕ → Bytes
+number_bytes w n = to_be_bytes w n
 
 -- the length, the name, and zeros up to the width
 unfoldable pub name_field : ℕ → Bytes → Bytes
@@ -44,15 +44,15 @@ byte_at bytes = (slice_index bytes 0, drop 1 bytes)
 unfoldable pub number_at : Width → Bytes → ℕ × Bytes
 number_at w bytes = (from_be_bytes w (take (byte_len w) bytes), drop (byte_len w) bytes)
 
-unfoldable pub name_at : ℕ → Bytes → Bytes × Bytes
-name_at width bytes = (take (slice_index bytes 0) (drop 1 bytes), drop (width + 1) bytes)
+unfoldable pub name_in_bytes : ℕ → Bytes → Bytes × Bytes
+name_in_bytes width bytes = (take (slice_index bytes 0) (drop 1 bytes), drop (width + 1) bytes)
 
 -- so many values, one behind another
-abbrev pub repeated : {A : Type 0} → (Bytes → A × Bytes) → ℕ → Bytes → List A × Bytes
-repeated read zero bytes = ([], bytes)
-repeated read (suc n) bytes =
+abbrev pub values_at : {A : Type 0} → (Bytes → A × Bytes) → ℕ → Bytes → List A × Bytes
+values_at read zero bytes = ([], bytes)
+values_at read (suc n) bytes =
     let first = read bytes in
-    let others = repeated read n first.1 in
+    let others = values_at read n first.1 in
     (first.0 ∷ others.0, others.1)
 
 -- x, where it is allowed and the bytes are its one spelling

@@ -2,7 +2,7 @@
 use Rattle.std.specs.Prelude.{ℕ, ◌^◌, Bool, ◌&&◌, ◌++◌, drop, nat_lt, codes, Option}
 use Rattle.std.specs.Int.{w64}
 use Rattle.asm_group.specs.Names.{Bytes}
-use Rattle.asm_formats.specs.Bytes.{number, whole_block, number_at, spelled_by}
+use Rattle.asm_formats.specs.Bytes.{number_bytes, whole_block, number_at, spelled_by}
 
 pub record Claim : Type 0 where
   pub id : ℕ
@@ -10,7 +10,7 @@ pub record Claim : Type 0 where
 
 -- the claim's one spelling
 unfoldable pub claim_spelling : Claim → Bytes
-claim_spelling c = whole_block (codes "ASMC" ++ (number w64 c.id ++ number w64 c.epoch))
+claim_spelling c = whole_block (codes "ASMC" ++ (number_bytes w64 c.id ++ number_bytes w64 c.epoch))
 
 unfoldable pub is_claim : Claim → Bool
 is_claim c = nat_lt c.id (2 ^ 64) && nat_lt c.epoch (2 ^ 64)

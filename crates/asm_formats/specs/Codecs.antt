@@ -6,7 +6,7 @@ use Rattle.asm_formats.specs.Sets.{most_disks}
 use Rattle.asm_formats.specs.Header.{Header, is_header, header_spelling, decoded_header}
 use Rattle.asm_formats.specs.Claim.{Claim, is_claim, claim_spelling, decoded_claim}
 use Rattle.asm_formats.specs.Status.{Status, Entry, entry_fields, is_status, status_spelling, status_spelling_1, decoded_status}
-use Rattle.asm_formats.specs.Items.{Item, Key, key, is_item}
+use Rattle.asm_formats.specs.Items.{Item, Key, item_key, is_item}
 use Rattle.asm_formats.specs.Values.{value, decoded_item}
 use Rattle.asm_formats.specs.Records.{Frame, most_value, is_frame, frame_spelling, decoded_frame, record_spelling, decoded_record}
 use Rattle.asm_formats.specs.Logs.{LogHead, is_log_head, log_head_spelling, decoded_log_head}
@@ -35,8 +35,8 @@ FrameCodec = IsCodec is_frame frame_spelling decoded_frame
 
 -- a value is decoded by its key
 pub record IsItemCodec : Type 0 where
-  pub decoded : (k : Key) (bytes : Bytes) (i : Item) → decoded_item k bytes ≡ Some i → IsTrue (is_item i) × (key i ≡ k) × (bytes ≡ value i)
-  pub again : (i : Item) → IsTrue (is_item i) → decoded_item (key i) (value i) ≡ Some i
+  pub decoded : (k : Key) (bytes : Bytes) (i : Item) → decoded_item k bytes ≡ Some i → IsTrue (is_item i) × (item_key i ≡ k) × (bytes ≡ value i)
+  pub again : (i : Item) → IsTrue (is_item i) → decoded_item (item_key i) (value i) ≡ Some i
 
 abbrev pub RecordCodec : Type 0
 RecordCodec = IsCodec is_item record_spelling decoded_record

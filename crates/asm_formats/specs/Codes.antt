@@ -19,15 +19,15 @@ kind_code External = 1
 kind_code Normal = 2
 kind_code High = 3
 
-abbrev pub kind_of : ℕ → GroupKind
-kind_of n = if n == 1 then External else if n == 2 then Normal else High
+abbrev pub group_kind_of : ℕ → GroupKind
+group_kind_of n = if n == 1 then External else if n == 2 then Normal else High
 
 abbrev pub stripe_code : Stripe → ℕ
 stripe_code Coarse = 1
 stripe_code Fine = 2
 
-abbrev pub stripe_of : ℕ → Stripe
-stripe_of n = if n == 1 then Coarse else Fine
+abbrev pub stripe_of_code : ℕ → Stripe
+stripe_of_code n = if n == 1 then Coarse else Fine
 
 abbrev pub mode_code : Mode → ℕ
 mode_code Online = 1

@@ -5,12 +5,12 @@ use Rattle.asm_group.specs.Names.{Bytes}
 use Rattle.asm_formats.specs.Bytes.{block, is_open}
 use Rattle.asm_formats.specs.Regions.{region_start, first_log, second_log, has_region}
 use Rattle.asm_formats.specs.Header.{Header}
-use Rattle.asm_formats.specs.Logs.{Log, PageImage, head_of, log_head_spelling, blocks_from, log_at, log_decodes, logs_decode, open_logs, image_in}
+use Rattle.asm_formats.specs.Logs.{Log, PageImage, head_of_log, log_head_spelling, blocks_from, log_at, log_decodes, logs_decode, open_logs, image_in}
 use Rattle.asm_formats.specs.Pages.{committed, home_page, with_images, IsCheckpointed}
 use Rattle.asm_formats.specs.Metadata.{metadata, header_of}
 use Rattle.asm_formats.specs.Places.{SameButBlocks}
 use Rattle.asm_formats.specs.Slots.{ArePair}
-use Rattle.asm_formats.specs.LogSlots.{IsLog, MayClose, IsLogPut, IsLogClose, IsCheckpoint}
+use Rattle.asm_formats.specs.LogSlots.{IsLog, MayCloseLog, IsLogPut, IsLogClose, IsCheckpoint}
 
 -- ---- a commit
 
@@ -29,7 +29,7 @@ LogPutCommits =
 -- the slot behind gate k is open and holds the log
 pub record HoldsLog (bytes : Bytes) (k : ℕ) (log : Log) : Type 0 where
   pub gate : is_open bytes k ≡ true
-  pub head : block bytes (k + 1) ≡ log_head_spelling (head_of log)
+  pub head : block bytes (k + 1) ≡ log_head_spelling (head_of_log log)
   pub images : blocks_from bytes (k + 2) (length log.images) ≡ map (λ (i : PageImage). i.1) log.images
 
 -- Once it is put, the copy has the new content.
@@ -40,8 +40,8 @@ LogPutIsCommitted =
     → metadata new ≡ record (metadata old) { content = Some (committed h.shape.dir_blocks old log); decodes = is_some (committed h.shape.dir_blocks old log).items }
 
 -- A log is read as it was put.
-abbrev pub LogIsRead : Type 0
-LogIsRead =
+abbrev pub LogIsReadBack : Type 0
+LogIsReadBack =
     (dir_blocks : ℕ) (bytes : Bytes) (k : ℕ) (log : Log) → dir_blocks ≤ 2 ^ 32 → IsLog dir_blocks log → HoldsLog bytes k log
     → (log_at dir_blocks bytes k ≡ log) × IsTrue (log_decodes dir_blocks bytes k)
 
@@ -55,7 +55,7 @@ OpenLogsDecode =
 abbrev pub ClosedMayClose : Type 0
 ClosedMayClose =
     (dir_blocks : ℕ) (bytes : Bytes) (k other : ℕ) → ArePair (first_log dir_blocks) (second_log dir_blocks) k other → is_open bytes k ≡ false → is_open bytes other ≡ false
-    → MayClose dir_blocks bytes k other
+    → MayCloseLog dir_blocks bytes k other
 
 -- ---- a checkpoint
 
@@ -84,7 +84,7 @@ CommitIsCheckpointed =
 -- The slot that doesn't hold the content may be closed.
 abbrev pub CloseKeepsMetadata : Type 0
 CloseKeepsMetadata =
-    (h : Header) (old new : Bytes) (k other : ℕ) → header_of old ≡ Some h → MayClose h.shape.dir_blocks old k other → IsLogClose old new k → metadata new ≡ metadata old
+    (h : Header) (old new : Bytes) (k other : ℕ) → header_of old ≡ Some h → MayCloseLog h.shape.dir_blocks old k other → IsLogClose old new k → metadata new ≡ metadata old
 
 -- With the last open slot the content goes, and not before.
 abbrev pub LastCloseLosesContent : Type 0

@@ -4,7 +4,7 @@ use Rattle.std.specs.Option.{option_and_then, option_map, is_some}
 use Rattle.std.specs.Str.{bytes_eq}
 use Rattle.asm_group.specs.Names.{Bytes}
 use Rattle.asm_formats.specs.Bytes.{block_size}
-use Rattle.asm_formats.specs.Items.{Item, key, key_rank}
+use Rattle.asm_formats.specs.Items.{Item, item_key, key_rank}
 use Rattle.asm_formats.specs.Records.{decoded_record}
 
 pub record Content : Type 0 where
@@ -27,8 +27,8 @@ is_page page = is_some (page_items page)
 unfoldable pub with_item : Item → List Item → Option (List Item)
 with_item i [] = Some (i ∷ [])
 with_item i (j ∷ js) =
-    if nat_lt (key_rank (key i)) (key_rank (key j)) then Some (i ∷ j ∷ js)
-    else if key_rank (key i) == key_rank (key j) then None
+    if nat_lt (key_rank (item_key i)) (key_rank (item_key j)) then Some (i ∷ j ∷ js)
+    else if key_rank (item_key i) == key_rank (item_key j) then None
     else option_map (λ ks. j ∷ ks) (with_item i js)
 
 -- the items of a page among the others

@@ -11,7 +11,7 @@ use Rattle.asm_formats.specs.Status.{decoded_status}
 use Rattle.asm_formats.specs.Content.{is_page}
 use Rattle.asm_formats.specs.Logs.{LogHead, decoded_log_head, open_logs, image_in}
 use Rattle.asm_formats.specs.Pages.{home_page, pages_of}
-use Rattle.asm_formats.specs.PageLaws.{AreApart}
+use Rattle.asm_formats.specs.PageLaws.{HaveOwnKeys}
 use Rattle.asm_formats.specs.Metadata.{metadata, header_of}
 
 -- ---- claims and status records
@@ -55,7 +55,7 @@ DamageIsSeen = (h : Header) (bytes : Bytes) → header_of bytes ≡ Some h → (
 -- A copy without damage decodes, where no two of its pages hold one key.
 abbrev pub WholeCopyDecodes : Type 0
 WholeCopyDecodes =
-    (h : Header) (bytes : Bytes) → header_of bytes ≡ Some h → directory_damage h.shape.dir_blocks bytes ≡ None → AreApart (pages_of h.shape.dir_blocks bytes)
+    (h : Header) (bytes : Bytes) → header_of bytes ≡ Some h → directory_damage h.shape.dir_blocks bytes ≡ None → HaveOwnKeys (pages_of h.shape.dir_blocks bytes)
     → (metadata bytes).decodes ≡ true
 
 -- Claims and status records decode exactly where no such body is spoiled.

@@ -107,16 +107,16 @@ pub record Key : Type 0 where
   pub a : ℕ
   pub b : ℕ
 
-abbrev pub key : Item → Key
-key (file_item f head) = record { kind = files_kind; a = f; b = 0 }
-key (chunk_item f c homes) = record { kind = files_kind; a = f; b = c + 1 }
-key (disk_item d info) = record { kind = disks_kind; a = d; b = 0 }
-key (rebalance_item power) = record { kind = operations_kind; a = 0; b = 0 }
-key (pending_item op) = record { kind = operations_kind; a = 1; b = 0 }
-key (templates_item ts) = record { kind = templates_kind; a = 0; b = 0 }
-key (node_item n node) = record { kind = nodes_kind; a = n; b = 0 }
-key (settings_item s) = record { kind = settings_kind; a = 0; b = 0 }
-key (marks_item f c marks) = record { kind = marks_kind; a = f; b = c }
+abbrev pub item_key : Item → Key
+item_key (file_item f head) = record { kind = files_kind; a = f; b = 0 }
+item_key (chunk_item f c homes) = record { kind = files_kind; a = f; b = c + 1 }
+item_key (disk_item d info) = record { kind = disks_kind; a = d; b = 0 }
+item_key (rebalance_item power) = record { kind = operations_kind; a = 0; b = 0 }
+item_key (pending_item op) = record { kind = operations_kind; a = 1; b = 0 }
+item_key (templates_item ts) = record { kind = templates_kind; a = 0; b = 0 }
+item_key (node_item n node) = record { kind = nodes_kind; a = n; b = 0 }
+item_key (settings_item s) = record { kind = settings_kind; a = 0; b = 0 }
+item_key (marks_item f c marks) = record { kind = marks_kind; a = f; b = c }
 
 -- the order of keys, as one number
 abbrev pub key_rank : Key → ℕ

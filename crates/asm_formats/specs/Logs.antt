@@ -4,7 +4,7 @@ use Rattle.std.specs.Int.{w32, w64}
 use Rattle.std.specs.List.{list_all}
 use Rattle.std.specs.Option.{is_some, option_map, option_or}
 use Rattle.asm_group.specs.Names.{Bytes}
-use Rattle.asm_formats.specs.Bytes.{block, is_open, number, number_at, whole_block, repeated, spelled_by}
+use Rattle.asm_formats.specs.Bytes.{block, is_open, number_bytes, number_at, whole_block, values_at, spelled_by}
 use Rattle.asm_formats.specs.Regions.{log_pages, first_log, second_log}
 use Rattle.asm_formats.specs.Status.{ascends_from}
 use Rattle.asm_formats.specs.Content.{is_page}
@@ -18,7 +18,7 @@ pub record LogHead : Type 0 where
 
 -- the head's one spelling
 unfoldable pub log_head_spelling : LogHead → Bytes
-log_head_spelling h = whole_block (codes "ASML" ++ (number w64 h.commit ++ (number w32 (length h.pages) ++ flat_map (number w32) h.pages)))
+log_head_spelling h = whole_block (codes "ASML" ++ (number_bytes w64 h.commit ++ (number_bytes w32 (length h.pages) ++ flat_map (number_bytes w32) h.pages)))
 
 -- ascending pages of a copy with so many
 unfoldable pub is_log_head : ℕ → LogHead → Bool
@@ -29,7 +29,7 @@ unfoldable pub log_head_at : Bytes → LogHead
 log_head_at bytes =
     let commit = number_at w64 (drop 4 bytes) in
     let count = number_at w32 commit.1 in
-    record { commit = commit.0; pages = (repeated (number_at w32) count.0 count.1).0 }
+    record { commit = commit.0; pages = (values_at (number_at w32) count.0 count.1).0 }
 
 -- the head that a block is the spelling of
 unfoldable pub decoded_log_head : ℕ → Bytes → Option LogHead
@@ -45,8 +45,8 @@ pub record Log : Type 0 where
   pub commit : ℕ
   pub images : List PageImage
 
-abbrev pub head_of : Log → LogHead
-head_of log = record { commit = log.commit; pages = map (λ (i : PageImage). i.0) log.images }
+abbrev pub head_of_log : Log → LogHead
+head_of_log log = record { commit = log.commit; pages = map (λ (i : PageImage). i.0) log.images }
 
 -- so many blocks from block k on
 abbrev pub blocks_from : Bytes → ℕ → ℕ → List Bytes
@@ -91,10 +91,10 @@ unfoldable pub logs_decode : ℕ → Bytes → Bool
 logs_decode dir_blocks bytes = slot_decodes dir_blocks bytes (first_log dir_blocks) && slot_decodes dir_blocks bytes (second_log dir_blocks)
 
 -- the image of a page among these
-abbrev pub image_of : List PageImage → ℕ → Option Bytes
-image_of images page = option_map (λ (i : PageImage). i.1) (find (λ (i : PageImage). i.0 == page) images)
+abbrev pub logged_image : List PageImage → ℕ → Option Bytes
+logged_image images page = option_map (λ (i : PageImage). i.1) (find (λ (i : PageImage). i.0 == page) images)
 
 -- the image that counts of a page: that of the first log that has one
 abbrev pub image_in : List Log → ℕ → Option Bytes
 image_in [] page = None
-image_in (log ∷ older) page = option_or (image_of log.images page) (image_in older page)
+image_in (log ∷ older) page = option_or (logged_image log.images page) (image_in older page)

@@ -5,7 +5,7 @@ use Rattle.asm_group.specs.Names.{Bytes}
 use Rattle.asm_formats.specs.Bytes.{block_size}
 use Rattle.asm_formats.specs.Among.{IsAmong}
 use Rattle.asm_formats.specs.Status.{ascends_from}
-use Rattle.asm_formats.specs.Items.{Item, key, key_rank, is_item}
+use Rattle.asm_formats.specs.Items.{Item, item_key, key_rank, is_item}
 use Rattle.asm_formats.specs.Records.{record_spelling}
 use Rattle.asm_formats.specs.Content.{is_page, page_items, records_in}
 
@@ -19,7 +19,7 @@ pub record IsPageCodec : Type 0 where
 
 -- in the order of keys, no two alike
 abbrev pub are_in_order : List Item → Bool
-are_in_order items = ascends_from 0 (map (λ i. key_rank (key i)) items)
+are_in_order items = ascends_from 0 (map (λ i. key_rank (item_key i)) items)
 
 -- the items are in order, each page decodes, and each item is that of a page
 pub record AreRecordsOf (pages : List Bytes) (items : List Item) : Type 0 where
@@ -32,14 +32,14 @@ abbrev pub RecordsAreOfPages : Type 0
 RecordsAreOfPages = (pages : List Bytes) (items : List Item) → records_in pages ≡ Some items → AreRecordsOf pages items
 
 -- no two pages hold one key
-abbrev pub AreApart : List Bytes → Type 0
-AreApart pages =
+abbrev pub HaveOwnKeys : List Bytes → Type 0
+HaveOwnKeys pages =
     (p q : ℕ) (i j : Item) → p < q → q < length pages → page_items (get_or pages p []) ≡ Some (i ∷ []) → page_items (get_or pages q []) ≡ Some (j ∷ [])
-    → key_rank (key i) ≡ key_rank (key j) → ⊥
+    → key_rank (item_key i) ≡ key_rank (item_key j) → ⊥
 
 -- Pages that decode and hold different keys have records.
 abbrev pub PagesHaveRecords : Type 0
-PagesHaveRecords = (pages : List Bytes) → ((page : Bytes) → IsAmong pages page → IsTrue (is_page page)) → AreApart pages → IsTrue (is_some (records_in pages))
+PagesHaveRecords = (pages : List Bytes) → ((page : Bytes) → IsAmong pages page → IsTrue (is_page page)) → HaveOwnKeys pages → IsTrue (is_some (records_in pages))
 
 -- Two lists in order with the same items are one.
 abbrev pub OrderedListsAreOne : Type 0
@@ -49,4 +49,4 @@ OrderedListsAreOne =
 
 -- Pages that have records hold different keys.
 abbrev pub RecordsAreApart : Type 0
-RecordsAreApart = (pages : List Bytes) (items : List Item) → records_in pages ≡ Some items → AreApart pages
+RecordsAreApart = (pages : List Bytes) (items : List Item) → records_in pages ≡ Some items → HaveOwnKeys pages

@@ -6,7 +6,7 @@ use Rattle.asm_group.specs.Names.{Bytes}
 use Rattle.asm_formats.specs.Bytes.{block}
 use Rattle.asm_formats.specs.Regions.{page_home, has_region}
 use Rattle.asm_formats.specs.Content.{Content, records_in}
-use Rattle.asm_formats.specs.Logs.{Log, PageImage, open_logs, logs_decode, image_of, image_in}
+use Rattle.asm_formats.specs.Logs.{Log, PageImage, open_logs, logs_decode, logged_image, image_in}
 
 -- the page as it stands at home
 abbrev pub home_page : Bytes → ℕ → Bytes
@@ -22,7 +22,7 @@ pages_of dir_blocks bytes = map (page_at dir_blocks bytes) (range_with_len 0 dir
 
 -- the same with some images in their place
 abbrev pub with_images : List PageImage → (ℕ → Bytes) → ℕ → Bytes
-with_images images pages page = unwrap_or (image_of images page) (pages page)
+with_images images pages page = unwrap_or (logged_image images page) (pages page)
 
 -- The content with these open logs. The commit number is that of the first. Where an open log slot doesn't decode there are no items.
 abbrev pub content_by : ℕ → Bytes → List Log → Option Content

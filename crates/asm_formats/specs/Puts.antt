@@ -7,12 +7,12 @@ use Rattle.asm_formats.specs.Claim.{Claim, is_claim, claim_spelling, decoded_cla
 use Rattle.asm_formats.specs.Status.{Status, is_status, status_spelling, decoded_status}
 use Rattle.asm_formats.specs.Pages.{copy_content, decodes_in}
 use Rattle.asm_formats.specs.Metadata.{metadata, in_slot}
-use Rattle.asm_formats.specs.Slots.{IsPut, ArePair, Said}
+use Rattle.asm_formats.specs.Slots.{IsPut, ArePair, MaySayAfter}
 
 -- one claim slot says what it said, nothing, or the claim, and all else stays
 pub record PutsClaim (old new : Bytes) (k other : ℕ) (c : Claim) : Type 0 where
   pub rest : metadata new ≡ record (metadata old) { claims = (metadata new).claims }
-  pub slot : Said (in_slot decoded_claim old k) (in_slot decoded_claim new k) c
+  pub slot : MaySayAfter (in_slot decoded_claim old k) (in_slot decoded_claim new k) c
   pub other_slot : in_slot decoded_claim new other ≡ in_slot decoded_claim old other
 
 abbrev pub ClaimPut : Type 0
@@ -21,7 +21,7 @@ ClaimPut = (old new : Bytes) (k other : ℕ) (c : Claim) → ArePair 2 4 k other
 -- so it is with a status record
 pub record PutsStatus (old new : Bytes) (k other : ℕ) (r : Status) : Type 0 where
   pub rest : metadata new ≡ record (metadata old) { statuses = (metadata new).statuses }
-  pub slot : Said (in_slot decoded_status old k) (in_slot decoded_status new k) r
+  pub slot : MaySayAfter (in_slot decoded_status old k) (in_slot decoded_status new k) r
   pub other_slot : in_slot decoded_status new other ≡ in_slot decoded_status old other
 
 abbrev pub StatusPut : Type 0

@@ -3,8 +3,8 @@ use Rattle.std.specs.Prelude.{ℕ, ◌^◌, Bool, ◌&&◌, ◌++◌, length, dr
 use Rattle.std.specs.Int.{w16, w32}
 use Rattle.std.specs.Option.{option_and_then}
 use Rattle.asm_group.specs.Names.{Bytes}
-use Rattle.asm_formats.specs.Bytes.{number, number_at, whole_block, spelled_by}
-use Rattle.asm_formats.specs.Items.{Item, Key, key}
+use Rattle.asm_formats.specs.Bytes.{number_bytes, number_at, whole_block, spelled_by}
+use Rattle.asm_formats.specs.Items.{Item, Key, item_key}
 use Rattle.asm_formats.specs.Values.{value, decoded_item}
 
 pub record Frame : Type 0 where
@@ -17,8 +17,8 @@ most_value = 4064
 
 -- the frame's one spelling
 unfoldable pub frame_spelling : Frame → Bytes
-frame_spelling f = whole_block (codes "ASMR" ++ (number w16 f.key.kind ++ (number w32 f.key.a ++ (number w32 f.key.b
-    ++ (number w16 (length f.value) ++ (replicate 16 0 ++ f.value))))))
+frame_spelling f = whole_block (codes "ASMR" ++ (number_bytes w16 f.key.kind ++ (number_bytes w32 f.key.a ++ (number_bytes w32 f.key.b
+    ++ (number_bytes w16 (length f.value) ++ (replicate 16 0 ++ f.value))))))
 
 unfoldable pub is_frame : Frame → Bool
 is_frame f = nat_lt f.key.kind (2 ^ 16) && (nat_lt f.key.a (2 ^ 32) && (nat_lt f.key.b (2 ^ 32) && nat_le (length f.value) most_value))
@@ -38,7 +38,7 @@ decoded_frame bytes = spelled_by is_frame frame_spelling bytes (frame_at bytes)
 -- ---- what it says
 
 abbrev pub frame_of : Item → Frame
-frame_of i = record { key = key i; value = value i }
+frame_of i = record { key = item_key i; value = value i }
 
 -- the block of a record
 abbrev pub record_spelling : Item → Bytes

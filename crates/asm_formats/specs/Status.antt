@@ -5,7 +5,7 @@ use Rattle.std.specs.List.{list_all}
 use Rattle.std.specs.Option.{is_some, option_or}
 use Rattle.asm_group.specs.Names.{Bytes}
 use Rattle.asm_group.specs.declared.Mode.{Mode}
-use Rattle.asm_formats.specs.Bytes.{number, whole_block, byte_at, number_at, repeated, spelled_by}
+use Rattle.asm_formats.specs.Bytes.{number_bytes, whole_block, byte_at, number_at, values_at, spelled_by}
 use Rattle.asm_formats.specs.Codes.{flag, mode_code, mode_of}
 use Rattle.asm_formats.specs.Regions.{most_units}
 use Rattle.asm_formats.specs.Sets.{elements, most_disks}
@@ -42,22 +42,22 @@ pub record Status : Type 0 where
 
 unfoldable pub entry_fields : Entry → Bytes
 entry_fields e =
-    e.number ∷ number w64 e.birth ++ (mode_code e.mode ∷ e.failgroup ∷ flag e.quorum
-    ∷ number w32 e.units ++ (number w64 e.since ++ (number w64 e.repair ++ number w64 e.partners)))
+    e.number ∷ number_bytes w64 e.birth ++ (mode_code e.mode ∷ e.failgroup ∷ flag e.quorum
+    ∷ number_bytes w32 e.units ++ (number_bytes w64 e.since ++ (number_bytes w64 e.repair ++ number_bytes w64 e.partners)))
 
 -- from the directory copies on
 unfoldable pub tail_fields : Status → Bytes
-tail_fields r = number w64 r.directories ++ (length r.entries ∷ flat_map entry_fields r.entries)
+tail_fields r = number_bytes w64 r.directories ++ (length r.entries ∷ flat_map entry_fields r.entries)
 
 -- up to the holders
 unfoldable pub front_fields : ℕ → Status → Bytes → Bytes
 front_fields version r rest =
-    codes "ASMP" ++ (number w16 version ++ (number w64 r.id ++ (number w64 r.epoch ++ (number w64 r.turn
-    ++ (flag r.gone ∷ number w64 r.births ++ (number w64 r.holders ++ rest))))))
+    codes "ASMP" ++ (number_bytes w16 version ++ (number_bytes w64 r.id ++ (number_bytes w64 r.epoch ++ (number_bytes w64 r.turn
+    ++ (flag r.gone ∷ number_bytes w64 r.births ++ (number_bytes w64 r.holders ++ rest))))))
 
 -- the spelling of version 2, the only one that is written
 unfoldable pub status_spelling : Status → Bytes
-status_spelling r = whole_block (front_fields 2 r (number w64 r.next_holders ++ tail_fields r))
+status_spelling r = whole_block (front_fields 2 r (number_bytes w64 r.next_holders ++ tail_fields r))
 
 -- that of version 1, which has no next holders
 unfoldable pub status_spelling_1 : Status → Bytes
@@ -99,8 +99,8 @@ is_status_1 r = is_status r && (r.next_holders == 0)
 
 -- ---- as it is read: the fields at their places, whatever the bytes are
 
-unfoldable pub entry_at : Bytes → Entry × Bytes
-entry_at bytes =
+unfoldable pub entry_in_bytes : Bytes → Entry × Bytes
+entry_in_bytes bytes =
     let disk = byte_at bytes in
     let birth = number_at w64 disk.1 in
     let mode = byte_at birth.1 in
@@ -145,7 +145,7 @@ status_by next_at bytes =
       holders = holders.0;
       next_holders = next.0;
       directories = directories.0;
-      entries = (repeated entry_at count.0 count.1).0;
+      entries = (values_at entry_in_bytes count.0 count.1).0;
     }
 
 unfoldable pub status_at : Bytes → Status

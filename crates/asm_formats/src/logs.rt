@@ -1,7 +1,7 @@
 //! What a directory copy holds at each moment of a commit, a checkpoint and a format. Each law is the contract of a
 //! function that does nothing.
 
-ghost use Rattle.asm_formats.specs.Commits.{CheckpointIsDone, CheckpointKeepsMetadata, CloseKeepsMetadata, ClosedCopyHasNone, ClosedMayClose, CommitIsCheckpointed, LastCloseLosesContent, LogIsRead, LogPutCommits, LogPutIsCommitted, OpenLogsDecode};
+ghost use Rattle.asm_formats.specs.Commits.{CheckpointIsDone, CheckpointKeepsMetadata, CloseKeepsMetadata, ClosedCopyHasNone, ClosedMayClose, CommitIsCheckpointed, LastCloseLosesContent, LogIsReadBack, LogPutCommits, LogPutIsCommitted, OpenLogsDecode};
 
 /// While a log is put, the copy keeps its content or has the new one.
 pub fn log_put_commits()
@@ -15,7 +15,7 @@ pub fn log_put_is_committed()
 
 /// A log is read as it was put.
 pub fn log_is_read()
-    ensures { LogIsRead }
+    ensures { LogIsReadBack }
 {}
 
 /// Where a copy is whole and decodes, so do its open log slots.

@@ -5,8 +5,8 @@ use Rattle.std.specs.List.{list_all}
 use Rattle.std.specs.Prelude.{◌==◌, Err}
 use Rattle.asm_grammar.specs.Bytes.{common, is_blank, after_run}
 use Rattle.asm_grammar.specs.Word.{Word, Mark, mark_of, near_mark, Meaning, fit, fits, near}
-use Rattle.asm_grammar.specs.Syntax.{Syntax, One, Then, Either, Maybe, Many, Value, Has, HasAll}
-use Rattle.asm_grammar.specs.Reading.{Outcome, Took, Failed, ◌>>=◌, mapped, one, repeated, parse, leads, miss, any_fits, nullable, decides, starts, apart, all_apart, is_solid, is_all, ends, finish, whole}
+use Rattle.asm_grammar.specs.Syntax.{SyntaxRule, One, Then, Either, Maybe, Many, Value, Has, HasAll}
+use Rattle.asm_grammar.specs.Reading.{Outcome, Took, Failed, ◌>>=◌, mapped, one, repeated_while, parse, leads, miss, any_fits, nullable, decides, starts, apart, all_words_apart, is_solid, is_all, ends, finish, whole}
 use Rattle.asm_grammar.specs.Reading.{first as heads}
 use Rattle.asm_grammar.proofs.Tests.{both, one_of, or_left, or_right, is_true_or_false, any_left, any_right, none_of}
 use Rattle.asm_grammar.proofs.Outcomes.{chosen}
@@ -50,7 +50,7 @@ all_of p (x ∷ words) w e m =
     let q = both (p x) (list_all p words) e in
     elim m [ inl h ↦ subst (λ z. p z ≡ true) h q.0 | inr h ↦ all_of p words w q.1 h ]
 
-apart_among : (ws others : List Word) (w other : Word) → all_apart ws others ≡ true → Among w ws → Among other others → apart w other ≡ true
+apart_among : (ws others : List Word) (w other : Word) → all_words_apart ws others ≡ true → Among w ws → Among other others → apart w other ≡ true
 apart_among ws others w other e m n = all_of (λ o. apart w o) others other (all_of (λ x. list_all (λ o. apart x o) others) ws w e m) n
 
 pub fits_of : (w : Word) (text : List ℕ) (v : Meaning w) (rest : List ℕ) → fit w text ≡ Some (v, rest) → fits w text ≡ true
@@ -108,19 +108,19 @@ one_falls w text left (Some found) = omega arith
 
 repeated_falls : {A : Type 0} (n : ℕ) (test : List ℕ → Bool) (missing : List ℕ → ℕ → ℕ) (read : List ℕ → ℕ → Outcome A)
     → ((text : List ℕ) (left : ℕ) → missing text left ≤ left) → ((text : List ℕ) (left : ℕ) → final (read text left) ≤ left)
-    → (text : List ℕ) (left : ℕ) → final (repeated n test missing read text left) ≤ left
+    → (text : List ℕ) (left : ℕ) → final (repeated_while n test missing read text left) ≤ left
 repeated_falls zero test missing read m r text left = m text left
 repeated_falls (suc n) test missing read m r text left = elim (is_true_or_false (test text)) [
   | inr h ↦ rw h (m text left)
   | inl h ↦ rw h (omega (
     arith,
     r text left,
-    falls_then (read text left) (λ v rest left. mapped (λ vs. v ∷ vs) (repeated n test missing read rest left))
-        (λ v rest l. rw (final_mapped (λ vs. v ∷ vs) (repeated n test missing read rest l)) (repeated_falls n test missing read m r rest l)),
+    falls_then (read text left) (λ v rest left. mapped (λ vs. v ∷ vs) (repeated_while n test missing read rest left))
+        (λ v rest l. rw (final_mapped (λ vs. v ∷ vs) (repeated_while n test missing read rest l)) (repeated_falls n test missing read m r rest l)),
   ))
 ]
 
-pub left_falls : (g : Syntax) (text : List ℕ) (left : ℕ) → final (parse g text left) ≤ left
+pub left_falls : (g : SyntaxRule) (text : List ℕ) (left : ℕ) → final (parse g text left) ≤ left
 left_falls (One w) text left = one_falls w text left (fit w text)
 left_falls (Then a b) text left = omega (
   arith,
@@ -160,19 +160,19 @@ past_then place (Took v rest left) f h each = past_on place rest (f v rest left)
 past_then place (Failed left) f h each = h
 
 repeated_within : {A : Type 0} (n : ℕ) (test : List ℕ → Bool) (missing : List ℕ → ℕ → ℕ) (read : List ℕ → ℕ → Outcome A)
-    → ((text : List ℕ) (left : ℕ) → Past text (read text left)) → (text : List ℕ) (left : ℕ) → Past text (repeated n test missing read text left)
+    → ((text : List ℕ) (left : ℕ) → Past text (read text left)) → (text : List ℕ) (left : ℕ) → Past text (repeated_while n test missing read text left)
 repeated_within zero test missing read r text left = omega arith
 repeated_within (suc n) test missing read r text left = elim (is_true_or_false (test text)) [
   | inr h ↦ rw h (omega arith)
   | inl h ↦ rw h (past_then text (read text left) _ (r text left)
-      (λ v rest l e. past_mapped rest (λ vs. v ∷ vs) (repeated n test missing read rest l) (repeated_within n test missing read r rest l)))
+      (λ v rest l e. past_mapped rest (λ vs. v ∷ vs) (repeated_while n test missing read rest l) (repeated_within n test missing read r rest l)))
 ]
 
 one_within : (w : Word) (text : List ℕ) (left : ℕ) (o : Option (Meaning w × List ℕ)) → is_solid w ≡ true → fit w text ≡ o → Past text (one w text left o)
 one_within w text left None d e = omega arith
 one_within w text left (Some (v, rest)) d e = omega (arith, takes w text v rest d e)
 
-within : (g : Syntax) (follow : List Word) (text : List ℕ) (left : ℕ) → decides g follow ≡ true → Past text (parse g text left)
+within : (g : SyntaxRule) (follow : List Word) (text : List ℕ) (left : ℕ) → decides g follow ≡ true → Past text (parse g text left)
 within (One w) follow text left d = one_within w text left (fit w text) d refl
 within (Then a b) follow text left d =
     let p = both (decides a (starts b follow)) (decides b follow) d in
@@ -185,13 +185,13 @@ within (Either a b) follow text left d =
       | inr h ↦ rw h (past_mapped {B = Value a ⊎ Value b} text (λ v. inr v) (parse b text (miss (heads a) text left)) (within b follow text (miss (heads a) text left) p.second))
     ]
 within (Maybe a) follow text left d =
-    let p = maybe_parts (decides a follow) (nullable a) (all_apart (heads a) follow) d in
+    let p = maybe_parts (decides a follow) (nullable a) (all_words_apart (heads a) follow) d in
     elim (is_true_or_false (leads a text)) [
       | inl h ↦ rw h (past_mapped {B = Option (Value a)} text (λ v. Some v) (parse a text left) (within a follow text left p.inner))
       | inr h ↦ rw h (omega arith)
     ]
 within (Many a) follow text left d =
-    let p = maybe_parts (decides a (heads a ++ follow)) (nullable a) (all_apart (heads a) follow) d in
+    let p = maybe_parts (decides a (heads a ++ follow)) (nullable a) (all_words_apart (heads a) follow) d in
     repeated_within (length text) (λ r. leads a r) (λ r m. miss (heads a) r m) (λ r m. parse a r m) (λ t m. within a (heads a ++ follow) t m p.inner) text left
 
 -- NOTHING TAKEN
@@ -204,7 +204,7 @@ not_any (w ∷ words) others text e f = elim (is_true_or_false (fits w text)) [
 ]
 
 -- Where what follows stands, one that may be empty doesn't lead.
-not_led : (g : Syntax) (follow : List Word) (text : List ℕ) → decides g follow ≡ true → nullable g ≡ true → any_fits follow text ≡ true → leads g text ≡ false
+not_led : (g : SyntaxRule) (follow : List Word) (text : List ℕ) → decides g follow ≡ true → nullable g ≡ true → any_fits follow text ≡ true → leads g text ≡ false
 not_led (One w) follow text d n m = cc
 not_led (Then a b) follow text d n m =
     let p = both (decides a (starts b follow)) (decides b follow) d in
@@ -213,12 +213,12 @@ not_led (Then a b) follow text d n m =
     rw q.0 (not_any (heads a) (heads b) text (not_led a (starts b follow) text p.0 q.0 k) (not_led b follow text p.1 q.1 m))
 not_led (Either a b) follow text d n m = cc
 not_led (Maybe a) follow text d n m =
-    let p = maybe_parts (decides a follow) (nullable a) (all_apart (heads a) follow) d in none_leads (heads a) follow text p.apart m
+    let p = maybe_parts (decides a follow) (nullable a) (all_words_apart (heads a) follow) d in none_leads (heads a) follow text p.apart m
 not_led (Many a) follow text d n m =
-    let p = maybe_parts (decides a (heads a ++ follow)) (nullable a) (all_apart (heads a) follow) d in none_leads (heads a) follow text p.apart m
+    let p = maybe_parts (decides a (heads a ++ follow)) (nullable a) (all_words_apart (heads a) follow) d in none_leads (heads a) follow text p.apart m
 
 not_repeated : {A : Type 0} (n : ℕ) (test : List ℕ → Bool) (missing : List ℕ → ℕ → ℕ) (read : List ℕ → ℕ → Outcome A) (text : List ℕ) (left : ℕ)
-    → test text ≡ false → repeated n test missing read text left ≡ Took [] text (missing text left)
+    → test text ≡ false → repeated_while n test missing read text left ≡ Took [] text (missing text left)
 not_repeated zero test missing read text left e = refl
 not_repeated (suc n) test missing read text left e = rw e refl
 
@@ -235,7 +235,7 @@ not_any_right words others text e = elim (is_true_or_false (any_fits others text
 ]
 
 -- One that may be empty and doesn't lead takes nothing.
-nothing_led : (g : Syntax) (text : List ℕ) (left : ℕ) → nullable g ≡ true → leads g text ≡ false → (v : Value g) × (l : ℕ) × (parse g text left ≡ Took v text l)
+nothing_led : (g : SyntaxRule) (text : List ℕ) (left : ℕ) → nullable g ≡ true → leads g text ≡ false → (v : Value g) × (l : ℕ) × (parse g text left ≡ Took v text l)
 nothing_led (One w) text left n e = cc
 nothing_led (Then a b) text left n e =
     let q = both (nullable a) (nullable b) n in
@@ -257,21 +257,21 @@ among_left (x ∷ words) others w m = elim m [
   | inr h ↦ (elim (among_left words others w h) [ inl k ↦ inl (inr k) | inr k ↦ inr k ])
 ]
 
-first_repeated : (a : Syntax) (follow : List Word) (place : List ℕ) (n : ℕ) (text : List ℕ) (left : ℕ) → decides a (heads a ++ follow) ≡ true → length text ≤ n → leads a text ≡ true
-    → Past place (parse a text left) → Past place (repeated n (λ r. leads a r) (λ r m. miss (heads a) r m) (λ r m. parse a r m) text left)
+first_repeated : (a : SyntaxRule) (follow : List Word) (place : List ℕ) (n : ℕ) (text : List ℕ) (left : ℕ) → decides a (heads a ++ follow) ≡ true → length text ≤ n → leads a text ≡ true
+    → Past place (parse a text left) → Past place (repeated_while n (λ r. leads a r) (λ r m. miss (heads a) r m) (λ r m. parse a r m) text left)
 first_repeated a follow place zero text left d f t h = omega arith
 first_repeated a follow place (suc n) text left d f t h =
     rw t (past_then place (parse a text left) _ h
-    (λ v rest l e. past_mapped rest (λ vs. v ∷ vs) (repeated n (λ r. leads a r) (λ r m. miss (heads a) r m) (λ r m. parse a r m) rest l)
+    (λ v rest l e. past_mapped rest (λ vs. v ∷ vs) (repeated_while n (λ r. leads a r) (λ r m. miss (heads a) r m) (λ r m. parse a r m) rest l)
     (repeated_within n (λ r. leads a r) (λ r m. miss (heads a) r m) (λ r m. parse a r m) (λ t m. within a (heads a ++ follow) t m d) rest l)))
 
-led_starts : (b : Syntax) (follow : List Word) (text : List ℕ) → leads b text ≡ true → any_fits (starts b follow) text ≡ true
+led_starts : (b : SyntaxRule) (follow : List Word) (text : List ℕ) → leads b text ≡ true → any_fits (starts b follow) text ≡ true
 led_starts b follow text t = elim (is_true_or_false (nullable b)) [
   | inl n ↦ rw n (any_left (heads b) follow text t)
   | inr n ↦ rw n t
 ]
 
-past_first : (g : Syntax) (follow : List Word) (w : Word) (text : List ℕ) (left : ℕ) (x : Meaning w) (place : List ℕ)
+past_first : (g : SyntaxRule) (follow : List Word) (w : Word) (text : List ℕ) (left : ℕ) (x : Meaning w) (place : List ℕ)
     → decides g follow ≡ true → Among w (heads g) → fit w text ≡ Some (x, place) → Past place (parse g text left)
 past_first (One v) follow w text left x place d m e =
     elim m [
@@ -305,11 +305,11 @@ past_first (Either a b) follow w text left x place d m e =
           rw n (past_mapped {B = Value a ⊎ Value b} place (λ v. inr v) (parse b text (miss (heads a) text left)) (past_first b follow w text (miss (heads a) text left) x place p.second k e)))
     ]
 past_first (Maybe a) follow w text left x place d m e =
-    let p = maybe_parts (decides a follow) (nullable a) (all_apart (heads a) follow) d in
+    let p = maybe_parts (decides a follow) (nullable a) (all_words_apart (heads a) follow) d in
     let t : leads a text ≡ true = any_of (heads a) w text m (fits_of w text x place e) in
     rw t (past_mapped {B = Option (Value a)} place (λ v. Some v) (parse a text left) (past_first a follow w text left x place p.inner m e))
 past_first (Many a) follow w text left x place d m e =
-    let p = maybe_parts (decides a (heads a ++ follow)) (nullable a) (all_apart (heads a) follow) d in
+    let p = maybe_parts (decides a (heads a ++ follow)) (nullable a) (all_words_apart (heads a) follow) d in
     first_repeated a follow place (length text) text left p.inner (omega arith) (any_of (heads a) w text m (fits_of w text x place e))
     (past_first a (heads a ++ follow) w text left x place p.inner m e)
 
@@ -353,7 +353,7 @@ bound_one w text t r left u None e f = omega (arith, near_law w text t u r e f, 
 bound_one w text t r left u (Some (v, rest)) e f = inr (share w text t v u rest r e f)
 
 -- This text begins with a first word of a, and the other with one that is apart from those.
-record Crossed (a : Syntax) (text t : List ℕ) : Type 0 where
+record Crossed (a : SyntaxRule) (text t : List ℕ) : Type 0 where
   word : Word
   among : Among word (heads a)
   says : Meaning word
@@ -361,7 +361,7 @@ record Crossed (a : Syntax) (text t : List ℕ) : Type 0 where
   fit_is : fit word text ≡ Some (says, place)
   parted : common text t + length place ≤ length text
 
-crossed : (a : Syntax) (others : List Word) (text t : List ℕ) → all_apart (heads a) others ≡ true → leads a text ≡ true → any_fits others t ≡ true → Crossed a text t
+crossed : (a : SyntaxRule) (others : List Word) (text t : List ℕ) → all_words_apart (heads a) others ≡ true → leads a text ≡ true → any_fits others t ≡ true → Crossed a text t
 crossed a others text t x l m =
     let p = picked (heads a) text l in
     let q = picked others t m in
@@ -374,29 +374,29 @@ crossed a others text t x l m =
       parted = sharp p.word q.word text t p.says p.rest (apart_among (heads a) others p.word q.word x p.among q.among) p.fit_is (fits_of q.word t q.says q.rest q.fit_is);
     }
 
-bound_crossed : (a : Syntax) (follow others : List Word) (text t r : List ℕ) (left : ℕ) → decides a follow ≡ true → all_apart (heads a) others ≡ true
+bound_crossed : (a : SyntaxRule) (follow others : List Word) (text t r : List ℕ) (left : ℕ) → decides a follow ≡ true → all_words_apart (heads a) others ≡ true
     → leads a text ≡ true → any_fits others t ≡ true → Bound text t r (parse a text left)
 bound_crossed a follow others text t r left d x l m =
     let c = crossed a others text t x l m in
     bound_past text t r c.place (parse a text left) c.parted (past_first a follow c.word text left c.says c.place d c.among c.fit_is)
 
 -- The other text begins with a first word of a, and this one with none.
-bound_missed : {A : Type 0} (a : Syntax) (text t r : List ℕ) (left : ℕ) (o : Outcome A) → leads a text ≡ false → leads a t ≡ true → final o ≤ miss (heads a) text left → Bound text t r o
+bound_missed : {A : Type 0} (a : SyntaxRule) (text t r : List ℕ) (left : ℕ) (o : Outcome A) → leads a text ≡ false → leads a t ≡ true → final o ≤ miss (heads a) text left → Bound text t r o
 bound_missed a text t r left o n l h =
     let q = picked (heads a) t l in
     bound_final text t r o (missed (heads a) q.word text t left (final o) q.says q.rest q.among n q.fit_is h)
 
-repeated_bound : (a : Syntax) (follow : List Word) → decides a (heads a ++ follow) ≡ true → nullable a ≡ false → all_apart (heads a) follow ≡ true
+repeated_bound : (a : SyntaxRule) (follow : List Word) → decides a (heads a ++ follow) ≡ true → nullable a ≡ false → all_words_apart (heads a) follow ≡ true
     → ((v : Value a) (text t r : List ℕ) (left : ℕ) → Has a v t r → any_fits (heads a ++ follow) r ≡ true → Bound text t r (parse a text left))
     → (n : ℕ) (vs : List (Value a)) (text t r : List ℕ) (left : ℕ) → length text ≤ n → HasAll (λ v. Has a v) vs t r → any_fits follow r ≡ true
-    → Bound text t r (repeated n (λ q. leads a q) (λ q m. miss (heads a) q m) (λ q m. parse a q m) text left)
+    → Bound text t r (repeated_while n (λ q. leads a q) (λ q m. miss (heads a) q m) (λ q m. parse a q m) text left)
 repeated_bound a follow d full x each zero vs text t r left f h m = inr (omega (arith, common_short text t))
 repeated_bound a follow d full x each (suc n) [] text t r left f h m =
     let ft : any_fits follow t ≡ true = subst (λ z. any_fits follow z ≡ true) h m in
     elim (is_true_or_false (leads a text)) [
       | inl l ↦
           (let c = crossed a follow text t x l ft in
-          bound_past text t r c.place (repeated (suc n) (λ q. leads a q) (λ q m. miss (heads a) q m) (λ q m. parse a q m) text left) c.parted
+          bound_past text t r c.place (repeated_while (suc n) (λ q. leads a q) (λ q m. miss (heads a) q m) (λ q m. parse a q m) text left) c.parted
           (first_repeated a follow c.place (suc n) text left d f l (past_first a (heads a ++ follow) c.word text left c.says c.place d c.among c.fit_is)))
       | inr l ↦ rw l (inr (rw h (omega arith)))
     ]
@@ -405,17 +405,17 @@ repeated_bound a follow d full x each (suc n) (v ∷ vs) text t r left f h m =
     elim (is_true_or_false (leads a text)) [
       | inr l ↦ rw l (bound_missed {A = List (Value a)} a text t r left (Took [] text (miss (heads a) text left)) l (leads_all v t h.0 h.1) (omega arith))
       | inl l ↦
-          rw l (bound_then text t h.0 r (parse a text left) (λ y rest l. mapped (λ ys. y ∷ ys) (repeated n (λ q. leads a q) (λ q m. miss (heads a) q m) (λ q m. parse a q m) rest l))
+          rw l (bound_then text t h.0 r (parse a text left) (λ y rest l. mapped (λ ys. y ∷ ys) (repeated_while n (λ q. leads a q) (λ q m. miss (heads a) q m) (λ q m. parse a q m) rest l))
           (each v text t h.0 left h.1 (next_one a follow leads_all vs h.0 r h.2 m))
-          (λ y rest l. rw (final_mapped (λ ys. y ∷ ys) (repeated n (λ q. leads a q) (λ q m. miss (heads a) q m) (λ q m. parse a q m) rest l))
+          (λ y rest l. rw (final_mapped (λ ys. y ∷ ys) (repeated_while n (λ q. leads a q) (λ q m. miss (heads a) q m) (λ q m. parse a q m) rest l))
           (repeated_falls n (λ q. leads a q) (λ q m. miss (heads a) q m) (λ q m. parse a q m) (λ t m. miss_falls (heads a) t m) (λ t m. left_falls a t m) rest l))
           (λ y rest l e.
-          bound_mapped rest h.0 r (λ ys. y ∷ ys) (repeated n (λ q. leads a q) (λ q m. miss (heads a) q m) (λ q m. parse a q m) rest l)
+          bound_mapped rest h.0 r (λ ys. y ∷ ys) (repeated_while n (λ q. leads a q) (λ q m. miss (heads a) q m) (λ q m. parse a q m) rest l)
           (repeated_bound a follow d full x each n vs rest h.0 r l
           (let s = shortens a (heads a ++ follow) y text rest full d (sound a text left y rest l e) in omega arith) h.2 m)))
     ]
 
-pub bounded : (g : Syntax) (follow : List Word) (v : Value g) (text t r : List ℕ) (left : ℕ)
+pub bounded : (g : SyntaxRule) (follow : List Word) (v : Value g) (text t r : List ℕ) (left : ℕ)
     → decides g follow ≡ true → Has g v t r → any_fits follow r ≡ true → Bound text t r (parse g text left)
 bounded (One w) follow v text t r left d h m = bound_one w text t r left v (fit w text) refl h
 bounded (Then a b) follow (v, w) text t r left d h m =
@@ -442,21 +442,21 @@ bounded (Either a b) follow (inr w) text t r left d h m =
           (bounded b follow w text t r (miss (heads a) text left) p.second h m))
     ]
 bounded (Maybe a) follow None text t r left d h m =
-    let p = maybe_parts (decides a follow) (nullable a) (all_apart (heads a) follow) d in
+    let p = maybe_parts (decides a follow) (nullable a) (all_words_apart (heads a) follow) d in
     let ft : any_fits follow t ≡ true = subst (λ z. any_fits follow z ≡ true) h m in
     elim (is_true_or_false (leads a text)) [
       | inl l ↦ rw l (bound_mapped {B = Option (Value a)} text t r (λ v. Some v) (parse a text left) (bound_crossed a follow follow text t r left p.inner p.apart l ft))
       | inr l ↦ rw l (inr (rw h (omega arith)))
     ]
 bounded (Maybe a) follow (Some v) text t r left d h m =
-    let p = maybe_parts (decides a follow) (nullable a) (all_apart (heads a) follow) d in
+    let p = maybe_parts (decides a follow) (nullable a) (all_words_apart (heads a) follow) d in
     let led : leads a t ≡ true = full_leads a t r p.full (begins a follow v t r p.inner h) in
     elim (is_true_or_false (leads a text)) [
       | inl l ↦ rw l (bound_mapped {B = Option (Value a)} text t r (λ v. Some v) (parse a text left) (bounded a follow v text t r left p.inner h m))
       | inr l ↦ rw l (bound_missed {A = Option (Value a)} a text t r left (Took None text (miss (heads a) text left)) l led (omega arith))
     ]
 bounded (Many a) follow vs text t r left d h m =
-    let p = maybe_parts (decides a (heads a ++ follow)) (nullable a) (all_apart (heads a) follow) d in
+    let p = maybe_parts (decides a (heads a ++ follow)) (nullable a) (all_words_apart (heads a) follow) d in
     repeated_bound a follow p.inner p.full p.apart (λ v text t r left h m. bounded a (heads a ++ follow) v text t r left p.inner h m)
     (length text) vs text t r left (omega arith) h m
 
@@ -497,7 +497,7 @@ finish_bound m text t r (Took v rest left) at b f e =
           ]
     ]
 
-pub no_further : (g : Syntax) (m : ℕ) (text : List ℕ) (at : ℕ) (t : List ℕ) (v : Value g) (r : List ℕ)
+pub no_further : (g : SyntaxRule) (m : ℕ) (text : List ℕ) (at : ℕ) (t : List ℕ) (v : Value g) (r : List ℕ)
     → decides g (Mark m ∷ []) ≡ true → whole g (Mark m) text ≡ Err at → Has g v t r → fit (Mark m) r ≡ Some (tt, []) → common text t ≤ at
 no_further g m text at t v r d e h f =
     finish_bound m text t r (parse g text (length text)) at

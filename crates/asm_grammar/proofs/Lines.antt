@@ -3,8 +3,8 @@ use Rattle.std.proofs.Common.{◌≡◌, ◌↔◌, ℕ, ◌+◌, ◌-◌, ◌�
 use Rattle.std.specs.Prelude.{is_some, Ok, Err}
 use Rattle.std.proofs.lemmas.List.{length-append}
 use Rattle.asm_grammar.specs.Bytes.{common, is_space, run_of, after_run}
-use Rattle.asm_grammar.specs.Word.{End, end_of, fit, fits, near, begins_argument}
-use Rattle.asm_grammar.specs.Syntax.{Syntax, Value, Has}
+use Rattle.asm_grammar.specs.Word.{End, end_of_text, fit, fits, near, begins_argument}
+use Rattle.asm_grammar.specs.Syntax.{SyntaxRule, Value, Has}
 use Rattle.asm_grammar.specs.Reading.{Outcome, Took, Failed, parse, decides, is_all, ends, finish, whole}
 use Rattle.asm_grammar.specs.Writing.{all_can_spell}
 use Rattle.asm_grammar.specs.Laws.{IsLine, IsLongestLineFront}
@@ -26,7 +26,7 @@ all_is None e = cc
 all_is (Some (u, [])) e = refl
 all_is (Some (u, b ∷ rest)) e = cc
 
-is_line : (g : Syntax) (text : List ℕ) (v : Value g) (o : Outcome (Value g)) → parse g text (length text) ≡ o → finish End (length text) o ≡ Ok v → IsLine g text v
+is_line : (g : SyntaxRule) (text : List ℕ) (v : Value g) (o : Outcome (Value g)) → parse g text (length text) ≡ o → finish End (length text) o ≡ Ok v → IsLine g text v
 is_line g text v (Failed left) p e = cc
 is_line g text v (Took w rest left) p e =
     elim (chosen (ends End rest) _ _ _ e) [
@@ -35,17 +35,17 @@ is_line g text v (Took w rest left) p e =
           record { rest = rest; has = subst (λ x. Has g x text rest) s (sound g text (length text) w rest left p); end = all_is (fit End rest) q.0 })
     ]
 
-reads_line : (g : Syntax) (text : List ℕ) (v : Value g) → decides g (End ∷ []) ≡ true → IsLine g text v → whole g End text ≡ Ok v
+reads_line : (g : SyntaxRule) (text : List ℕ) (v : Value g) → decides g (End ∷ []) ≡ true → IsLine g text v → whole g End text ≡ Ok v
 reads_line g text v d t =
     let f : fits End t.rest ≡ true = ap (λ o. is_some o) t.end in
     let p = complete g (End ∷ []) v text t.rest (length text) d t.has (or_left (fits End t.rest) false f) in
     let k : ends End t.rest ≡ true = ap (λ o. is_all o) t.end in
     rw (p.1, k) refl
 
-pub whole_lines : (g : Syntax) (text : List ℕ) (v : Value g) → decides g (End ∷ []) ≡ true → (whole g End text ≡ Ok v) ↔ IsLine g text v
+pub whole_lines : (g : SyntaxRule) (text : List ℕ) (v : Value g) → decides g (End ∷ []) ≡ true → (whole g End text ≡ Ok v) ↔ IsLine g text v
 whole_lines g text v d = (λ e. is_line g text v (parse g text (length text)) refl e, λ t. reads_line g text v d t)
 
-end_rest : (x : List ℕ) (u : Unit {0}) (b : ℕ) (r : List ℕ) → end_of x ≡ Some (u, b ∷ r) → ⊥
+end_rest : (x : List ℕ) (u : Unit {0}) (b : ℕ) (r : List ℕ) → end_of_text x ≡ Some (u, b ∷ r) → ⊥
 end_rest [] u b r e = let q = (some_pair e).1 in cc
 end_rest (c ∷ x) u b r e = cc
 
@@ -66,18 +66,18 @@ line_bound text t r (Took v rest left) at b f e =
           elim b [ inl c ↦ omega arith | inr c ↦ omega arith ]
     ]
 
-no_further : (g : Syntax) (text : List ℕ) (at : ℕ) (t : List ℕ) (v : Value g) → decides g (End ∷ []) ≡ true → whole g End text ≡ Err at → IsLine g t v → common text t ≤ at
+no_further : (g : SyntaxRule) (text : List ℕ) (at : ℕ) (t : List ℕ) (v : Value g) → decides g (End ∷ []) ≡ true → whole g End text ≡ Err at → IsLine g t v → common text t ≤ at
 no_further g text at t v d e l =
     line_bound text t l.rest (parse g text (length text)) at
     (bounded g (End ∷ []) v text t l.rest (length text) d l.has (or_left (fits End l.rest) false (fits_of End l.rest tt [] l.end))) l.end e
 
-record Witness (g : Syntax) (text : List ℕ) (at : ℕ) : Type 0 where
+record Witness (g : SyntaxRule) (text : List ℕ) (at : ℕ) : Type 0 where
   other : List ℕ
   says : Value g
   is : IsLine g other says
   far_as : at ≤ common text other
 
-far_witness : (g : Syntax) (text : List ℕ) (left at : ℕ) → at ≤ length text - left → Shortest g → Far g text (length text) left → Witness g text at
+far_witness : (g : SyntaxRule) (text : List ℕ) (left at : ℕ) → at ≤ length text - left → Shortest g → Far g text (length text) left → Witness g text at
 far_witness g text left at l s f =
     elim f [
       | inl k ↦ (let r = s.1 [] refl in
@@ -107,7 +107,7 @@ blanks_common rest =
     let b : common rest (run_of is_space rest) ≡ length (run_of is_space rest) + common (after_run is_space rest) [] =
     subst (λ x. common rest x ≡ length (run_of is_space rest) + common (after_run is_space rest) []) (append-nil (run_of is_space rest)) a in omega arith
 
-line_witness : (g : Syntax) (text : List ℕ) (at : ℕ) (o : Outcome (Value g)) → decides g (End ∷ []) ≡ true → Shortest g → parse g text (length text) ≡ o → Far g text (length text) (final o)
+line_witness : (g : SyntaxRule) (text : List ℕ) (at : ℕ) (o : Outcome (Value g)) → decides g (End ∷ []) ≡ true → Shortest g → parse g text (length text) ≡ o → Far g text (length text) (final o)
     → finish End (length text) o ≡ Err at → Witness g text at
 line_witness g text at (Failed left) d s p f e = let k : length text - left ≡ at = cc in far_witness g text left at (omega arith) s f
 line_witness g text at (Took v rest left) d s p f e =
@@ -137,7 +137,7 @@ line_within len at (Took v rest left) e = elim (chosen (ends End rest) _ _ _ e) 
   | inr p ↦ (let k : len - min left (length rest - near End rest) ≡ at = (let q = p.1 in cc) in omega arith)
 ]
 
-pub longest_line : (g : Syntax) (text : List ℕ) (at : ℕ) → decides g (End ∷ []) ≡ true → all_can_spell g ≡ true → whole g End text ≡ Err at → IsLongestLineFront g text at
+pub longest_line : (g : SyntaxRule) (text : List ℕ) (at : ℕ) → decides g (End ∷ []) ≡ true → all_can_spell g ≡ true → whole g End text ≡ Err at → IsLongestLineFront g text at
 longest_line g text at d c e =
     let a = all_can g c in
     let s = line_witness g text at (parse g text (length text)) d (shortest g (End ∷ []) d a) refl (far g (End ∷ []) text (length text) d a) e in

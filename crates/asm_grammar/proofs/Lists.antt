@@ -2,7 +2,7 @@
 use Rattle.std.proofs.Common.{◌≡◌, ℕ, ◌-◌, ◌<◌, min, true, List, [], ◌∷◌, ◌++◌, length, map, refl, sym, ap, Some, None, append_assoc, append-nil, arith}
 use Rattle.std.specs.Prelude.{if◌then◌else◌}
 use Rattle.asm_grammar.specs.Word.{Word, Mark, fit, near}
-use Rattle.asm_grammar.specs.Syntax.{Syntax, One, Then, Many, Value}
+use Rattle.asm_grammar.specs.Syntax.{SyntaxRule, One, Then, Many, Value}
 use Rattle.asm_grammar.specs.Reading.{Outcome, Took, Failed, ◌>>=◌, mapped, parse, leads, miss, decides}
 use Rattle.asm_grammar.specs.Reads.{items_from, items_of}
 use Rattle.asm_grammar.proofs.Again.{many_is}
@@ -10,7 +10,7 @@ use Rattle.asm_grammar.proofs.Consumes.{takes, shrinks}
 use Rattle.asm_grammar.proofs.Sound.{sound}
 use Rattle.asm_grammar.proofs.Outcomes.{mapped_took}
 
-module _ {A : Type 0} (item : Syntax) (says : Value item → A) (mark : ℕ) (follow : List Word) (d : decides item follow ≡ true) where
+module _ {A : Type 0} (item : SyntaxRule) (says : Value item → A) (mark : ℕ) (follow : List Word) (d : decides item follow ≡ true) where
   one_more : (rest : List ℕ) (left : ℕ) → parse (Many (Then (One (Mark mark)) item)) rest left
       ≡ (if leads (Then (One (Mark mark)) item) rest then (parse (Then (One (Mark mark)) item) rest left >>= λ v r l. mapped (λ vs. v ∷ vs) (parse (Many (Then (One (Mark mark)) item)) r l))
       else Took [] rest (miss (Mark mark ∷ []) rest left))

@@ -4,8 +4,8 @@ use Rattle.std.specs.Prelude.{◌==◌, Err}
 use Rattle.std.proofs.lemmas.Bool.{eqb-true}
 use Rattle.asm_grammar.specs.Argument.{Exact}
 use Rattle.asm_grammar.specs.Bytes.{common, is_blank, is_word}
-use Rattle.asm_grammar.specs.Word.{Word, Key, Mark, Name, Number, Size, Minutes, Quoted, Argument, End, near}
-use Rattle.asm_grammar.specs.Syntax.{Syntax, One, Then, Either, Maybe, Many}
+use Rattle.asm_grammar.specs.Word.{Word, Keyword, Mark, Name, Number, Size, Minutes, Quoted, Argument, End, near}
+use Rattle.asm_grammar.specs.Syntax.{SyntaxRule, One, Then, Either, Maybe, Many}
 use Rattle.asm_grammar.specs.Reading.{Outcome, Took, Failed, parse, decides, ends, finish, whole}
 use Rattle.asm_grammar.specs.Writing.{can_spell, all_can_spell}
 use Rattle.asm_grammar.specs.Laws.{IsText, IsLongestFront}
@@ -16,7 +16,7 @@ use Rattle.asm_grammar.proofs.Reached.{AllCanSpell, some_text}
 use Rattle.asm_grammar.proofs.Whole.{goes_no_further}
 
 word_can : (w : Word) → can_spell w ≡ true → CanSpell w
-word_can (Key k) e = e
+word_can (Keyword k) e = e
 word_can (Mark m) e = not_true (is_blank m) e
 word_can Name e = tt
 word_can Number e = tt
@@ -27,7 +27,7 @@ word_can (Argument (Exact k)) e = e
 word_can (Argument k) e = tt
 word_can End e = cc
 
-pub all_can : (g : Syntax) → all_can_spell g ≡ true → AllCanSpell g
+pub all_can : (g : SyntaxRule) → all_can_spell g ≡ true → AllCanSpell g
 all_can (One w) e = word_can w e
 all_can (Then a b) e = let p = both (all_can_spell a) (all_can_spell b) e in (all_can a p.0, all_can b p.1)
 all_can (Either a b) e = let p = both (all_can_spell a) (all_can_spell b) e in (all_can a p.0, all_can b p.1)
@@ -54,7 +54,7 @@ finish_within m len at (Took v rest left) e = elim (chosen (ends (Mark m) rest) 
   | inr p ↦ (let k : len - min left (length rest - near (Mark m) rest) ≡ at = (let q = p.1 in cc) in omega arith)
 ]
 
-pub longest_front : (g : Syntax) (m : ℕ) (text : List ℕ) (at : ℕ) → decides g (Mark m ∷ []) ≡ true → all_can_spell g ≡ true → is_blank m ≡ false → is_word m ≡ false
+pub longest_front : (g : SyntaxRule) (m : ℕ) (text : List ℕ) (at : ℕ) → decides g (Mark m ∷ []) ≡ true → all_can_spell g ≡ true → is_blank m ≡ false → is_word m ≡ false
     → whole g (Mark m) text ≡ Err at → IsLongestFront g m text at
 longest_front g m text at d c b w e =
     let s = some_text g m text at d (all_can g c) b w e in

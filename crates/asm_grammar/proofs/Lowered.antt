@@ -2,8 +2,8 @@
 use Rattle.std.proofs.Common.{◌≡◌, ℕ, zero, suc, ◌-◌, ◌≤◌, min, Bool, inl, inr, List, [], ◌∷◌, length, refl, ap, ◌∙◌, Option, Some, None, arith}
 use Rattle.std.specs.Prelude.{Err}
 use Rattle.asm_grammar.specs.Word.{Word, Meaning, fit, near}
-use Rattle.asm_grammar.specs.Syntax.{Syntax, One, Then, Either, Maybe, Many}
-use Rattle.asm_grammar.specs.Reading.{Outcome, Took, Failed, ◌>>=◌, mapped, one, repeated, parse, leads, miss, ends, finish, whole}
+use Rattle.asm_grammar.specs.Syntax.{SyntaxRule, One, Then, Either, Maybe, Many}
+use Rattle.asm_grammar.specs.Reading.{Outcome, Took, Failed, ◌>>=◌, mapped, one, repeated_while, parse, leads, miss, ends, finish, whole}
 use Rattle.asm_grammar.specs.Reading.{first as heads}
 use Rattle.asm_grammar.specs.Laws.{at_least, whole_from}
 use Rattle.asm_grammar.proofs.Tests.{is_true_or_false}
@@ -34,17 +34,17 @@ bind_lower f l (Failed left) each = refl
 
 repeated_lower : {A : Type 0} (n : ℕ) (test : List ℕ → Bool) (missed : List ℕ → ℕ → ℕ) (read : List ℕ → ℕ → Outcome A) (l : ℕ)
     → ((text : List ℕ) (k : ℕ) → missed text (min l k) ≡ min l (missed text k)) → ((text : List ℕ) (k : ℕ) → read text (min l k) ≡ lower l (read text k))
-    → (text : List ℕ) (k : ℕ) → repeated n test missed read text (min l k) ≡ lower l (repeated n test missed read text k)
+    → (text : List ℕ) (k : ℕ) → repeated_while n test missed read text (min l k) ≡ lower l (repeated_while n test missed read text k)
 repeated_lower zero test missed read l m r text k = ap (λ x. Took [] text x) (m text k)
 repeated_lower (suc n) test missed read l m r text k = elim (is_true_or_false (test text)) [
   | inr h ↦ rw h (ap (λ x. Took [] text x) (m text k))
-  | inl h ↦ rw h (ap (λ o. o >>= λ v rest left. mapped (λ vs. v ∷ vs) (repeated n test missed read rest left)) (r text k)
-      ∙ bind_lower (λ v rest left. mapped (λ vs. v ∷ vs) (repeated n test missed read rest left)) l (read text k)
-      (λ v rest left. ap (mapped (λ vs. v ∷ vs)) (repeated_lower n test missed read l m r rest left) ∙ mapped_lower (λ vs. v ∷ vs) l (repeated n test missed read rest left)))
+  | inl h ↦ rw h (ap (λ o. o >>= λ v rest left. mapped (λ vs. v ∷ vs) (repeated_while n test missed read rest left)) (r text k)
+      ∙ bind_lower (λ v rest left. mapped (λ vs. v ∷ vs) (repeated_while n test missed read rest left)) l (read text k)
+      (λ v rest left. ap (mapped (λ vs. v ∷ vs)) (repeated_lower n test missed read l m r rest left) ∙ mapped_lower (λ vs. v ∷ vs) l (repeated_while n test missed read rest left)))
 ]
 
 -- Where fewer bytes were left at the start, fewer are at the end, and nothing else is changed.
-lowered : (g : Syntax) (text : List ℕ) (l k : ℕ) → parse g text (min l k) ≡ lower l (parse g text k)
+lowered : (g : SyntaxRule) (text : List ℕ) (l k : ℕ) → parse g text (min l k) ≡ lower l (parse g text k)
 lowered (One w) text l k = one_lower w text l k (fit w text)
 lowered (Then a b) text l k =
     ap (λ o. o >>= λ v rest left. mapped (λ w. (v, w)) (parse b rest left)) (lowered a text l k)
@@ -69,7 +69,7 @@ finish_lower last len l (Took v rest left) = elim (is_true_or_false (ends last r
   | inr h ↦ rw h (ap (λ x. Err x) (omega arith))
 ]
 
-pub from_fewer : (g : Syntax) (last : Word) (text : List ℕ) (left : ℕ) → left ≤ length text → whole_from g last text left ≡ at_least (length text - left) (whole g last text)
+pub from_fewer : (g : SyntaxRule) (last : Word) (text : List ℕ) (left : ℕ) → left ≤ length text → whole_from g last text left ≡ at_least (length text - left) (whole g last text)
 from_fewer g last text left l =
     let m : left ≡ min left (length text) = omega arith in
     ap (λ x. finish last (length text) (parse g text x)) m ∙ ap (finish last (length text)) (lowered g text left (length text)) ∙ finish_lower last (length text) left (parse g text (length text))

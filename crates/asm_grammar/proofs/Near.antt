@@ -4,10 +4,10 @@ use Rattle.std.specs.Prelude.{is_some, ◌==◌, if◌then◌else◌}
 use Rattle.std.proofs.Math.Nat.{mul-suc}
 use Rattle.std.proofs.lemmas.List.{length-map}
 use Rattle.std.proofs.lemmas.Bool.{eqb-true, eq-eqb, leb-true, leb-false, ltb-true, lt-ltb}
-use Rattle.asm_grammar.specs.Bytes.{is_blank, is_filled, is_word, is_digit, is_letter, upper, run_of, after_run, common}
-use Rattle.asm_grammar.specs.Argument.{factor, start, is_of, argument_of}
+use Rattle.asm_grammar.specs.Bytes.{is_blank, is_filled, is_word, is_digit_byte, is_letter_byte, upper, run_of, after_run, common}
+use Rattle.asm_grammar.specs.Argument.{factor, first_stage, is_of, argument_of}
 use Rattle.asm_grammar.proofs.Stages.{of_some, of_none, stage_near, near_short}
-use Rattle.asm_grammar.specs.Word.{Word, Key, Mark, Name, Number, Size, Minutes, Quoted, Argument, End, end_of, Meaning, same_bytes, when, with_rest, gap, below, digits_after, unit_after, size_after, fit, fit_here, fits, near, near_here, near_mark, near_quoted, near_quote, near_number, near_size, near_minutes, near_unit, near_digits, mark_of, quoted_of, to_quote, behind, number_of, size_of, is_name, starts_with_letter, in_minutes, digits_of, minutes_in, begins_word}
+use Rattle.asm_grammar.specs.Word.{Word, Keyword, Mark, Name, Number, Size, Minutes, Quoted, Argument, End, end_of_text, Meaning, same_bytes, when, with_rest, gap, below, digits_after, unit_after, size_after, fit, fit_here, fits, near, near_here, near_mark, near_quoted, near_quote, near_number, near_size, near_minutes, near_unit, near_digits, mark_of, quoted_of, to_quote, with_byte_before, number_of_text, size_of_text, is_name_word, starts_with_letter, in_minutes, digits_of, minutes_in, begins_word}
 use Rattle.asm_grammar.proofs.Tests.{none_of, both, not_true, is_true_or_false, same_is, found_when}
 use Rattle.asm_grammar.specs.Reading.{apart, is_solid}
 use Rattle.asm_grammar.proofs.Apart.{apart_here, same_gap, rest_of}
@@ -23,7 +23,7 @@ word_share test text t rest r e k =
     (subst (λ x. common text t + length (after_run test text) ≤ length text + common (after_run test text) x) k
     (omega (arith, past_run test text t, run_and_rest test text)))
 
-pub after_quote : (b : ℕ) (o : Option (List ℕ × List ℕ)) (v rest : List ℕ) → behind b o ≡ Some (v, rest) → (u : List ℕ) × (o ≡ Some (u, rest))
+pub after_quote : (b : ℕ) (o : Option (List ℕ × List ℕ)) (v rest : List ℕ) → with_byte_before b o ≡ Some (v, rest) → (u : List ℕ) × (o ≡ Some (u, rest))
 after_quote b None v rest e = cc
 after_quote b (Some (u, t)) v rest e = let q = some_pair e in (u, ap (λ z. Some (u, z)) q.1)
 
@@ -51,19 +51,19 @@ unit_is (Some n) (b ∷ text) v rest e =
     (b, ap (λ (p : ℕ × List ℕ). b ∷ p.1) w.1)
 
 minutes_share : (text t rest r : List ℕ) (b c : ℕ)
-    → after_run is_blank (after_run is_digit text) ≡ b ∷ rest → after_run is_blank (after_run is_digit t) ≡ c ∷ r → common text t + length rest ≤ length text + common rest r
+    → after_run is_blank (after_run is_digit_byte text) ≡ b ∷ rest → after_run is_blank (after_run is_digit_byte t) ≡ c ∷ r → common text t + length rest ≤ length text + common rest r
 minutes_share text t rest r b c e k =
-    let one = past_run is_digit text t in
-    let two = past_run is_blank (after_run is_digit text) (after_run is_digit t) in
-    let d = run_and_rest is_digit text in
-    let f = run_and_rest is_blank (after_run is_digit text) in
+    let one = past_run is_digit_byte text t in
+    let two = past_run is_blank (after_run is_digit_byte text) (after_run is_digit_byte t) in
+    let d = run_and_rest is_digit_byte text in
+    let f = run_and_rest is_blank (after_run is_digit_byte text) in
     let three : common (b ∷ rest) (c ∷ r) ≤ 1 + common rest r = at_heads b c rest r (1 + common rest r) (λ same. omega arith) in
-    let g : common (after_run is_blank (after_run is_digit text)) (after_run is_blank (after_run is_digit t)) ≤ 1 + common rest r = rw (e, k) three in
-    let l : length (after_run is_blank (after_run is_digit text)) ≡ suc (length rest) = ap length e in
+    let g : common (after_run is_blank (after_run is_digit_byte text)) (after_run is_blank (after_run is_digit_byte t)) ≤ 1 + common rest r = rw (e, k) three in
+    let l : length (after_run is_blank (after_run is_digit_byte text)) ≡ suc (length rest) = ap length e in
     omega arith
 
 share_here : (w : Word) (text t : List ℕ) (v u : Meaning w) (rest r : List ℕ) → fit_here w text ≡ Some (v, rest) → fit_here w t ≡ Some (u, r) → common text t + length rest ≤ length text + common rest r
-share_here (Key k) text t v u rest r e f = word_share is_word text t rest r (taken (after_run is_word text) _ v rest e).1 (taken (after_run is_word t) _ u r f).1
+share_here (Keyword k) text t v u rest r e f = word_share is_word text t rest r (taken (after_run is_word text) _ v rest e).1 (taken (after_run is_word t) _ u r f).1
 share_here (Mark m) [] t v u rest r e f = cc
 share_here (Mark m) (b ∷ text) [] v u rest r e f = cc
 share_here (Mark m) (b ∷ text) (c ∷ t) v u rest r e f =
@@ -83,8 +83,8 @@ share_here Name text t v u rest r e f = word_share is_word text t rest r (taken 
 share_here Number text t v u rest r e f = word_share is_word text t rest r (taken (after_run is_word text) _ v rest e).1 (taken (after_run is_word t) _ u r f).1
 share_here Size text t v u rest r e f = word_share is_word text t rest r (taken (after_run is_word text) _ v rest e).1 (taken (after_run is_word t) _ u r f).1
 share_here Minutes text t v u rest r e f =
-    let p = unit_is (digits_of (run_of is_digit text)) (after_run is_blank (after_run is_digit text)) v rest e in
-    let q = unit_is (digits_of (run_of is_digit t)) (after_run is_blank (after_run is_digit t)) u r f in
+    let p = unit_is (digits_of (run_of is_digit_byte text)) (after_run is_blank (after_run is_digit_byte text)) v rest e in
+    let q = unit_is (digits_of (run_of is_digit_byte t)) (after_run is_blank (after_run is_digit_byte t)) u r f in
     minutes_share text t rest r p.0 q.0 p.1 q.1
 share_here (Argument k) text t v u rest r e f = word_share is_filled text t rest r (taken (after_run is_filled text) _ v rest e).1 (taken (after_run is_filled t) _ u r f).1
 share_here End [] [] v u rest r e f = let l : 0 ≡ length rest = ap length (some_pair e).1 in omega arith
@@ -118,11 +118,11 @@ pub not_when : {A : Type 0} (b : Bool) (x : A) → when b x ≡ None → b ≡ f
 not_when true x e = cc
 not_when false x e = refl
 
-pub letter_is_word : (b : ℕ) → is_letter b ≡ true → is_word b ≡ true
+pub letter_is_word : (b : ℕ) → is_letter_byte b ≡ true → is_word b ≡ true
 letter_is_word b e = rw e refl
 
-pub digit_is_word : (b : ℕ) → is_digit b ≡ true → is_word b ≡ true
-digit_is_word b e = elim (is_true_or_false (is_letter b)) [
+pub digit_is_word : (b : ℕ) → is_digit_byte b ≡ true → is_word b ≡ true
+digit_is_word b e = elim (is_true_or_false (is_letter_byte b)) [
   | inl h ↦ letter_is_word b h
   | inr h ↦ rw (h, e) refl
 ]
@@ -141,9 +141,9 @@ letter_run (b ∷ text) e = elim (is_true_or_false (is_word b)) [
 letters_part : (text t : List ℕ) → starts_with_letter text ≡ false → starts_with_letter t ≡ true → common text t ≤ 0
 letters_part [] t e f = omega arith
 letters_part (b ∷ text) [] e f = omega arith
-letters_part (b ∷ text) (c ∷ t) e f = at_heads b c text t 0 (λ same. absurd (let g = subst (λ x. is_letter x ≡ true) (sym same) f in cc))
+letters_part (b ∷ text) (c ∷ t) e f = at_heads b c text t 0 (λ same. absurd (let g = subst (λ x. is_letter_byte x ≡ true) (sym same) f in cc))
 
-name_near : (text t : List ℕ) → is_name (run_of is_word text) ≡ false → is_name (run_of is_word t) ≡ true → common text t ≤ (if starts_with_letter text then min 30 (length (run_of is_word text)) else 0)
+name_near : (text t : List ℕ) → is_name_word (run_of is_word text) ≡ false → is_name_word (run_of is_word t) ≡ true → common text t ≤ (if starts_with_letter text then min 30 (length (run_of is_word text)) else 0)
 name_near text t e f =
     let q = both (starts_with_letter (run_of is_word t)) (nat_le (length (run_of is_word t)) 30) f in
     let short : length (run_of is_word t) ≤ 30 = leb-true (length (run_of is_word t)) 30 q.1 in
@@ -157,7 +157,7 @@ name_near text t e f =
 
 pub digits_grow : (n : ℕ) (bytes : List ℕ) (v : ℕ) → digits_after n bytes ≡ Some v → n ≤ v
 digits_grow n [] v e = let k : n ≡ v = cc in omega arith
-digits_grow n (b ∷ bytes) v e = elim (chosen (is_digit b) _ _ _ e) [
+digits_grow n (b ∷ bytes) v e = elim (chosen (is_digit_byte b) _ _ _ e) [
   | inl p ↦ omega (arith, digits_grow (n * 10 + (b - 48)) bytes v p.1)
   | inr p ↦ let q = p.1 in cc
 ]
@@ -175,7 +175,7 @@ number_near n (b ∷ text) [] x e f = omega arith
 number_near n (b ∷ text) (c ∷ t) x e f =
     at_heads b c text t _ (λ same.
     let f' : below (2 ^ 64) (digits_after n (run_of is_word (b ∷ t))) ≡ Some x = subst (λ z. below (2 ^ 64) (digits_after n (run_of is_word (z ∷ t))) ≡ Some x) (sym same) f in
-    elim (is_true_or_false (is_digit b)) [
+    elim (is_true_or_false (is_digit_byte b)) [
       | inl d ↦
           (let w = digit_is_word b d in
           let m : ℕ = n * 10 + (b - 48) in
@@ -204,7 +204,7 @@ at_least n (suc k) e = omega (arith, mul-suc n k)
 
 pub size_grow : (n : ℕ) (bytes : List ℕ) (v : ℕ) → size_after n bytes ≡ Some v → n ≤ v
 size_grow n [] v e = let k : n ≡ v = cc in omega arith
-size_grow n (b ∷ bytes) v e = elim (chosen (is_digit b) _ _ _ e) [
+size_grow n (b ∷ bytes) v e = elim (chosen (is_digit_byte b) _ _ _ e) [
   | inl p ↦ omega (arith, size_grow (n * 10 + (b - 48)) bytes v p.1)
   | inr p ↦ (let u = unit_of n b bytes v p.1 in omega (arith, at_least n (factor b) u.1, u.2))
 ]
@@ -227,7 +227,7 @@ size_near n (b ∷ text) [] x e f = omega arith
 size_near n (b ∷ text) (c ∷ t) x e f =
     at_heads b c text t _ (λ same.
     let f' : below (2 ^ 64) (size_after n (run_of is_word (b ∷ t))) ≡ Some x = subst (λ z. below (2 ^ 64) (size_after n (run_of is_word (z ∷ t))) ≡ Some x) (sym same) f in
-    elim (is_true_or_false (is_digit b)) [
+    elim (is_true_or_false (is_digit_byte b)) [
       | inl d ↦
           (let w = digit_is_word b d in
           let m : ℕ = n * 10 + (b - 48) in
@@ -314,20 +314,20 @@ minutes_bound m bytes text v r e =
     ] refl e
 
 minutes_near : (n : ℕ) (text t : List ℕ) (v : ℕ) (r : List ℕ)
-    → in_minutes (digits_after n (run_of is_digit text)) (after_run is_blank (after_run is_digit text)) ≡ None
-    → in_minutes (digits_after n (run_of is_digit t)) (after_run is_blank (after_run is_digit t)) ≡ Some (v, r) → common text t ≤ near_minutes n text
+    → in_minutes (digits_after n (run_of is_digit_byte text)) (after_run is_blank (after_run is_digit_byte text)) ≡ None
+    → in_minutes (digits_after n (run_of is_digit_byte t)) (after_run is_blank (after_run is_digit_byte t)) ≡ Some (v, r) → common text t ≤ near_minutes n text
 minutes_near n [] t v r e f = omega arith
 minutes_near n (b ∷ text) [] v r e f = omega arith
 minutes_near n (b ∷ text) (c ∷ t) v r e f =
     at_heads b c text t _ (λ same.
-    let f' : in_minutes (digits_after n (run_of is_digit (b ∷ t))) (after_run is_blank (after_run is_digit (b ∷ t))) ≡ Some (v, r)
-    = subst (λ z. in_minutes (digits_after n (run_of is_digit (z ∷ t))) (after_run is_blank (after_run is_digit (z ∷ t))) ≡ Some (v, r)) (sym same) f in
-    elim (is_true_or_false (is_digit b)) [
+    let f' : in_minutes (digits_after n (run_of is_digit_byte (b ∷ t))) (after_run is_blank (after_run is_digit_byte (b ∷ t))) ≡ Some (v, r)
+    = subst (λ z. in_minutes (digits_after n (run_of is_digit_byte (z ∷ t))) (after_run is_blank (after_run is_digit_byte (z ∷ t))) ≡ Some (v, r)) (sym same) f in
+    elim (is_true_or_false (is_digit_byte b)) [
       | inl d ↦
           (let m : ℕ = n * 10 + (b - 48) in
-          let e2 : in_minutes (digits_after m (run_of is_digit text)) (after_run is_blank (after_run is_digit text)) ≡ None = rw (d, d) at e in
-          let f2 : in_minutes (digits_after m (run_of is_digit t)) (after_run is_blank (after_run is_digit t)) ≡ Some (v, r) = rw (d, d) at f' in
-          let l : nat_lt (m * 60) (2 ^ 64) ≡ true = minutes_bound m (run_of is_digit t) (after_run is_blank (after_run is_digit t)) v r f2 in
+          let e2 : in_minutes (digits_after m (run_of is_digit_byte text)) (after_run is_blank (after_run is_digit_byte text)) ≡ None = rw (d, d) at e in
+          let f2 : in_minutes (digits_after m (run_of is_digit_byte t)) (after_run is_blank (after_run is_digit_byte t)) ≡ Some (v, r) = rw (d, d) at f' in
+          let l : nat_lt (m * 60) (2 ^ 64) ≡ true = minutes_bound m (run_of is_digit_byte t) (after_run is_blank (after_run is_digit_byte t)) v r f2 in
           rw (d, l) (omega (arith, minutes_near m text t v r e2 f2)))
       | inr d ↦
           (let e2 : in_minutes (Some n) (after_run is_blank (b ∷ text)) ≡ None = rw d at e in
@@ -337,92 +337,92 @@ minutes_near n (b ∷ text) (c ∷ t) v r e f =
           rw d (omega arith))
     ])
 
-digits_begin : (near : ℕ → List ℕ → ℕ) (b c : ℕ) (text t : List ℕ) → (is_digit b ≡ true → common (b ∷ text) (c ∷ t) ≤ near 0 (b ∷ text))
-    → (is_digit b ≡ false → b ≡ c → ⊥) → common (b ∷ text) (c ∷ t) ≤ near_digits near (b ∷ text)
-digits_begin n b c text t at_digit at_other = elim (is_true_or_false (is_digit b)) [
+digits_begin : (near : ℕ → List ℕ → ℕ) (b c : ℕ) (text t : List ℕ) → (is_digit_byte b ≡ true → common (b ∷ text) (c ∷ t) ≤ near 0 (b ∷ text))
+    → (is_digit_byte b ≡ false → b ≡ c → ⊥) → common (b ∷ text) (c ∷ t) ≤ near_digits near (b ∷ text)
+digits_begin n b c text t at_digit at_other = elim (is_true_or_false (is_digit_byte b)) [
   | inl d ↦ rw d (at_digit d)
   | inr d ↦ rw d (at_heads b c text t 0 (λ same. absurd (at_other d same)))
 ]
 
-number_first : (text t : List ℕ) (x : ℕ) → number_of (run_of is_word text) ≡ None → number_of (run_of is_word t) ≡ Some x → common text t ≤ near_digits near_number text
+number_first : (text t : List ℕ) (x : ℕ) → number_of_text (run_of is_word text) ≡ None → number_of_text (run_of is_word t) ≡ Some x → common text t ≤ near_digits near_number text
 number_first [] t x e f = omega arith
 number_first (b ∷ text) [] x e f = omega arith
 number_first (b ∷ text) (c ∷ t) x e f =
     digits_begin near_number b c text t
     (λ d.
     let w = digit_is_word b d in
-    let e2 : number_of (b ∷ run_of is_word text) ≡ None = rw w at e in
+    let e2 : number_of_text (b ∷ run_of is_word text) ≡ None = rw w at e in
     let e3 : below (2 ^ 64) (digits_after 0 (run_of is_word (b ∷ text))) ≡ None = rw w e2 in
     elim (is_true_or_false (is_word c)) [
       | inl y ↦
-          (let f2 : number_of (c ∷ run_of is_word t) ≡ Some x = rw y at f in
+          (let f2 : number_of_text (c ∷ run_of is_word t) ≡ Some x = rw y at f in
           let f3 : below (2 ^ 64) (digits_after 0 (run_of is_word (c ∷ t))) ≡ Some x = rw y f2 in
           number_near 0 (b ∷ text) (c ∷ t) x e3 f3)
       | inr y ↦ absurd (let g = rw y at f in cc)
     ])
     (λ d same.
-    let f' : number_of (run_of is_word (b ∷ t)) ≡ Some x = subst (λ z. number_of (run_of is_word (z ∷ t)) ≡ Some x) (sym same) f in
+    let f' : number_of_text (run_of is_word (b ∷ t)) ≡ Some x = subst (λ z. number_of_text (run_of is_word (z ∷ t)) ≡ Some x) (sym same) f in
     elim (is_true_or_false (is_word b)) [
       | inl w ↦ (let g = rw (w, d) at f' in cc)
       | inr w ↦ (let g = rw w at f' in cc)
     ])
 
-sized_digit : (b : ℕ) (u : List ℕ) (o : Option ℕ) → is_digit b ≡ true → size_of (b ∷ u) ≡ o → below (2 ^ 64) (size_after 0 (b ∷ u)) ≡ o
-sized_digit b u o d e = elim (chosen (is_digit b) _ _ _ e) [
+sized_digit : (b : ℕ) (u : List ℕ) (o : Option ℕ) → is_digit_byte b ≡ true → size_of_text (b ∷ u) ≡ o → below (2 ^ 64) (size_after 0 (b ∷ u)) ≡ o
+sized_digit b u o d e = elim (chosen (is_digit_byte b) _ _ _ e) [
   | inl p ↦ p.1
   | inr p ↦ absurd (let q = p.0 in cc)
 ]
 
-sized_some : (b : ℕ) (u : List ℕ) (x : ℕ) → size_of (b ∷ u) ≡ Some x → below (2 ^ 64) (size_after 0 (b ∷ u)) ≡ Some x
-sized_some b u x e = elim (chosen (is_digit b) _ _ _ e) [
+sized_some : (b : ℕ) (u : List ℕ) (x : ℕ) → size_of_text (b ∷ u) ≡ Some x → below (2 ^ 64) (size_after 0 (b ∷ u)) ≡ Some x
+sized_some b u x e = elim (chosen (is_digit_byte b) _ _ _ e) [
   | inl p ↦ p.1
   | inr p ↦ absurd (let q = p.1 in cc)
 ]
 
-size_first : (text t : List ℕ) (x : ℕ) → size_of (run_of is_word text) ≡ None → size_of (run_of is_word t) ≡ Some x → common text t ≤ near_digits near_size text
+size_first : (text t : List ℕ) (x : ℕ) → size_of_text (run_of is_word text) ≡ None → size_of_text (run_of is_word t) ≡ Some x → common text t ≤ near_digits near_size text
 size_first [] t x e f = omega arith
 size_first (b ∷ text) [] x e f = omega arith
 size_first (b ∷ text) (c ∷ t) x e f =
     digits_begin near_size b c text t
     (λ d.
     let w = digit_is_word b d in
-    let e1 : size_of (b ∷ run_of is_word text) ≡ None = rw w at e in
+    let e1 : size_of_text (b ∷ run_of is_word text) ≡ None = rw w at e in
     let e2 : below (2 ^ 64) (size_after 0 (run_of is_word (b ∷ text))) ≡ None = rw w (sized_digit b (run_of is_word text) None d e1) in
     elim (is_true_or_false (is_word c)) [
       | inl y ↦
-          (let f1 : size_of (c ∷ run_of is_word t) ≡ Some x = rw y at f in
+          (let f1 : size_of_text (c ∷ run_of is_word t) ≡ Some x = rw y at f in
           let f3 : below (2 ^ 64) (size_after 0 (run_of is_word (c ∷ t))) ≡ Some x = rw y (sized_some c (run_of is_word t) x f1) in
           size_near 0 (b ∷ text) (c ∷ t) x e2 f3)
       | inr y ↦ absurd (let g = rw y at f in cc)
     ])
     (λ d same.
-    let f' : size_of (run_of is_word (b ∷ t)) ≡ Some x = subst (λ z. size_of (run_of is_word (z ∷ t)) ≡ Some x) (sym same) f in
+    let f' : size_of_text (run_of is_word (b ∷ t)) ≡ Some x = subst (λ z. size_of_text (run_of is_word (z ∷ t)) ≡ Some x) (sym same) f in
     elim (is_true_or_false (is_word b)) [
       | inl w ↦ (let g = rw (w, d) at f' in cc)
       | inr w ↦ (let g = rw w at f' in cc)
     ])
 
 -- digits_of a run of digits, where there is one
-pub run_digits : (b : ℕ) (text : List ℕ) → is_digit b ≡ true → digits_of (run_of is_digit (b ∷ text)) ≡ digits_after 0 (run_of is_digit (b ∷ text))
+pub run_digits : (b : ℕ) (text : List ℕ) → is_digit_byte b ≡ true → digits_of (run_of is_digit_byte (b ∷ text)) ≡ digits_after 0 (run_of is_digit_byte (b ∷ text))
 run_digits b text d = rw d refl
 
-no_digits : (b : ℕ) (text : List ℕ) → is_digit b ≡ false → digits_of (run_of is_digit (b ∷ text)) ≡ None
+no_digits : (b : ℕ) (text : List ℕ) → is_digit_byte b ≡ false → digits_of (run_of is_digit_byte (b ∷ text)) ≡ None
 no_digits b text d = rw d refl
 
 minutes_first : (text t : List ℕ) (v : ℕ) (r : List ℕ)
-    → in_minutes (digits_of (run_of is_digit text)) (after_run is_blank (after_run is_digit text)) ≡ None
-    → in_minutes (digits_of (run_of is_digit t)) (after_run is_blank (after_run is_digit t)) ≡ Some (v, r) → common text t ≤ near_digits near_minutes text
+    → in_minutes (digits_of (run_of is_digit_byte text)) (after_run is_blank (after_run is_digit_byte text)) ≡ None
+    → in_minutes (digits_of (run_of is_digit_byte t)) (after_run is_blank (after_run is_digit_byte t)) ≡ Some (v, r) → common text t ≤ near_digits near_minutes text
 minutes_first [] t v r e f = omega arith
 minutes_first (b ∷ text) [] v r e f = omega arith
 minutes_first (b ∷ text) (c ∷ t) v r e f =
-    elim (is_true_or_false (is_digit c)) [
-      | inr n ↦ absurd (let g = subst (λ o. in_minutes o (after_run is_blank (after_run is_digit (c ∷ t))) ≡ Some (v, r)) (no_digits c t n) f in cc)
+    elim (is_true_or_false (is_digit_byte c)) [
+      | inr n ↦ absurd (let g = subst (λ o. in_minutes o (after_run is_blank (after_run is_digit_byte (c ∷ t))) ≡ Some (v, r)) (no_digits c t n) f in cc)
       | inl y ↦
           digits_begin near_minutes b c text t
           (λ d. minutes_near 0 (b ∷ text) (c ∷ t) v r
-          (subst (λ o. in_minutes o (after_run is_blank (after_run is_digit (b ∷ text))) ≡ None) (run_digits b text d) e)
-          (subst (λ o. in_minutes o (after_run is_blank (after_run is_digit (c ∷ t))) ≡ Some (v, r)) (run_digits c t y) f))
-          (λ d same. let g = subst (λ x. is_digit x ≡ true) (sym same) y in cc)
+          (subst (λ o. in_minutes o (after_run is_blank (after_run is_digit_byte (b ∷ text))) ≡ None) (run_digits b text d) e)
+          (subst (λ o. in_minutes o (after_run is_blank (after_run is_digit_byte (c ∷ t))) ≡ Some (v, r)) (run_digits c t y) f))
+          (λ d same. let g = subst (λ x. is_digit_byte x ≡ true) (sym same) y in cc)
     ]
 
 mark_near : (m : ℕ) (text t : List ℕ) (r : List ℕ) → mark_of m text ≡ None → mark_of m t ≡ Some (tt, r) → common text t ≤ near_mark m text
@@ -435,7 +435,7 @@ mark_near m (b ∷ text) (c ∷ t) r e f =
           let g : (b == m) ≡ true = subst (λ x. (x == m) ≡ true) (sym same) p.0 in absurd (let h = rw g at e in cc))
     ]
 
-pub none_behind : (b : ℕ) (o : Option (List ℕ × List ℕ)) → behind b o ≡ None → o ≡ None
+pub none_behind : (b : ℕ) (o : Option (List ℕ × List ℕ)) → with_byte_before b o ≡ None → o ≡ None
 none_behind b None e = refl
 none_behind b (Some cut) e = cc
 
@@ -459,24 +459,24 @@ quoted_near (b ∷ text) (c ∷ t) u r e f =
     ]
 
 near_law_here : (w : Word) (text t : List ℕ) (u : Meaning w) (r : List ℕ) → fit_here w text ≡ None → fit_here w t ≡ Some (u, r) → common text t ≤ near_here w text
-near_law_here (Key k) text t u r e f =
+near_law_here (Keyword k) text t u r e f =
     let p = taken (after_run is_word t) (when (same_bytes (map upper (run_of is_word t)) k) tt) u r f in
     let q = when_true (same_bytes (map upper (run_of is_word t)) k) tt u p.0 in
     let n = not_when (same_bytes (map upper (run_of is_word text)) k) tt (no_rest (after_run is_word text) _ e) in
     key_near text t k (same_is (map upper (run_of is_word t)) k q.0) n
 near_law_here (Mark m) text t u r e f = mark_near m text t r e f
 near_law_here Name text t u r e f =
-    let p = taken (after_run is_word t) (when (is_name (run_of is_word t)) (run_of is_word t)) u r f in
-    let q = when_true (is_name (run_of is_word t)) (run_of is_word t) u p.0 in
-    name_near text t (not_when (is_name (run_of is_word text)) (run_of is_word text) (no_rest (after_run is_word text) _ e)) q.0
+    let p = taken (after_run is_word t) (when (is_name_word (run_of is_word t)) (run_of is_word t)) u r f in
+    let q = when_true (is_name_word (run_of is_word t)) (run_of is_word t) u p.0 in
+    name_near text t (not_when (is_name_word (run_of is_word text)) (run_of is_word text) (no_rest (after_run is_word text) _ e)) q.0
 near_law_here Number text t u r e f =
-    number_first text t u (no_rest (after_run is_word text) (number_of (run_of is_word text)) e) (taken (after_run is_word t) (number_of (run_of is_word t)) u r f).0
+    number_first text t u (no_rest (after_run is_word text) (number_of_text (run_of is_word text)) e) (taken (after_run is_word t) (number_of_text (run_of is_word t)) u r f).0
 near_law_here Size text t u r e f =
-    size_first text t u (no_rest (after_run is_word text) (size_of (run_of is_word text)) e) (taken (after_run is_word t) (size_of (run_of is_word t)) u r f).0
+    size_first text t u (no_rest (after_run is_word text) (size_of_text (run_of is_word text)) e) (taken (after_run is_word t) (size_of_text (run_of is_word t)) u r f).0
 near_law_here Minutes text t u r e f = minutes_first text t u r e f
 near_law_here Quoted text t u r e f = quoted_near text t u r e f
 near_law_here (Argument k) text t u r e f =
-    stage_near (start k) text t (of_none k (run_of is_filled text) (no_rest (after_run is_filled text) (argument_of k (run_of is_filled text)) e))
+    stage_near (first_stage k) text t (of_none k (run_of is_filled text) (no_rest (after_run is_filled text) (argument_of k (run_of is_filled text)) e))
     (of_some k (run_of is_filled t) u (taken (after_run is_filled t) (argument_of k (run_of is_filled t)) u r f).0)
 near_law_here End [] t u r e f = cc
 near_law_here End (b ∷ text) [] u r e f = omega arith
@@ -508,16 +508,16 @@ quote_part (b ∷ x) (c ∷ y) v rest e f =
           ]
     ]
 
-sharp_end : (w : Word) (text t : List ℕ) (v : Meaning w) (rest : List ℕ) → is_solid w ≡ true → fit_here w text ≡ Some (v, rest) → is_some (end_of t) ≡ true → common text t + length rest ≤ length text
+sharp_end : (w : Word) (text t : List ℕ) (v : Meaning w) (rest : List ℕ) → is_solid w ≡ true → fit_here w text ≡ Some (v, rest) → is_some (end_of_text t) ≡ true → common text t + length rest ≤ length text
 sharp_end w [] [] v rest s e f = let l = takes_here w [] v rest s e in omega arith
 sharp_end w (b ∷ text) [] v rest s e f = let l = takes_here w (b ∷ text) v rest s e in omega arith
 sharp_end w text (c ∷ t) v rest s e f = cc
 
 sharp_here : (w other : Word) (text t : List ℕ) (v : Meaning w) (rest : List ℕ) → apart w other ≡ true → fit_here w text ≡ Some (v, rest) → is_some (fit_here other t) ≡ true → common text t + length rest ≤ length text
-sharp_here (Key k) other text t v rest a e f =
+sharp_here (Keyword k) other text t v rest a e f =
     let p = taken (after_run is_word text) (when (same_bytes (map upper (run_of is_word text)) k) tt) v rest e in
     let q = when_true (same_bytes (map upper (run_of is_word text)) k) tt v p.0 in
-    let n = apart_here (Key k) other t a f in
+    let n = apart_here (Keyword k) other t a f in
     let m : same_bytes (map upper (run_of is_word t)) k ≡ false = sym (found_when {A = Unit {0}} (after_run is_word t) (same_bytes (map upper (run_of is_word t)) k) tt) ∙ n in
     let l : length (after_run is_word text) ≡ length rest = ap length p.1 in
     omega (arith, runs_part is_word text t (λ h. let g = subst (λ z. same_bytes (map upper z) k ≡ true) h q.0 in cc), run_and_rest is_word text)
@@ -572,14 +572,14 @@ sharp w other text t v rest a e f =
 
 pub number_short : (n : ℕ) (text : List ℕ) → near_number n text ≤ length text
 number_short n [] = omega arith
-number_short n (b ∷ text) = elim (is_true_or_false (is_digit b && nat_lt (n * 10 + (b - 48)) (2 ^ 64))) [
+number_short n (b ∷ text) = elim (is_true_or_false (is_digit_byte b && nat_lt (n * 10 + (b - 48)) (2 ^ 64))) [
   | inl h ↦ rw h (omega (arith, number_short (n * 10 + (b - 48)) text))
   | inr h ↦ rw h (omega arith)
 ]
 
 pub size_short : (n : ℕ) (text : List ℕ) → near_size n text ≤ length text
 size_short n [] = omega arith
-size_short n (b ∷ text) = elim (is_true_or_false (is_digit b && nat_lt (n * 10 + (b - 48)) (2 ^ 64))) [
+size_short n (b ∷ text) = elim (is_true_or_false (is_digit_byte b && nat_lt (n * 10 + (b - 48)) (2 ^ 64))) [
   | inl h ↦ rw h (omega (arith, size_short (n * 10 + (b - 48)) text))
   | inr h ↦ rw h (elim (is_true_or_false (not (factor b == 0) && nat_lt (n * factor b) (2 ^ 64))) [
     | inl k ↦ rw k (omega arith)
@@ -599,7 +599,7 @@ unit_short n (b ∷ text) = elim (is_true_or_false (is_blank b)) [
 
 minutes_short : (n : ℕ) (text : List ℕ) → near_minutes n text ≤ length text
 minutes_short n [] = omega arith
-minutes_short n (b ∷ text) = elim (is_true_or_false (is_digit b)) [
+minutes_short n (b ∷ text) = elim (is_true_or_false (is_digit_byte b)) [
   | inl h ↦ rw h (elim (is_true_or_false (nat_lt ((n * 10 + (b - 48)) * 60) (2 ^ 64))) [
     | inl k ↦ rw k (omega (arith, minutes_short (n * 10 + (b - 48)) text))
     | inr k ↦ rw k (omega arith)
@@ -609,7 +609,7 @@ minutes_short n (b ∷ text) = elim (is_true_or_false (is_digit b)) [
 
 digits_short : (near : ℕ → List ℕ → ℕ) → ((n : ℕ) (text : List ℕ) → near n text ≤ length text) → (text : List ℕ) → near_digits near text ≤ length text
 digits_short f each [] = omega arith
-digits_short f each (b ∷ text) = elim (is_true_or_false (is_digit b)) [
+digits_short f each (b ∷ text) = elim (is_true_or_false (is_digit_byte b)) [
   | inl h ↦ rw h (each 0 (b ∷ text))
   | inr h ↦ rw h (omega arith)
 ]
@@ -627,7 +627,7 @@ common_second (b ∷ k) [] = omega arith
 common_second (b ∷ k) (c ∷ text) = at_heads b c k text _ (λ same. omega (arith, common_second k text))
 
 short_here : (w : Word) (text : List ℕ) → near_here w text ≤ length text
-short_here (Key k) text = let l : length (map upper text) ≡ length text = length-map text upper in omega (arith, common_second k (map upper text))
+short_here (Keyword k) text = let l : length (map upper text) ≡ length text = length-map text upper in omega (arith, common_second k (map upper text))
 short_here (Mark m) [] = omega arith
 short_here (Mark m) (b ∷ text) = elim (is_true_or_false (b == m)) [ inl h ↦ rw h (omega arith) | inr h ↦ rw h (omega arith) ]
 short_here Name text = elim (is_true_or_false (starts_with_letter text)) [
@@ -637,7 +637,7 @@ short_here Name text = elim (is_true_or_false (starts_with_letter text)) [
 short_here Number text = digits_short near_number (λ n t. number_short n t) text
 short_here Size text = digits_short near_size (λ n t. size_short n t) text
 short_here Minutes text = digits_short near_minutes (λ n t. minutes_short n t) text
-short_here (Argument k) text = omega (arith, near_short (start k) (run_of is_filled text), run_and_rest is_filled text)
+short_here (Argument k) text = omega (arith, near_short (first_stage k) (run_of is_filled text), run_and_rest is_filled text)
 short_here End text = omega arith
 short_here Quoted [] = omega arith
 short_here Quoted (b ∷ text) = elim (is_true_or_false (b == 39)) [

@@ -3,11 +3,11 @@ use Rattle.std.proofs.Common.{◌≡◌, ◌≢◌, ℕ, zero, suc, ◌+◌, ◌
 use Rattle.std.specs.Prelude.{◌==◌, if◌then◌else◌}
 use Rattle.std.specs.List.{list_all}
 use Rattle.std.proofs.lemmas.Bool.{eqb-true, eq-eqb, leb-true, leb-false, le-leb, ltb-true, lt-ltb}
-use Rattle.asm_grammar.specs.Bytes.{is_blank, is_space, is_filled, is_word, is_digit, is_letter, is_lower, upper, run_of, after_run, common}
-use Rattle.asm_grammar.specs.Argument.{factor, Kind, Exact, Text, Named, Numbered, Sized, Path, PathPattern, NotLong, PartPattern, Outside, HexBytes, HexByte, start, is_of, near_from}
+use Rattle.asm_grammar.specs.Bytes.{is_blank, is_space, is_filled, is_word, is_digit_byte, is_letter_byte, is_lower, upper, run_of, after_run, common}
+use Rattle.asm_grammar.specs.Argument.{factor, Kind, Exact, Text, PlainName, PlainNumber, Sized, GroupPath, PathPattern, NotLong, PartPattern, HostPath, HexBytes, HexByte, first_stage, is_of, near_from}
 use Rattle.asm_grammar.specs.Reading.{is_solid}
 use Rattle.asm_grammar.proofs.Stages.{of_run, of_says, is_unspaced, filled, filled_accepted, filled_far, filled_unspaced}
-use Rattle.asm_grammar.specs.Word.{Word, Key, Mark, Name, Number, Size, Minutes, Quoted, Argument, End, Meaning, gap, begins_argument, below, digits_after, size_after, fit_here, near_here, near_mark, near_quoted, near_number, near_value, near_size, near_minutes, near_unit, near_digits, mark_of, quoted_of, to_quote, number_of, size_of, is_name, starts_with_letter, in_minutes, minutes_in, begins_word}
+use Rattle.asm_grammar.specs.Word.{Word, Keyword, Mark, Name, Number, Size, Minutes, Quoted, Argument, End, Meaning, gap, begins_argument, below, digits_after, size_after, fit_here, near_here, near_mark, near_quoted, near_number, near_value, near_size, near_minutes, near_unit, near_digits, mark_of, quoted_of, to_quote, number_of_text, size_of_text, is_name_word, starts_with_letter, in_minutes, minutes_in, begins_word}
 use Rattle.asm_grammar.specs.Writing.{is_capital}
 use Rattle.asm_grammar.proofs.Tests.{or_left, or_right, one_of, both_true, both, not_true, is_true_or_false, false_unless}
 use Rattle.asm_grammar.proofs.Apart.{same_self}
@@ -43,7 +43,7 @@ in_case [] text = []
 in_case (c ∷ k) [] = c ∷ k
 in_case (c ∷ k) (b ∷ text) = if c == upper b then b ∷ in_case k text else c ∷ k
 
-upper_letter : (b : ℕ) → is_letter (upper b) ≡ true → is_letter b ≡ true
+upper_letter : (b : ℕ) → is_letter_byte (upper b) ≡ true → is_letter_byte b ≡ true
 upper_letter b e = elim (is_true_or_false (is_lower b)) [
   | inl h ↦ rw h (or_right (nat_le 65 b && nat_le b 90) true refl)
   | inr h ↦ rw h at e
@@ -54,10 +54,10 @@ case_words [] text a = refl
 case_words (c ∷ k) [] a = capital_words (c ∷ k) a
 case_words (c ∷ k) (b ∷ text) a =
     let p = both (is_capital c) (list_all is_capital k) a in
-    let q = both (is_letter c) (upper c == c) p.0 in
+    let q = both (is_letter_byte c) (upper c == c) p.0 in
     elim (is_true_or_false (c == upper b)) [
       | inl h ↦
-          (let l : is_letter b ≡ true = upper_letter b (subst (λ x. is_letter x ≡ true) (eqb-true c (upper b) h) q.0) in
+          (let l : is_letter_byte b ≡ true = upper_letter b (subst (λ x. is_letter_byte x ≡ true) (eqb-true c (upper b) h) q.0) in
           rw (h, letter_is_word b l) (case_words k text p.1))
       | inr h ↦ rw h (capital_words (c ∷ k) a)
     ]
@@ -94,7 +94,7 @@ mark_none m (b ∷ text) t e = elim (is_true_or_false (b == m)) [
   | inr h ↦ rw h (omega arith)
 ]
 
-key_spelling : (k text : List ℕ) → (not (length k == 0) && list_all is_capital k) ≡ true → WordSpelling (Key k) text
+key_spelling : (k text : List ℕ) → (not (length k == 0) && list_all is_capital k) ≡ true → WordSpelling (Keyword k) text
 key_spelling [] text s = absurd (let f = s in cc)
 key_spelling (c ∷ k) text s =
     let a = (both (not (length (c ∷ k) == 0)) (list_all is_capital (c ∷ k)) s).1 in (
@@ -122,22 +122,22 @@ mark_spelling m text n e = (
 
 -- NAMES
 
-name_here : (v tail : List ℕ) → is_name v ≡ true → list_all is_word v ≡ true → begins_word tail ≡ false
+name_here : (v tail : List ℕ) → is_name_word v ≡ true → list_all is_word v ≡ true → begins_word tail ≡ false
     → (fit_here Name (v ++ tail) ≡ Some (v, tail)) × (after_run is_blank (v ++ tail) ≡ v ++ tail)
 name_here v tail n a e =
-    let c = cut v tail a (λ h. let g = subst (λ x. is_name x ≡ true) h n in cc) e in
+    let c = cut v tail a (λ h. let g = subst (λ x. is_name_word x ≡ true) h n in cc) e in
     (rw (c.run, c.rest, n) refl, c.start)
 
-number_here : (bytes tail : List ℕ) (v : ℕ) → list_all is_word bytes ≡ true → number_of bytes ≡ Some v → begins_word tail ≡ false
+number_here : (bytes tail : List ℕ) (v : ℕ) → list_all is_word bytes ≡ true → number_of_text bytes ≡ Some v → begins_word tail ≡ false
     → (fit_here Number (bytes ++ tail) ≡ Some (v, tail)) × (after_run is_blank (bytes ++ tail) ≡ bytes ++ tail)
 number_here bytes tail v a n e =
-    let c = cut bytes tail a (λ h. let g = subst (λ x. number_of x ≡ Some v) h n in cc) e in
+    let c = cut bytes tail a (λ h. let g = subst (λ x. number_of_text x ≡ Some v) h n in cc) e in
     (rw (c.run, c.rest, n) refl, c.start)
 
-size_here : (bytes tail : List ℕ) (v : ℕ) → list_all is_word bytes ≡ true → size_of bytes ≡ Some v → begins_word tail ≡ false
+size_here : (bytes tail : List ℕ) (v : ℕ) → list_all is_word bytes ≡ true → size_of_text bytes ≡ Some v → begins_word tail ≡ false
     → (fit_here Size (bytes ++ tail) ≡ Some (v, tail)) × (after_run is_blank (bytes ++ tail) ≡ bytes ++ tail)
 size_here bytes tail v a n e =
-    let c = cut bytes tail a (λ h. let g = subst (λ x. size_of x ≡ Some v) h n in cc) e in
+    let c = cut bytes tail a (λ h. let g = subst (λ x. size_of_text x ≡ Some v) h n in cc) e in
     (rw (c.run, c.rest, n) refl, c.start)
 
 pub run_words : (test : ℕ → Bool) (text : List ℕ) → list_all test (run_of test text) ≡ true
@@ -166,7 +166,7 @@ letter_take : (n : ℕ) (text : List ℕ) → starts_with_letter text ≡ true �
 letter_take n [] h = cc
 letter_take n (b ∷ text) h = rw (letter_is_word b h) h
 
-long_name : (text : List ℕ) → starts_with_letter text ≡ true → is_name (run_of is_word text) ≡ false → 30 < length (run_of is_word text)
+long_name : (text : List ℕ) → starts_with_letter text ≡ true → is_name_word (run_of is_word text) ≡ false → 30 < length (run_of is_word text)
 long_name text h e =
     leb-false (length (run_of is_word text)) 30 (and_true (starts_with_letter (run_of is_word text)) (nat_le (length (run_of is_word text)) 30) (run_letter text h) e)
 
@@ -179,10 +179,10 @@ name_spelling text e = elim (is_true_or_false (starts_with_letter text)) [
         record { says = 65 ∷ []; fit_is = u.0; start = u.1; far = rw h (omega arith) },
   )
   | inl h ↦
-      let long : 30 < length (run_of is_word text) = long_name text h (not_when (is_name (run_of is_word text)) (run_of is_word text) (no_rest (after_run is_word text) _ e)) in
+      let long : 30 < length (run_of is_word text) = long_name text h (not_when (is_name_word (run_of is_word text)) (run_of is_word text) (no_rest (after_run is_word text) _ e)) in
       let v : List ℕ = take 30 (run_of is_word text) in
       let l : length v ≡ 30 = length_take_le 30 (run_of is_word text) (omega arith) in
-      let n : is_name v ≡ true = both_true (starts_with_letter v) (nat_le (length v) 30) (letter_take 29 text h) (le-leb (length v) 30 (omega arith)) in (
+      let n : is_name_word v ≡ true = both_true (starts_with_letter v) (nat_le (length v) 30) (letter_take 29 text h) (le-leb (length v) 30 (omega arith)) in (
         v,
         λ tail b.
             let u = name_here v tail n (all_take is_word 30 (run_of is_word text) (run_words is_word text)) b in
@@ -192,33 +192,33 @@ name_spelling text e = elim (is_true_or_false (starts_with_letter text)) [
 
 -- NUMBERS
 
-pub digit_small : (b : ℕ) → is_digit b ≡ true → b - 48 < 10
+pub digit_small : (b : ℕ) → is_digit_byte b ≡ true → b - 48 < 10
 digit_small b d = let p = both (nat_le 48 b) (nat_le b 57) d in omega (arith, leb-true b 57 p.1)
 
 record NumberFront (n : ℕ) (text : List ℕ) : Type 0 where
-  digits : list_all is_digit (take (near_number n text) text) ≡ true
+  digits : list_all is_digit_byte (take (near_number n text) text) ≡ true
   value : digits_after n (take (near_number n text) text) ≡ Some (near_value n text)
   bound : near_value n text < 2 ^ 64
 
 number_front : (n : ℕ) (text : List ℕ) → n < 2 ^ 64 → NumberFront n text
 number_front n [] l = record { digits = refl; value = refl; bound = l }
-number_front n (b ∷ text) l = elim (is_true_or_false (is_digit b && nat_lt (n * 10 + (b - 48)) (2 ^ 64))) [
+number_front n (b ∷ text) l = elim (is_true_or_false (is_digit_byte b && nat_lt (n * 10 + (b - 48)) (2 ^ 64))) [
   | inr h ↦ record { digits = rw h refl; value = rw h refl; bound = rw h l }
   | inl h ↦
-      (let p = both (is_digit b) (nat_lt (n * 10 + (b - 48)) (2 ^ 64)) h in
+      (let p = both (is_digit_byte b) (nat_lt (n * 10 + (b - 48)) (2 ^ 64)) h in
       let f = number_front (n * 10 + (b - 48)) text (ltb-true (n * 10 + (b - 48)) (2 ^ 64) p.1) in
       let t : take (near_number n (b ∷ text)) (b ∷ text) ≡ b ∷ take (near_number (n * 10 + (b - 48)) text) text = rw (h, add-one) refl in
       record { digits = rw (t, p.0) f.digits; value = rw (t, p.0, p.1) f.value; bound = rw h f.bound })
 ]
 
-number_first_digit : (b : ℕ) (text : List ℕ) → is_digit b ≡ true → 0 < near_number 0 (b ∷ text)
+number_first_digit : (b : ℕ) (text : List ℕ) → is_digit_byte b ≡ true → 0 < near_number 0 (b ∷ text)
 number_first_digit b text d =
-    let h : (is_digit b && nat_lt (0 * 10 + (b - 48)) (2 ^ 64)) ≡ true = both_true (is_digit b) _ d (lt-ltb (0 * 10 + (b - 48)) (2 ^ 64) (let s = digit_small b d in omega arith)) in
+    let h : (is_digit_byte b && nat_lt (0 * 10 + (b - 48)) (2 ^ 64)) ≡ true = both_true (is_digit_byte b) _ d (lt-ltb (0 * 10 + (b - 48)) (2 ^ 64) (let s = digit_small b d in omega arith)) in
     rw h (omega arith)
 
-words_of_digits : (bytes : List ℕ) → list_all is_digit bytes ≡ true → list_all is_word bytes ≡ true
+words_of_digits : (bytes : List ℕ) → list_all is_digit_byte bytes ≡ true → list_all is_word bytes ≡ true
 words_of_digits [] a = refl
-words_of_digits (b ∷ bytes) a = let p = both (is_digit b) (list_all is_digit bytes) a in rw (digit_is_word b p.0) (words_of_digits bytes p.1)
+words_of_digits (b ∷ bytes) a = let p = both (is_digit_byte b) (list_all is_digit_byte bytes) a in rw (digit_is_word b p.0) (words_of_digits bytes p.1)
 
 take_some : (n b : ℕ) (text : List ℕ) → 0 < n → take n (b ∷ text) ≢ []
 take_some zero b text l e = absurd (omega arith)
@@ -234,12 +234,12 @@ zero_number text z = (
 
 number_spelling : (text : List ℕ) → WordSpelling Number text
 number_spelling [] = zero_number [] refl
-number_spelling (b ∷ text) = elim (is_true_or_false (is_digit b)) [
+number_spelling (b ∷ text) = elim (is_true_or_false (is_digit_byte b)) [
   | inr h ↦ zero_number (b ∷ text) (rw h refl)
   | inl h ↦
       let f = number_front 0 (b ∷ text) (lit< tt) in
       let s : List ℕ = take (near_number 0 (b ∷ text)) (b ∷ text) in
-      let n : number_of s ≡ Some (near_value 0 (b ∷ text)) = number_is s (near_value 0 (b ∷ text)) (take_some (near_number 0 (b ∷ text)) b text (number_first_digit b text h)) f.value f.bound in (
+      let n : number_of_text s ≡ Some (near_value 0 (b ∷ text)) = number_is s (near_value 0 (b ∷ text)) (take_some (near_number 0 (b ∷ text)) b text (number_first_digit b text h)) f.value f.bound in (
         s,
         λ tail e.
             let u = number_here s tail (near_value 0 (b ∷ text)) (words_of_digits s f.digits) n e in
@@ -293,15 +293,15 @@ record SizeFront (n : ℕ) (text : List ℕ) : Type 0 where
   is : size_after n (take (near_size n text) text) ≡ Some value
   bound : value < 2 ^ 64
 
-factor_is_letter : (u : ℕ) → (factor u == 0) ≡ false → is_letter u ≡ true
+factor_is_letter : (u : ℕ) → (factor u == 0) ≡ false → is_letter_byte u ≡ true
 factor_is_letter u f = elim (is_true_or_false (u == 75)) [
-  | inl a ↦ subst (λ x. is_letter x ≡ true) (sym (eqb-true u 75 a)) refl
+  | inl a ↦ subst (λ x. is_letter_byte x ≡ true) (sym (eqb-true u 75 a)) refl
   | inr a ↦ (elim (is_true_or_false (u == 77)) [
-    | inl b ↦ subst (λ x. is_letter x ≡ true) (sym (eqb-true u 77 b)) refl
+    | inl b ↦ subst (λ x. is_letter_byte x ≡ true) (sym (eqb-true u 77 b)) refl
     | inr b ↦ (elim (is_true_or_false (u == 71)) [
-      | inl c ↦ subst (λ x. is_letter x ≡ true) (sym (eqb-true u 71 c)) refl
+      | inl c ↦ subst (λ x. is_letter_byte x ≡ true) (sym (eqb-true u 71 c)) refl
       | inr c ↦ (elim (is_true_or_false (u == 84)) [
-        | inl d ↦ subst (λ x. is_letter x ≡ true) (sym (eqb-true u 84 d)) refl
+        | inl d ↦ subst (λ x. is_letter_byte x ≡ true) (sym (eqb-true u 84 d)) refl
         | inr d ↦ absurd (let g = rw (a, b, c, d) at f in cc)
       ])
     ])
@@ -311,8 +311,8 @@ factor_is_letter u f = elim (is_true_or_false (u == 75)) [
 pub factor_letter : (b : ℕ) → (factor b == 0) ≡ false → is_word b ≡ true
 factor_letter b f = letter_is_word b (factor_is_letter b f)
 
-letter_no_digit : (b : ℕ) → is_letter b ≡ true → is_digit b ≡ false
-letter_no_digit b l = false_unless (is_digit b) (λ d.
+letter_no_digit : (b : ℕ) → is_letter_byte b ≡ true → is_digit_byte b ≡ false
+letter_no_digit b l = false_unless (is_digit_byte b) (λ d.
     let p = both (nat_le 48 b) (nat_le b 57) d in
     let high : b ≤ 57 = leb-true b 57 p.1 in
     elim (one_of (nat_le 65 b && nat_le b 90) (is_lower b) l) [
@@ -320,10 +320,10 @@ letter_no_digit b l = false_unless (is_digit b) (λ d.
       | inr x ↦ (let q = leb-true 97 b (both (nat_le 97 b) (nat_le b 122) x).0 in omega arith)
     ])
 
-pub factor_no_digit : (b : ℕ) → (factor b == 0) ≡ false → is_digit b ≡ false
+pub factor_no_digit : (b : ℕ) → (factor b == 0) ≡ false → is_digit_byte b ≡ false
 factor_no_digit b f = letter_no_digit b (factor_is_letter b f)
 
-size_step : (n b : ℕ) (bytes : List ℕ) (v : ℕ) → is_digit b ≡ true → size_after (n * 10 + (b - 48)) bytes ≡ Some v → size_after n (b ∷ bytes) ≡ Some v
+size_step : (n b : ℕ) (bytes : List ℕ) (v : ℕ) → is_digit_byte b ≡ true → size_after (n * 10 + (b - 48)) bytes ≡ Some v → size_after n (b ∷ bytes) ≡ Some v
 size_step n b bytes v d e = rw d e
 
 size_unit : (n b : ℕ) → (factor b == 0) ≡ false → size_after n (b ∷ []) ≡ Some (n * factor b)
@@ -331,9 +331,9 @@ size_unit n b f = rw (factor_no_digit b f, f) refl
 
 size_front : (n : ℕ) (text : List ℕ) → n < 2 ^ 64 → SizeFront n text
 size_front n [] l = record { words = refl; value = n; is = refl; bound = l }
-size_front n (b ∷ text) l = elim (is_true_or_false (is_digit b && nat_lt (n * 10 + (b - 48)) (2 ^ 64))) [
+size_front n (b ∷ text) l = elim (is_true_or_false (is_digit_byte b && nat_lt (n * 10 + (b - 48)) (2 ^ 64))) [
   | inl h ↦
-      (let p = both (is_digit b) (nat_lt (n * 10 + (b - 48)) (2 ^ 64)) h in
+      (let p = both (is_digit_byte b) (nat_lt (n * 10 + (b - 48)) (2 ^ 64)) h in
       let f = size_front (n * 10 + (b - 48)) text (ltb-true (n * 10 + (b - 48)) (2 ^ 64) p.1) in
       let t : take (near_size n (b ∷ text)) (b ∷ text) ≡ b ∷ take (near_size (n * 10 + (b - 48)) text) text = rw (h, add-one) refl in
       record {
@@ -360,28 +360,28 @@ zero_size text z = (
       record { says = 0; fit_is = u.0; start = u.1; far = omega arith },
 )
 
-size_first_digit : (b : ℕ) (text : List ℕ) → is_digit b ≡ true → 0 < near_size 0 (b ∷ text)
+size_first_digit : (b : ℕ) (text : List ℕ) → is_digit_byte b ≡ true → 0 < near_size 0 (b ∷ text)
 size_first_digit b text d =
-    let h : (is_digit b && nat_lt (0 * 10 + (b - 48)) (2 ^ 64)) ≡ true = both_true (is_digit b) _ d (lt-ltb (0 * 10 + (b - 48)) (2 ^ 64) (let s = digit_small b d in omega arith)) in
+    let h : (is_digit_byte b && nat_lt (0 * 10 + (b - 48)) (2 ^ 64)) ≡ true = both_true (is_digit_byte b) _ d (lt-ltb (0 * 10 + (b - 48)) (2 ^ 64) (let s = digit_small b d in omega arith)) in
     rw h (omega arith)
 
-size_value : (n b v : ℕ) (text : List ℕ) → 0 < n → is_digit b ≡ true → size_after 0 (take n (b ∷ text)) ≡ Some v → v < 2 ^ 64 → size_of (take n (b ∷ text)) ≡ Some v
+size_value : (n b v : ℕ) (text : List ℕ) → 0 < n → is_digit_byte b ≡ true → size_after 0 (take n (b ∷ text)) ≡ Some v → v < 2 ^ 64 → size_of_text (take n (b ∷ text)) ≡ Some v
 size_value zero b v text l d e k = absurd (omega arith)
 size_value (suc n) b v text l d e k =
     subst (λ x. (if x then below (2 ^ 64) (size_after 0 (b ∷ take n text)) else None) ≡ Some v) (sym d)
     (subst (λ o. below (2 ^ 64) o ≡ Some v) (sym e) (rw (lt-ltb v (2 ^ 64) k) refl))
 
-digits_near : (near : ℕ → List ℕ → ℕ) (b : ℕ) (text : List ℕ) → is_digit b ≡ true → near_digits near (b ∷ text) ≡ near 0 (b ∷ text)
+digits_near : (near : ℕ → List ℕ → ℕ) (b : ℕ) (text : List ℕ) → is_digit_byte b ≡ true → near_digits near (b ∷ text) ≡ near 0 (b ∷ text)
 digits_near f b text d = rw d refl
 
 size_spelling : (text : List ℕ) → WordSpelling Size text
 size_spelling [] = zero_size [] refl
-size_spelling (b ∷ text) = elim (is_true_or_false (is_digit b)) [
+size_spelling (b ∷ text) = elim (is_true_or_false (is_digit_byte b)) [
   | inr h ↦ zero_size (b ∷ text) (rw h refl)
   | inl h ↦
       let f = size_front 0 (b ∷ text) (lit< tt) in
       let s : List ℕ = take (near_size 0 (b ∷ text)) (b ∷ text) in
-      let n : size_of s ≡ Some f.value = size_value (near_size 0 (b ∷ text)) b f.value text (size_first_digit b text h) h f.is f.bound in (
+      let n : size_of_text s ≡ Some f.value = size_value (near_size 0 (b ∷ text)) b f.value text (size_first_digit b text h) h f.is f.bound in (
         s,
         λ tail e.
             let u = size_here s tail f.value f.words n e in
@@ -427,8 +427,8 @@ unit_read n (b ∷ text) tail l e = elim (is_true_or_false (is_blank b)) [
   ])
 ]
 
-unit_no_digit : (n b : ℕ) (text tail : List ℕ) → is_digit b ≡ false
-    → (run_of is_digit (unit_text n (b ∷ text) ++ tail) ≡ []) × (after_run is_digit (unit_text n (b ∷ text) ++ tail) ≡ unit_text n (b ∷ text) ++ tail)
+unit_no_digit : (n b : ℕ) (text tail : List ℕ) → is_digit_byte b ≡ false
+    → (run_of is_digit_byte (unit_text n (b ∷ text) ++ tail) ≡ []) × (after_run is_digit_byte (unit_text n (b ∷ text) ++ tail) ≡ unit_text n (b ∷ text) ++ tail)
 unit_no_digit n b text tail d = elim (is_true_or_false (is_blank b)) [
   | inl h ↦ (rw (h, d) refl, rw (h, d) refl)
   | inr h ↦ (elim (is_true_or_false (not (minutes_in b == 0) && nat_lt (n * minutes_in b * 60) (2 ^ 64))) [
@@ -440,12 +440,12 @@ unit_no_digit n b text tail d = elim (is_true_or_false (is_blank b)) [
 abbrev minutes_text : ℕ → List ℕ → List ℕ
 minutes_text n [] = 77 ∷ []
 minutes_text n (b ∷ text) =
-    if is_digit b then (if nat_lt ((n * 10 + (b - 48)) * 60) (2 ^ 64) then b ∷ minutes_text (n * 10 + (b - 48)) text else 77 ∷ [])
+    if is_digit_byte b then (if nat_lt ((n * 10 + (b - 48)) * 60) (2 ^ 64) then b ∷ minutes_text (n * 10 + (b - 48)) text else 77 ∷ [])
     else unit_text n (b ∷ text)
 
 minutes_far : (n : ℕ) (text tail : List ℕ) → near_minutes n text ≤ common text (minutes_text n text ++ tail)
 minutes_far n [] tail = omega arith
-minutes_far n (b ∷ text) tail = elim (is_true_or_false (is_digit b)) [
+minutes_far n (b ∷ text) tail = elim (is_true_or_false (is_digit_byte b)) [
   | inr h ↦ rw h (unit_far n (b ∷ text) tail)
   | inl h ↦ rw h (elim (is_true_or_false (nat_lt ((n * 10 + (b - 48)) * 60) (2 ^ 64))) [
     | inr k ↦ rw k (omega arith)
@@ -454,14 +454,14 @@ minutes_far n (b ∷ text) tail = elim (is_true_or_false (is_digit b)) [
 ]
 
 abbrev minutes_at : ℕ → List ℕ → Option (ℕ × List ℕ)
-minutes_at n text = in_minutes (digits_after n (run_of is_digit text)) (after_run is_blank (after_run is_digit text))
+minutes_at n text = in_minutes (digits_after n (run_of is_digit_byte text)) (after_run is_blank (after_run is_digit_byte text))
 
-minutes_step : (n b : ℕ) (text : List ℕ) (o : Option (ℕ × List ℕ)) → is_digit b ≡ true → minutes_at (n * 10 + (b - 48)) text ≡ o → minutes_at n (b ∷ text) ≡ o
+minutes_step : (n b : ℕ) (text : List ℕ) (o : Option (ℕ × List ℕ)) → is_digit_byte b ≡ true → minutes_at (n * 10 + (b - 48)) text ≡ o → minutes_at n (b ∷ text) ≡ o
 minutes_step n b text o d e = rw (d, d) e
 
 minutes_read : (n : ℕ) (text tail : List ℕ) → n * 60 < 2 ^ 64 → begins_word tail ≡ false → (v : ℕ) × (minutes_at n (minutes_text n text ++ tail) ≡ Some (v, tail))
 minutes_read n [] tail l e = (n * 1, minute_read n tail l e)
-minutes_read n (b ∷ text) tail l e = elim (is_true_or_false (is_digit b)) [
+minutes_read n (b ∷ text) tail l e = elim (is_true_or_false (is_digit_byte b)) [
   | inr h ↦
       (let r = unit_read n (b ∷ text) tail l e in
       let z = unit_no_digit n b text tail h in
@@ -489,7 +489,7 @@ zero_minutes text z = (
 
 minutes_spelling : (text : List ℕ) → WordSpelling Minutes text
 minutes_spelling [] = zero_minutes [] refl
-minutes_spelling (b ∷ text) = elim (is_true_or_false (is_digit b)) [
+minutes_spelling (b ∷ text) = elim (is_true_or_false (is_digit_byte b)) [
   | inr h ↦ zero_minutes (b ∷ text) (rw h refl)
   | inl h ↦
       let m : ℕ = 0 * 10 + (b - 48) in
@@ -502,7 +502,7 @@ minutes_spelling (b ∷ text) = elim (is_true_or_false (is_digit b)) [
             let r' : minutes_at 0 (b ∷ (minutes_text m text ++ tail)) ≡ Some (r.0, tail) = subst (λ x. minutes_at 0 x ≡ Some (r.0, tail)) shape r.1 in
             record {
               says = r.0;
-              fit_is = rw shape (subst (λ o. in_minutes o (after_run is_blank (after_run is_digit (b ∷ (minutes_text m text ++ tail)))) ≡ Some (r.0, tail))
+              fit_is = rw shape (subst (λ o. in_minutes o (after_run is_blank (after_run is_digit_byte (b ∷ (minutes_text m text ++ tail)))) ≡ Some (r.0, tail))
                   (sym (run_digits b (minutes_text m text ++ tail) h)) r');
               start = rw shape (rw (not_blank b (digit_is_word b h)) refl);
               far = (let f = minutes_far 0 (b ∷ text) tail in let g = digits_near near_minutes b text h in omega arith);
@@ -513,7 +513,7 @@ minutes_spelling (b ∷ text) = elim (is_true_or_false (is_digit b)) [
 -- EACH WORD
 
 abbrev pub CanSpell : Word → Type 0
-CanSpell (Key k) = (not (length k == 0) && list_all is_capital k) ≡ true
+CanSpell (Keyword k) = (not (length k == 0) && list_all is_capital k) ≡ true
 CanSpell (Mark m) = is_blank m ≡ false
 CanSpell (Argument (Exact k)) = (not (length k == 0) && list_all is_filled k) ≡ true
 CanSpell End = ⊥
@@ -558,15 +558,15 @@ pub no_space : (bytes tail : List ℕ) → list_all is_filled bytes ≡ true →
 no_space [] tail a n = absurd (n refl)
 no_space (b ∷ bytes) tail a n = let p = both (is_filled b) (list_all is_filled bytes) a in rw (not_true (is_space b) p.0) refl
 
-start_unspaced : (k : Kind) → CanSpell (Argument k) → (is_unspaced (start k) ≡ true) × (is_solid (Argument k) ≡ true)
+start_unspaced : (k : Kind) → CanSpell (Argument k) → (is_unspaced (first_stage k) ≡ true) × (is_solid (Argument k) ≡ true)
 start_unspaced (Exact bytes) c = let p = both (not (length bytes == 0)) (list_all is_filled bytes) c in (p.1, p.0)
-start_unspaced (Text Named) c = (refl, refl)
-start_unspaced (Text Path) c = (refl, refl)
+start_unspaced (Text PlainName) c = (refl, refl)
+start_unspaced (Text GroupPath) c = (refl, refl)
 start_unspaced (Text PathPattern) c = (refl, refl)
 start_unspaced (Text NotLong) c = (refl, refl)
 start_unspaced (Text PartPattern) c = (refl, refl)
-start_unspaced (Text Outside) c = (refl, refl)
-start_unspaced Numbered c = (refl, refl)
+start_unspaced (Text HostPath) c = (refl, refl)
+start_unspaced PlainNumber c = (refl, refl)
 start_unspaced Sized c = (refl, refl)
 start_unspaced HexBytes c = (refl, refl)
 start_unspaced HexByte c = (refl, refl)
@@ -575,9 +575,9 @@ argument_spelling : (k : Kind) (text : List ℕ) → CanSpell (Argument k) → S
 argument_spelling k text c =
     let u = start_unspaced k c in
     let run : List ℕ = run_of is_filled text in
-    let s : List ℕ = filled (start k) run in
-    let all : list_all is_filled s ≡ true = filled_unspaced (start k) run u.0 (run_words is_filled text) in
-    let of : is_of k s ≡ true = filled_accepted (start k) run in
+    let s : List ℕ = filled (first_stage k) run in
+    let all : list_all is_filled s ≡ true = filled_unspaced (first_stage k) run u.0 (run_words is_filled text) in
+    let of : is_of k s ≡ true = filled_accepted (first_stage k) run in
     let said = of_says k s of in (
       s,
       λ tail e.
@@ -588,13 +588,13 @@ argument_spelling k text c =
             says = said.0;
             fit_is = rw (r, a, said.1) refl;
             start = no_space s tail all (of_run k s u.1 of);
-            far = subst (λ x. near_from (start k) run ≤ common x (s ++ tail)) (run_joined is_filled text)
-                (let f = filled_far (start k) run tail in let g = common_longer run (s ++ tail) (after_run is_filled text) in omega arith);
+            far = subst (λ x. near_from (first_stage k) run ≤ common x (s ++ tail)) (run_joined is_filled text)
+                (let f = filled_far (first_stage k) run tail in let g = common_longer run (s ++ tail) (after_run is_filled text) in omega arith);
           },
     )
 
 pub spelling : (w : Word) (text : List ℕ) → CanSpell w → fit_here w text ≡ None → Spelling w text
-spelling (Key k) text s e = as_word (Key k) text (key_spelling k text s)
+spelling (Keyword k) text s e = as_word (Keyword k) text (key_spelling k text s)
 spelling (Mark m) text s e = as_word (Mark m) text (mark_spelling m text s e)
 spelling Name text s e = as_word Name text (name_spelling text e)
 spelling Number text s e = as_word Number text (number_spelling text)

@@ -3,10 +3,10 @@ use Rattle.std.proofs.Common.{◌≡◌, ◌≢◌, ℕ, suc, ◌+◌, ◌<◌, 
 use Rattle.std.specs.Prelude.{◌==◌, if◌then◌else◌}
 use Rattle.std.specs.List.{list_all}
 use Rattle.std.proofs.lemmas.Bool.{eqb-true, leb-true, le-leb, ltb-true, ltb-false}
-use Rattle.asm_grammar.specs.Bytes.{is_word, is_letter}
-use Rattle.asm_grammar.specs.Argument.{TextKind, Named, Path, PathPattern, NotLong, PartPattern, Outside, Text, Parts, Plain, Starred, Single, PathStart, Plus, GroupName, Slash, Dot, Part, NotLongStart, Dash, OutsideStart, OutsidePath, is_part_byte, is_visible, has_slashes, part_begins, ends_at, onward, reached, accepts, is_of}
+use Rattle.asm_grammar.specs.Bytes.{is_word, is_letter_byte}
+use Rattle.asm_grammar.specs.Argument.{TextKind, PlainName, GroupPath, PathPattern, NotLong, PartPattern, HostPath, Text, Parts, Plain, Starred, Single, PathStart, Plus, GroupName, Slash, Dot, Part, NotLongStart, Dash, OutsideStart, OutsidePath, is_path_byte, is_visible, has_slashes, part_begins, ends_at, onward, reached, accepts, is_of}
 use Rattle.asm_grammar.specs.Word.{same_bytes}
-use Rattle.asm_grammar.specs.Kinds.{onto, split, is_part, is_in_group, is_behind_plus, is_path, is_outside, is_text}
+use Rattle.asm_grammar.specs.Kinds.{onto_first_part, split, is_path_part, is_in_group, is_behind_plus, is_path, is_outside, is_text_of_kind}
 use Rattle.asm_grammar.proofs.Plain.{name_is_name}
 use Rattle.asm_grammar.proofs.Tests.{is_true_or_false}
 
@@ -14,26 +14,26 @@ and_false : (b : Bool) → (b && false) ≡ false
 and_false true = refl
 and_false false = refl
 
-no_slash_byte : (parts : Parts) → is_part_byte parts 47 ≡ false
+no_slash_byte : (parts : Parts) → is_path_byte parts 47 ≡ false
 no_slash_byte Plain = refl
 no_slash_byte Starred = refl
 no_slash_byte Single = refl
 
-dot_byte : (parts : Parts) → is_part_byte parts 46 ≡ true
+dot_byte : (parts : Parts) → is_path_byte parts 46 ≡ true
 dot_byte Plain = refl
 dot_byte Starred = refl
 dot_byte Single = refl
 
 -- the rest of a part of which n bytes came before, and the parts behind it
 abbrev goes : Parts → ℕ → List ℕ → List (List ℕ) → Bool
-goes parts n p ps = nat_le (n + length p) 80 && list_all (λ b. is_part_byte parts b) p && list_all (λ q. is_part parts q) ps
+goes parts n p ps = nat_le (n + length p) 80 && list_all (λ b. is_path_byte parts b) p && list_all (λ q. is_path_part parts q) ps
 
 -- what stands behind a dot
 abbrev dots : Parts → List ℕ → List (List ℕ) → Bool
 dots parts p ps = not (same_bytes p []) && goes parts 1 p ps
 
 record From (parts : Parts) (bytes : List ℕ) (p : List ℕ) (ps : List (List ℕ)) : Type 0 where
-  slash : accepts (Slash parts) bytes ≡ list_all (λ q. is_part parts q) (p ∷ ps)
+  slash : accepts (Slash parts) bytes ≡ list_all (λ q. is_path_part parts q) (p ∷ ps)
   dot : accepts (Dot parts) bytes ≡ dots parts p ps
   part : (n : ℕ) → n ≤ 80 → accepts (Part parts n) bytes ≡ goes parts n p ps
 
@@ -54,11 +54,11 @@ too_long n l = elim (is_true_or_false (nat_le n 80)) [
 ]
 
 -- a byte that is of no part
-at_other : (parts : Parts) (b : ℕ) (bytes p : List ℕ) (ps : List (List ℕ)) → (has_slashes parts && (b == 47)) ≡ false → is_part_byte parts b ≡ false → From parts (b ∷ bytes) (b ∷ p) ps
+at_other : (parts : Parts) (b : ℕ) (bytes p : List ℕ) (ps : List (List ℕ)) → (has_slashes parts && (b == 47)) ≡ false → is_path_byte parts b ≡ false → From parts (b ∷ bytes) (b ∷ p) ps
 at_other parts b bytes p ps s n =
     let d : (b == 46) ≡ false = elim (is_true_or_false (b == 46)) [
       | inr h ↦ h
-      | inl h ↦ absurd (let k = subst (λ x. is_part_byte parts x ≡ true) (sym (eqb-true b 46 h)) (dot_byte parts) in cc)
+      | inl h ↦ absurd (let k = subst (λ x. is_path_byte parts x ≡ true) (sym (eqb-true b 46 h)) (dot_byte parts) in cc)
     ] in
     record {
       slash = rw (n, d, and_false (nat_le (suc (length p)) 80)) refl;
@@ -70,35 +70,35 @@ and_true : (x z : Bool) → (x && z) ≡ (x && true && z)
 and_true true z = refl
 and_true false z = refl
 
-after_dot : (parts : Parts) (p : List ℕ) (ps : List (List ℕ)) → dots parts p ps ≡ list_all (λ q. is_part parts q) ((46 ∷ p) ∷ ps)
+after_dot : (parts : Parts) (p : List ℕ) (ps : List (List ℕ)) → dots parts p ps ≡ list_all (λ q. is_path_part parts q) ((46 ∷ p) ∷ ps)
 after_dot parts [] ps = refl
 after_dot parts (c ∷ p) ps =
     let e : 1 + suc (length p) ≡ suc (suc (length p)) = omega arith in
-    let k : (nat_le (suc (suc (length p))) 80 && (is_part_byte parts c && list_all (λ b. is_part_byte parts b) p) && list_all (λ q. is_part parts q) ps)
-    ≡ (nat_le (suc (suc (length p))) 80 && (is_part_byte parts c && list_all (λ b. is_part_byte parts b) p) && true && list_all (λ q. is_part parts q) ps) = and_true (nat_le (suc (suc (length p))) 80 && (is_part_byte parts c && list_all (λ b. is_part_byte parts b) p)) (list_all (λ q. is_part parts q) ps) in
+    let k : (nat_le (suc (suc (length p))) 80 && (is_path_byte parts c && list_all (λ b. is_path_byte parts b) p) && list_all (λ q. is_path_part parts q) ps)
+    ≡ (nat_le (suc (suc (length p))) 80 && (is_path_byte parts c && list_all (λ b. is_path_byte parts b) p) && true && list_all (λ q. is_path_part parts q) ps) = and_true (nat_le (suc (suc (length p))) 80 && (is_path_byte parts c && list_all (λ b. is_path_byte parts b) p)) (list_all (λ q. is_path_part parts q) ps) in
     rw e k
 
-at_more : (parts : Parts) (n b : ℕ) (bytes p : List ℕ) (ps : List (List ℕ)) → (has_slashes parts && (b == 47)) ≡ false → is_part_byte parts b ≡ true → From parts bytes p ps → n ≤ 80
+at_more : (parts : Parts) (n b : ℕ) (bytes p : List ℕ) (ps : List (List ℕ)) → (has_slashes parts && (b == 47)) ≡ false → is_path_byte parts b ≡ true → From parts bytes p ps → n ≤ 80
     → accepts (Part parts n) (b ∷ bytes) ≡ goes parts n (b ∷ p) ps
 at_more parts n b bytes p ps s y f l = elim (is_true_or_false (nat_lt n 80)) [
   | inl k ↦
       (let m = ltb-true n 80 k in
       let e : n + 1 + length p ≡ n + suc (length p) = omega arith in
-      rw (s, y, k) (f.part (n + 1) (omega arith) ∙ ap (λ x. nat_le x 80 && list_all (λ b. is_part_byte parts b) p && list_all (λ q. is_part parts q) ps) e))
+      rw (s, y, k) (f.part (n + 1) (omega arith) ∙ ap (λ x. nat_le x 80 && list_all (λ b. is_path_byte parts b) p && list_all (λ q. is_path_part parts q) ps) e))
   | inr k ↦
       (let m = ltb-false n 80 k in
       let t : nat_le (n + suc (length p)) 80 ≡ false = too_long (n + suc (length p)) (omega arith) in
       rw (s, y, k, t) refl)
 ]
 
-at_part : (parts : Parts) (b : ℕ) (bytes p : List ℕ) (ps : List (List ℕ)) → (has_slashes parts && (b == 47)) ≡ false → is_part_byte parts b ≡ true → From parts bytes p ps → From parts (b ∷ bytes) (b ∷ p) ps
+at_part : (parts : Parts) (b : ℕ) (bytes p : List ℕ) (ps : List (List ℕ)) → (has_slashes parts && (b == 47)) ≡ false → is_path_byte parts b ≡ true → From parts bytes p ps → From parts (b ∷ bytes) (b ∷ p) ps
 at_part parts b bytes p ps s y f = record {
   slash = elim (is_true_or_false (b == 46)) [
-    | inl h ↦ subst (λ x. accepts (Slash parts) (x ∷ bytes) ≡ list_all (λ q. is_part parts q) ((x ∷ p) ∷ ps)) (sym (eqb-true b 46 h)) (f.dot ∙ after_dot parts p ps)
-    | inr h ↦ rw (y, h) (f.part 1 (omega arith) ∙ (let e : 1 + length p ≡ suc (length p) = omega arith in ap (λ x. nat_le x 80 && list_all (λ b. is_part_byte parts b) p && list_all (λ q. is_part parts q) ps) e
-        ∙ and_true (nat_le (suc (length p)) 80 && list_all (λ b. is_part_byte parts b) p) (list_all (λ q. is_part parts q) ps)))
+    | inl h ↦ subst (λ x. accepts (Slash parts) (x ∷ bytes) ≡ list_all (λ q. is_path_part parts q) ((x ∷ p) ∷ ps)) (sym (eqb-true b 46 h)) (f.dot ∙ after_dot parts p ps)
+    | inr h ↦ rw (y, h) (f.part 1 (omega arith) ∙ (let e : 1 + length p ≡ suc (length p) = omega arith in ap (λ x. nat_le x 80 && list_all (λ b. is_path_byte parts b) p && list_all (λ q. is_path_part parts q) ps) e
+        ∙ and_true (nat_le (suc (length p)) 80 && list_all (λ b. is_path_byte parts b) p) (list_all (λ q. is_path_part parts q) ps)))
   ];
-  dot = rw y (f.part 2 (omega arith) ∙ (let e : 2 + length p ≡ 1 + suc (length p) = omega arith in ap (λ x. nat_le x 80 && list_all (λ b. is_part_byte parts b) p && list_all (λ q. is_part parts q) ps) e));
+  dot = rw y (f.part 2 (omega arith) ∙ (let e : 2 + length p ≡ 1 + suc (length p) = omega arith in ap (λ x. nat_le x 80 && list_all (λ b. is_path_byte parts b) p && list_all (λ q. is_path_part parts q) ps) e));
   part = λ n l. at_more parts n b bytes p ps s y f l;
 }
 
@@ -125,20 +125,20 @@ cut parts (b ∷ bytes) h =
       | inr s ↦ record {
         p = b ∷ c.p;
         ps = c.ps;
-        is = rw s (ap (onto b) c.is);
-        from = elim (is_true_or_false (is_part_byte parts b)) [
+        is = rw s (ap (onto_first_part b) c.is);
+        from = elim (is_true_or_false (is_path_byte parts b)) [
           | inl y ↦ at_part parts b bytes c.p c.ps (no_slash parts b s) y c.from
           | inr n ↦ at_other parts b bytes c.p c.ps (no_slash parts b s) n
         ];
       }
     ]
 
-pub parts_are : (parts : Parts) (bytes : List ℕ) → has_slashes parts ≡ true → accepts (Slash parts) bytes ≡ list_all (λ q. is_part parts q) (split bytes)
-parts_are parts bytes h = let c = cut parts bytes h in c.from.slash ∙ ap (λ x. list_all (λ q. is_part parts q) x) (sym c.is)
+pub parts_are : (parts : Parts) (bytes : List ℕ) → has_slashes parts ≡ true → accepts (Slash parts) bytes ≡ list_all (λ q. is_path_part parts q) (split bytes)
+parts_are parts bytes h = let c = cut parts bytes h in c.from.slash ∙ ap (λ x. list_all (λ q. is_path_part parts q) x) (sym c.is)
 
 single : (bytes : List ℕ) → From Single bytes bytes []
 single [] = at_end Single
-single (b ∷ bytes) = elim (is_true_or_false (is_part_byte Single b)) [
+single (b ∷ bytes) = elim (is_true_or_false (is_path_byte Single b)) [
   | inl y ↦ at_part Single b bytes bytes [] refl y (single bytes)
   | inr n ↦ at_other Single b bytes bytes [] refl n
 ]
@@ -147,8 +147,8 @@ and_true_last : (x : Bool) → (x && true) ≡ x
 and_true_last true = refl
 and_true_last false = refl
 
-part_is : (bytes : List ℕ) → is_of (Text PartPattern) bytes ≡ is_part Single bytes
-part_is bytes = (single bytes).slash ∙ and_true_last (is_part Single bytes)
+part_is : (bytes : List ℕ) → is_of (Text PartPattern) bytes ≡ is_path_part Single bytes
+part_is bytes = (single bytes).slash ∙ and_true_last (is_path_part Single bytes)
 
 -- GROUPS
 
@@ -160,21 +160,21 @@ too_long_name n l = elim (is_true_or_false (nat_le n 30)) [
 
 abbrev names : Parts → ℕ → List (List ℕ) → Bool
 names parts n [] = false
-names parts n (p ∷ ps) = nat_le (n + length p) 30 && list_all is_word p && list_all (λ q. is_part parts q) ps
+names parts n (p ∷ ps) = nat_le (n + length p) 30 && list_all is_word p && list_all (λ q. is_path_part parts q) ps
 
-one_more : (parts : Parts) (n b : ℕ) (xs : List (List ℕ)) → is_word b ≡ true → xs ≢ [] → names parts (n + 1) xs ≡ names parts n (onto b xs)
+one_more : (parts : Parts) (n b : ℕ) (xs : List (List ℕ)) → is_word b ≡ true → xs ≢ [] → names parts (n + 1) xs ≡ names parts n (onto_first_part b xs)
 one_more parts n b [] w s = absurd (s refl)
-one_more parts n b (p ∷ ps) w s = let e : n + 1 + length p ≡ n + suc (length p) = omega arith in rw w (ap (λ x. nat_le x 30 && list_all is_word p && list_all (λ q. is_part parts q) ps) e)
+one_more parts n b (p ∷ ps) w s = let e : n + 1 + length p ≡ n + suc (length p) = omega arith in rw w (ap (λ x. nat_le x 30 && list_all is_word p && list_all (λ q. is_path_part parts q) ps) e)
 
-none_more : (parts : Parts) (n b : ℕ) (xs : List (List ℕ)) → is_word b ≡ false → xs ≢ [] → names parts n (onto b xs) ≡ false
+none_more : (parts : Parts) (n b : ℕ) (xs : List (List ℕ)) → is_word b ≡ false → xs ≢ [] → names parts n (onto_first_part b xs) ≡ false
 none_more parts n b [] w s = absurd (s refl)
 none_more parts n b (p ∷ ps) w s = rw (w, and_false (nat_le (n + suc (length p)) 30)) refl
 
-too_many : (parts : Parts) (n b : ℕ) (xs : List (List ℕ)) → 30 ≤ n → xs ≢ [] → names parts n (onto b xs) ≡ false
+too_many : (parts : Parts) (n b : ℕ) (xs : List (List ℕ)) → 30 ≤ n → xs ≢ [] → names parts n (onto_first_part b xs) ≡ false
 too_many parts n b [] l s = absurd (s refl)
 too_many parts n b (p ∷ ps) l s = rw (too_long_name (n + suc (length p)) (omega arith)) refl
 
-onto_some : (b : ℕ) (xs : List (List ℕ)) → onto b xs ≡ [] → ⊥
+onto_some : (b : ℕ) (xs : List (List ℕ)) → onto_first_part b xs ≡ [] → ⊥
 onto_some b [] e = cc
 onto_some b (p ∷ ps) e = cc
 
@@ -198,13 +198,13 @@ group_from parts h n (b ∷ bytes) l = elim (is_true_or_false (b == 47)) [
   ])
 ]
 
-letter_first : (parts : Parts) (b : ℕ) (xs : List (List ℕ)) → is_letter b ≡ true → xs ≢ [] → names parts 1 xs ≡ is_in_group parts (onto b xs)
+letter_first : (parts : Parts) (b : ℕ) (xs : List (List ℕ)) → is_letter_byte b ≡ true → xs ≢ [] → names parts 1 xs ≡ is_in_group parts (onto_first_part b xs)
 letter_first parts b [] d s = absurd (s refl)
 letter_first parts b (p ∷ ps) d s =
     let e : 1 + length p ≡ suc (length p) = omega arith in
-    rw d (ap (λ x. nat_le x 30 && list_all is_word p && list_all (λ q. is_part parts q) ps) e)
+    rw d (ap (λ x. nat_le x 30 && list_all is_word p && list_all (λ q. is_path_part parts q) ps) e)
 
-other_first : (parts : Parts) (b : ℕ) (xs : List (List ℕ)) → is_letter b ≡ false → xs ≢ [] → is_in_group parts (onto b xs) ≡ false
+other_first : (parts : Parts) (b : ℕ) (xs : List (List ℕ)) → is_letter_byte b ≡ false → xs ≢ [] → is_in_group parts (onto_first_part b xs) ≡ false
 other_first parts b [] d s = absurd (s refl)
 other_first parts b (p ∷ ps) d s = rw d refl
 
@@ -212,7 +212,7 @@ plus_from : (parts : Parts) (bytes : List ℕ) → has_slashes parts ≡ true �
 plus_from parts [] h = refl
 plus_from parts (b ∷ bytes) h = elim (is_true_or_false (b == 47)) [
   | inl s ↦ subst (λ x. accepts (Plus parts) (x ∷ bytes) ≡ is_behind_plus parts (x ∷ bytes)) (sym (eqb-true b 47 s)) refl
-  | inr s ↦ rw s (elim (is_true_or_false (is_letter b)) [
+  | inr s ↦ rw s (elim (is_true_or_false (is_letter_byte b)) [
     | inl d ↦ rw d (group_from parts h 1 bytes (omega arith) ∙ letter_first parts b (split bytes) d (split_some bytes))
     | inr d ↦ rw d (sym (other_first parts b (split bytes) d (split_some bytes)))
   ])
@@ -282,10 +282,10 @@ outside_is (b ∷ c ∷ bytes) = elim (is_true_or_false (b == 47)) [
   ])
 ]
 
-pub text_is : (t : TextKind) (bytes : List ℕ) → is_of (Text t) bytes ≡ is_text t bytes
-text_is Named bytes = name_is_name bytes
-text_is Path bytes = path_from Plain bytes refl
+pub text_is : (t : TextKind) (bytes : List ℕ) → is_of (Text t) bytes ≡ is_text_of_kind t bytes
+text_is PlainName bytes = name_is_name bytes
+text_is GroupPath bytes = path_from Plain bytes refl
 text_is PathPattern bytes = path_from Starred bytes refl
 text_is NotLong bytes = not_long bytes
 text_is PartPattern bytes = part_is bytes
-text_is Outside bytes = outside_is bytes
+text_is HostPath bytes = outside_is bytes

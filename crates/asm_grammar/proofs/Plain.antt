@@ -3,9 +3,9 @@ use Rattle.std.proofs.Common.{◌≡◌, ℕ, suc, ◌+◌, ◌-◌, ◌*◌, �
 use Rattle.std.specs.Prelude.{◌==◌, if◌then◌else◌}
 use Rattle.std.specs.List.{list_all}
 use Rattle.std.proofs.lemmas.Bool.{leb-true, le-leb, ltb-true, ltb-false, lt-ltb}
-use Rattle.asm_grammar.specs.Bytes.{is_word, is_letter, is_digit}
-use Rattle.asm_grammar.specs.Argument.{Numbered, Sized, Stage, NameStart, Letters, Digits, SizeDigits, onward, reached, accepts, said_at, number_at, argument_of, factor}
-use Rattle.asm_grammar.specs.Word.{below, digits_after, size_after, unit_after, number_of, size_of, is_name}
+use Rattle.asm_grammar.specs.Bytes.{is_word, is_letter_byte, is_digit_byte}
+use Rattle.asm_grammar.specs.Argument.{PlainNumber, Sized, Stage, NameStart, Letters, Digits, SizeDigits, onward, reached, accepts, said_at, spelt_number, argument_of, factor}
+use Rattle.asm_grammar.specs.Word.{below, digits_after, size_after, unit_after, number_of_text, size_of_text, is_name_word}
 use Rattle.asm_grammar.proofs.Tests.{is_true_or_false}
 use Rattle.asm_grammar.proofs.Nearest.{digit_small}
 use Rattle.asm_grammar.proofs.Readers.{too_great}
@@ -14,11 +14,11 @@ use Rattle.asm_grammar.proofs.Sizes.{size_great, digit_no_factor}
 -- NUMBERS
 
 abbrev said_number : Option Stage → Option ℕ
-said_number o = onward None (λ s. said_at (λ t. number_at t) s) o
+said_number o = onward None (λ s. said_at (λ t. spelt_number t) s) o
 
 from_digits : (n : ℕ) (bytes : List ℕ) → n < 2 ^ 64 → said_number (reached (Digits n) bytes) ≡ below (2 ^ 64) (digits_after n bytes)
 from_digits n [] l = rw (lt-ltb n (2 ^ 64) l) refl
-from_digits n (b ∷ bytes) l = elim (is_true_or_false (is_digit b)) [
+from_digits n (b ∷ bytes) l = elim (is_true_or_false (is_digit_byte b)) [
   | inr d ↦ rw d refl
   | inl d ↦
       let m : ℕ = n * 10 + (b - 48) in
@@ -28,9 +28,9 @@ from_digits n (b ∷ bytes) l = elim (is_true_or_false (is_digit b)) [
       ]
 ]
 
-pub number_is_number : (bytes : List ℕ) → argument_of Numbered bytes ≡ number_of bytes
+pub number_is_number : (bytes : List ℕ) → argument_of PlainNumber bytes ≡ number_of_text bytes
 number_is_number [] = refl
-number_is_number (b ∷ bytes) = elim (is_true_or_false (is_digit b)) [
+number_is_number (b ∷ bytes) = elim (is_true_or_false (is_digit_byte b)) [
   | inr d ↦ rw d refl
   | inl d ↦
       (let s = digit_small b d in
@@ -40,7 +40,7 @@ number_is_number (b ∷ bytes) = elim (is_true_or_false (is_digit b)) [
 
 -- SIZES
 
-from_unit : (n b : ℕ) (bytes : List ℕ) → is_digit b ≡ false → said_number (reached (SizeDigits n) (b ∷ bytes)) ≡ below (2 ^ 64) (unit_after n b bytes)
+from_unit : (n b : ℕ) (bytes : List ℕ) → is_digit_byte b ≡ false → said_number (reached (SizeDigits n) (b ∷ bytes)) ≡ below (2 ^ 64) (unit_after n b bytes)
 from_unit n b [] d = elim (is_true_or_false (factor b == 0)) [
   | inl z ↦ rw (d, z) refl
   | inr z ↦ (elim (is_true_or_false (nat_lt (n * factor b) (2 ^ 64))) [
@@ -55,7 +55,7 @@ from_unit n b (c ∷ bytes) d = elim (is_true_or_false (not (factor b == 0) && n
 
 from_sizes : (n : ℕ) (bytes : List ℕ) → n < 2 ^ 64 → said_number (reached (SizeDigits n) bytes) ≡ below (2 ^ 64) (size_after n bytes)
 from_sizes n [] l = rw (lt-ltb n (2 ^ 64) l) refl
-from_sizes n (b ∷ bytes) l = elim (is_true_or_false (is_digit b)) [
+from_sizes n (b ∷ bytes) l = elim (is_true_or_false (is_digit_byte b)) [
   | inr d ↦ (let f = from_unit n b bytes d in f ∙ ap (below (2 ^ 64)) (ap (λ x. if x then size_after (n * 10 + (b - 48)) bytes else unit_after n b bytes) (sym d)))
   | inl d ↦
       let m : ℕ = n * 10 + (b - 48) in
@@ -65,9 +65,9 @@ from_sizes n (b ∷ bytes) l = elim (is_true_or_false (is_digit b)) [
       ]
 ]
 
-pub size_is_size : (bytes : List ℕ) → argument_of Sized bytes ≡ size_of bytes
+pub size_is_size : (bytes : List ℕ) → argument_of Sized bytes ≡ size_of_text bytes
 size_is_size [] = refl
-size_is_size (b ∷ bytes) = elim (is_true_or_false (is_digit b)) [
+size_is_size (b ∷ bytes) = elim (is_true_or_false (is_digit_byte b)) [
   | inr d ↦ rw d refl
   | inl d ↦
       (let s = digit_small b d in
@@ -103,9 +103,9 @@ from_letters n (b ∷ bytes) l = elim (is_true_or_false (is_word b)) [
   ])
 ]
 
-pub name_is_name : (bytes : List ℕ) → accepts NameStart bytes ≡ (is_name bytes && list_all is_word bytes)
+pub name_is_name : (bytes : List ℕ) → accepts NameStart bytes ≡ (is_name_word bytes && list_all is_word bytes)
 name_is_name [] = refl
-name_is_name (b ∷ bytes) = elim (is_true_or_false (is_letter b)) [
+name_is_name (b ∷ bytes) = elim (is_true_or_false (is_letter_byte b)) [
   | inr d ↦ rw d refl
   | inl d ↦
       (let e : 1 + length bytes ≡ suc (length bytes) = omega arith in

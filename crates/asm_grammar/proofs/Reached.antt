@@ -5,8 +5,8 @@ use Rattle.std.specs.Prelude.{nat_le}
 use Rattle.std.proofs.lemmas.Bool.{leb-true, leb-false}
 use Rattle.asm_grammar.specs.Bytes.{is_blank, is_word, run_of, after_run, common}
 use Rattle.asm_grammar.specs.Word.{Word, Mark, Meaning, fit, fit_here, near, gap, begins_argument}
-use Rattle.asm_grammar.specs.Syntax.{Syntax, One, Then, Either, Maybe, Many, Value, Has}
-use Rattle.asm_grammar.specs.Reading.{Outcome, Took, Failed, ◌>>=◌, mapped, one, repeated, parse, leads, miss, nullable, decides, starts, all_apart, is_solid, ends, finish, whole}
+use Rattle.asm_grammar.specs.Syntax.{SyntaxRule, One, Then, Either, Maybe, Many, Value, Has}
+use Rattle.asm_grammar.specs.Reading.{Outcome, Took, Failed, ◌>>=◌, mapped, one, repeated_while, parse, leads, miss, nullable, decides, starts, all_words_apart, is_solid, ends, finish, whole}
 use Rattle.asm_grammar.specs.Reading.{first as heads}
 use Rattle.asm_grammar.proofs.Tests.{both, is_true_or_false}
 use Rattle.asm_grammar.proofs.Outcomes.{chosen}
@@ -70,7 +70,7 @@ word_goes w text c e =
 
 -- SHORTEST TEXTS
 
-abbrev pub AllCanSpell : Syntax → Type 0
+abbrev pub AllCanSpell : SyntaxRule → Type 0
 AllCanSpell (One w) = CanSpell w
 AllCanSpell (Then a b) = AllCanSpell a × AllCanSpell b
 AllCanSpell (Either a b) = AllCanSpell a × AllCanSpell b
@@ -78,10 +78,10 @@ AllCanSpell (Maybe a) = AllCanSpell a
 AllCanSpell (Many a) = AllCanSpell a
 
 -- A text of the grammar stands before anything that is empty or begins with a space, and is so itself.
-abbrev pub Ends : Syntax → List ℕ → List ℕ → Type 0
+abbrev pub Ends : SyntaxRule → List ℕ → List ℕ → Type 0
 Ends g s tail = (begins_argument (s ++ tail) ≡ false) × ((v : Value g) × Has g v (s ++ tail) tail)
 
-abbrev pub Shortest : Syntax → Type 0
+abbrev pub Shortest : SyntaxRule → Type 0
 Shortest g = (s : List ℕ) × ((tail : List ℕ) → begins_argument tail ≡ false → Ends g s tail)
 
 no_text : (w : Word) (o : Option (Meaning w × List ℕ)) → is_solid w ≡ true → fit w [] ≡ o → fit w [] ≡ None
@@ -93,7 +93,7 @@ word_begins text t e (inl j) = j
 word_begins [] t e (inr j) = absurd (omega arith)
 word_begins (b ∷ text) t e (inr j) = cc
 
-pub shortest : (g : Syntax) (follow : List Word) → decides g follow ≡ true → AllCanSpell g → Shortest g
+pub shortest : (g : SyntaxRule) (follow : List Word) → decides g follow ≡ true → AllCanSpell g → Shortest g
 shortest (One w) follow d c =
     let g = word_goes w [] c (no_text w (fit w []) d refl) in
     (g.0, λ tail b. let r = g.1 tail b in (word_begins [] (g.0 ++ tail) refl r.joins, (r.says, r.fit_is)))
@@ -119,10 +119,10 @@ shortest (Many a) follow d c = ([], λ tail e. (e, ([], refl)))
 abbrev WordBefore : Word → List ℕ → Type 0
 WordBefore w s = (tail : List ℕ) → begins_argument tail ≡ false → (x : Meaning w) × (fit w (s ++ tail) ≡ Some (x, tail))
 
-abbrev Goes_on : Syntax → List ℕ → Type 0
+abbrev Goes_on : SyntaxRule → List ℕ → Type 0
 Goes_on g s = (more : List ℕ) × ((tail : List ℕ) → begins_argument tail ≡ false → (begins_argument (more ++ tail) ≡ false) × ((v : Value g) × Has g v (s ++ (more ++ tail)) tail))
 
-nothing : (g : Syntax) → nullable g ≡ true → (v : Value g) × ((text : List ℕ) → Has g v text text)
+nothing : (g : SyntaxRule) → nullable g ≡ true → (v : Value g) × ((text : List ℕ) → Has g v text text)
 nothing (One w) n = cc
 nothing (Then a b) n =
     let p = both (nullable a) (nullable b) n in
@@ -132,7 +132,7 @@ nothing (Either a b) n = cc
 nothing (Maybe a) n = (None, λ t. refl)
 nothing (Many a) n = ([], λ t. refl)
 
-from_first : (g : Syntax) (follow : List Word) (w : Word) (s : List ℕ) → decides g follow ≡ true → AllCanSpell g → Among w (heads g) → WordBefore w s → Goes_on g s
+from_first : (g : SyntaxRule) (follow : List Word) (w : Word) (s : List ℕ) → decides g follow ≡ true → AllCanSpell g → Among w (heads g) → WordBefore w s → Goes_on g s
 from_first (One u) follow w s d c m before =
     elim m [
       | inr h ↦ absurd h
@@ -166,13 +166,13 @@ from_first (Either a b) follow w s d c m before =
       | inr k ↦ (let x = from_first b follow w s p.second c.1 k before in (x.0, λ tail e. let r = x.1 tail e in (r.0, (inr r.1.0, r.1.1))))
     ]
 from_first (Maybe a) follow w s d c m before =
-    let p = maybe_parts (decides a follow) (nullable a) (all_apart (heads a) follow) d in
+    let p = maybe_parts (decides a follow) (nullable a) (all_words_apart (heads a) follow) d in
     let x = from_first a follow w s p.inner c m before in (x.0, λ tail e. let r = x.1 tail e in (r.0, (Some r.1.0, r.1.1)))
 from_first (Many a) follow w s d c m before =
-    let p = maybe_parts (decides a (heads a ++ follow)) (nullable a) (all_apart (heads a) follow) d in
+    let p = maybe_parts (decides a (heads a ++ follow)) (nullable a) (all_words_apart (heads a) follow) d in
     let x = from_first a (heads a ++ follow) w s p.inner c m before in (x.0, λ tail e. let r = x.1 tail e in (r.0, (r.1.0 ∷ [], (tail, r.1.1, refl))))
 
-can_spell : (g : Syntax) (w : Word) → AllCanSpell g → Among w (heads g) → CanSpell w
+can_spell : (g : SyntaxRule) (w : Word) → AllCanSpell g → Among w (heads g) → CanSpell w
 can_spell (One u) w c m = elim m [ inl h ↦ subst (λ z. CanSpell z) h c | inr h ↦ absurd h ]
 can_spell (Then a b) w c m = elim (is_true_or_false (nullable a)) [
   | inr n ↦ can_spell a w c.0 (rw n at m)
@@ -185,17 +185,17 @@ can_spell (Many a) w c m = can_spell a w c m
 -- AS FAR AS
 
 -- A text of the grammar, behind which the tail stands, goes with the text so far that only so many bytes are left.
-pub record FarText (g : Syntax) (text : List ℕ) (left : ℕ) (tail : List ℕ) : Type 0 where
+pub record FarText (g : SyntaxRule) (text : List ℕ) (left : ℕ) (tail : List ℕ) : Type 0 where
   pub front : List ℕ
   pub says : Value g
   pub has : Has g says (front ++ tail) tail
   pub joins : Joins text (front ++ tail)
   pub far : length text ≤ left + common text (front ++ tail)
 
-abbrev pub GoesFar : Syntax → List ℕ → ℕ → Type 0
+abbrev pub GoesFar : SyntaxRule → List ℕ → ℕ → Type 0
 GoesFar g text left = (tail : List ℕ) → begins_argument tail ≡ false → FarText g text left tail
 
-abbrev pub Far : Syntax → List ℕ → ℕ → ℕ → Type 0
+abbrev pub Far : SyntaxRule → List ℕ → ℕ → ℕ → Type 0
 Far g text first left = (left ≡ first) ⊎ GoesFar g text left
 
 pub min_is : (a b : ℕ) → (min a b ≡ a) ⊎ (min a b ≡ b)
@@ -214,7 +214,7 @@ miss_is (w ∷ words) text left =
     ]
 
 -- A missed first word is carried on to a text of the grammar.
-miss_far : (a : Syntax) (follow : List Word) (text : List ℕ) (left : ℕ) → decides a follow ≡ true → AllCanSpell a → leads a text ≡ false → Far a text left (miss (heads a) text left)
+miss_far : (a : SyntaxRule) (follow : List Word) (text : List ℕ) (left : ℕ) → decides a follow ≡ true → AllCanSpell a → leads a text ≡ false → Far a text left (miss (heads a) text left)
 miss_far a follow text left d c l =
     elim (miss_is (heads a) text left) [
       | inl h ↦ inl h
@@ -236,14 +236,14 @@ miss_far a follow text left d c l =
           }))
     ]
 
-lift : (a g : Syntax) (f : Value a → Value g) (text : List ℕ) (left : ℕ) → ((v : Value a) (s t : List ℕ) → Has a v s t → Has g (f v) s t) → GoesFar a text left → GoesFar g text left
+lift : (a g : SyntaxRule) (f : Value a → Value g) (text : List ℕ) (left : ℕ) → ((v : Value a) (s t : List ℕ) → Has a v s t → Has g (f v) s t) → GoesFar a text left → GoesFar g text left
 lift a g f text left h far = λ tail e. (let r = far tail e in record { front = r.front; says = f r.says; has = h r.says (r.front ++ tail) tail r.has; joins = r.joins; far = r.far })
 
-lift_far : (a g : Syntax) (f : Value a → Value g) (text : List ℕ) (first left : ℕ) → ((v : Value a) (s t : List ℕ) → Has a v s t → Has g (f v) s t) → Far a text first left → Far g text first left
+lift_far : (a g : SyntaxRule) (f : Value a → Value g) (text : List ℕ) (first left : ℕ) → ((v : Value a) (s t : List ℕ) → Has a v s t → Has g (f v) s t) → Far a text first left → Far g text first left
 lift_far a g f text first left h far = elim far [ inl k ↦ inl k | inr k ↦ inr (lift a g f text left h k) ]
 
 -- The first part goes far, and any second one stands behind it.
-front_far : (a b : Syntax) (text : List ℕ) (left : ℕ) → Shortest b → GoesFar a text left → GoesFar (Then a b) text left
+front_far : (a b : SyntaxRule) (text : List ℕ) (left : ℕ) → Shortest b → GoesFar a text left → GoesFar (Then a b) text left
 front_far a b text left y far = λ tail e.
     (let q = y.1 tail e in
     let r = far (y.0 ++ tail) q.0 in
@@ -262,7 +262,7 @@ behind_far front middle other text left e far =
     (let a = length-append front middle in let c = common_same front middle other in omega arith)
 
 -- The second part goes far behind the first one that was read.
-back_far : (a b : Syntax) (follow : List Word) (text middle : List ℕ) (v : Value a) (left : ℕ) → decides a follow ≡ true → Has a v text middle → GoesFar b middle left → GoesFar (Then a b) text left
+back_far : (a b : SyntaxRule) (follow : List Word) (text middle : List ℕ) (v : Value a) (left : ℕ) → decides a follow ≡ true → Has a v text middle → GoesFar b middle left → GoesFar (Then a b) text left
 back_far a b follow text middle v left d h far = λ tail e.
     (let q = far tail e in
     let r = replaced a follow v text middle (q.front ++ tail) d h q.joins in
@@ -275,7 +275,7 @@ back_far a b follow text middle v left d h far = λ tail e.
       far = rw (append_assoc r.front q.front tail) (behind_far r.front middle (q.front ++ tail) text left r.shape q.far);
     })
 
-then_far : (a b : Syntax) (follow : List Word) (text : List ℕ) (first : ℕ) (o : Outcome (Value a)) → decides a follow ≡ true → Shortest b → parse a text first ≡ o → Far a text first (final o)
+then_far : (a b : SyntaxRule) (follow : List Word) (text : List ℕ) (first : ℕ) (o : Outcome (Value a)) → decides a follow ≡ true → Shortest b → parse a text first ≡ o → Far a text first (final o)
     → ((middle : List ℕ) (m : ℕ) → Far b middle m (final (parse b middle m)))
     → Far (Then a b) text first (final (o >>= λ v rest m. mapped {B = Value (Then a b)} (λ w. (v, w)) (parse b rest m)))
 then_far a b follow text first (Failed left) d y e fa fb = elim fa [ inl k ↦ inl k | inr k ↦ inr (front_far a b text left y k) ]
@@ -300,7 +300,7 @@ one_far w text left None c e =
           inr (λ tail b. (let r = g.1 tail b in record { front = g.0; says = r.says; has = r.fit_is; joins = r.joins; far = (let f = r.far in omega arith) })))
     ]
 
-solid_first : (g : Syntax) (follow : List Word) (w : Word) → decides g follow ≡ true → Among w (heads g) → is_solid w ≡ true
+solid_first : (g : SyntaxRule) (follow : List Word) (w : Word) → decides g follow ≡ true → Among w (heads g) → is_solid w ≡ true
 solid_first (One u) follow w d m = elim m [ inl h ↦ subst (λ z. is_solid z ≡ true) h d | inr h ↦ absurd h ]
 solid_first (Then a b) follow w d m =
     let p = both (decides a (starts b follow)) (decides b follow) d in
@@ -311,20 +311,20 @@ solid_first (Then a b) follow w d m =
 solid_first (Either a b) follow w d m =
     let p = either_parts a b follow d in
     elim (among_left (heads a) (heads b) w m) [ inl k ↦ solid_first a follow w p.first k | inr k ↦ solid_first b follow w p.second k ]
-solid_first (Maybe a) follow w d m = solid_first a follow w (maybe_parts (decides a follow) (nullable a) (all_apart (heads a) follow) d).inner m
-solid_first (Many a) follow w d m = solid_first a (heads a ++ follow) w (maybe_parts (decides a (heads a ++ follow)) (nullable a) (all_apart (heads a) follow) d).inner m
+solid_first (Maybe a) follow w d m = solid_first a follow w (maybe_parts (decides a follow) (nullable a) (all_words_apart (heads a) follow) d).inner m
+solid_first (Many a) follow w d m = solid_first a (heads a ++ follow) w (maybe_parts (decides a (heads a ++ follow)) (nullable a) (all_words_apart (heads a) follow) d).inner m
 
-empty_leads : (a : Syntax) (follow : List Word) (text : List ℕ) → decides a follow ≡ true → length text ≤ 0 → leads a text ≡ false
+empty_leads : (a : SyntaxRule) (follow : List Word) (text : List ℕ) → decides a follow ≡ true → length text ≤ 0 → leads a text ≡ false
 empty_leads a follow text d l = elim (is_true_or_false (leads a text)) [
   | inr h ↦ h
   | inl h ↦ absurd (let p = picked (heads a) text h in let t = takes p.word text p.says p.rest (solid_first a follow p.word d p.among) p.fit_is in omega arith)
 ]
 
-one_of_many : (a : Syntax) (v : Value a) (s t : List ℕ) → Has a v s t → Has (Many a) (v ∷ []) s t
+one_of_many : (a : SyntaxRule) (v : Value a) (s t : List ℕ) → Has a v s t → Has (Many a) (v ∷ []) s t
 one_of_many a v s t h = (t, h, refl)
 
 -- One more, and behind it others that go far.
-more_far : (a : Syntax) (follow : List Word) (text middle : List ℕ) (v : Value a) (left : ℕ) → decides a follow ≡ true → Has a v text middle → GoesFar (Many a) middle left → GoesFar (Many a) text left
+more_far : (a : SyntaxRule) (follow : List Word) (text middle : List ℕ) (v : Value a) (left : ℕ) → decides a follow ≡ true → Has a v text middle → GoesFar (Many a) middle left → GoesFar (Many a) text left
 more_far a follow text middle v left d h far = λ tail e.
     (let q = far tail e in
     let r = replaced a follow v text middle (q.front ++ tail) d h q.joins in
@@ -337,7 +337,7 @@ more_far a follow text middle v left d h far = λ tail e.
       far = rw (append_assoc r.front q.front tail) (behind_far r.front middle (q.front ++ tail) text left r.shape q.far);
     })
 
-again_far : (a : Syntax) (follow : List Word) (text : List ℕ) (first : ℕ) (o : Outcome (Value a)) (next : List ℕ → ℕ → Outcome (List (Value a)))
+again_far : (a : SyntaxRule) (follow : List Word) (text : List ℕ) (first : ℕ) (o : Outcome (Value a)) (next : List ℕ → ℕ → Outcome (List (Value a)))
     → decides a follow ≡ true → parse a text first ≡ o → Far a text first (final o) → ((v : Value a) (middle : List ℕ) (m : ℕ) → parse a text first ≡ Took v middle m → Far (Many a) middle m (final (next middle m)))
     → Far (Many a) text first (final (o >>= λ v rest m. mapped (λ vs. v ∷ vs) (next rest m)))
 again_far a follow text first (Failed left) next d e fa fn = lift_far a (Many a) (λ v. v ∷ []) text first left (λ v s t h. one_of_many a v s t h) fa
@@ -351,17 +351,17 @@ again_far a follow text first (Took v middle m) next d e fa fn =
       ])
     ])
 
-repeated_far : (a : Syntax) (follow : List Word) → decides a follow ≡ true → nullable a ≡ false → AllCanSpell a → ((text : List ℕ) (left : ℕ) → Far a text left (final (parse a text left)))
-    → (n : ℕ) (text : List ℕ) (left : ℕ) → length text ≤ n → Far (Many a) text left (final (repeated n (λ r. leads a r) (λ r m. miss (heads a) r m) (λ r m. parse a r m) text left))
+repeated_far : (a : SyntaxRule) (follow : List Word) → decides a follow ≡ true → nullable a ≡ false → AllCanSpell a → ((text : List ℕ) (left : ℕ) → Far a text left (final (parse a text left)))
+    → (n : ℕ) (text : List ℕ) (left : ℕ) → length text ≤ n → Far (Many a) text left (final (repeated_while n (λ r. leads a r) (λ r m. miss (heads a) r m) (λ r m. parse a r m) text left))
 repeated_far a follow d full c each zero text left l =
     lift_far a (Many a) (λ v. v ∷ []) text left (miss (heads a) text left) (λ v s t h. one_of_many a v s t h) (miss_far a follow text left d c (empty_leads a follow text d l))
 repeated_far a follow d full c each (suc n) text left l = elim (is_true_or_false (leads a text)) [
   | inr h ↦ rw h (lift_far a (Many a) (λ v. v ∷ []) text left (miss (heads a) text left) (λ v s t k. one_of_many a v s t k) (miss_far a follow text left d c h))
-  | inl h ↦ rw h (again_far a follow text left (parse a text left) (λ rest m. repeated n (λ r. leads a r) (λ r m. miss (heads a) r m) (λ r m. parse a r m) rest m)
+  | inl h ↦ rw h (again_far a follow text left (parse a text left) (λ rest m. repeated_while n (λ r. leads a r) (λ r m. miss (heads a) r m) (λ r m. parse a r m) rest m)
       d refl (each text left) (λ v middle m e. repeated_far a follow d full c each n middle m (let s = shortens a follow v text middle full d (sound a text left v middle m e) in omega arith)))
 ]
 
-after_miss : (a b : Syntax) (follow : List Word) (text : List ℕ) (left l : ℕ) → Far b text (miss (heads a) text left) l → Far a text left (miss (heads a) text left) → Far (Either a b) text left l
+after_miss : (a b : SyntaxRule) (follow : List Word) (text : List ℕ) (left l : ℕ) → Far b text (miss (heads a) text left) l → Far a text left (miss (heads a) text left) → Far (Either a b) text left l
 after_miss a b follow text left l fb fa =
     elim fb [
       | inr k ↦ inr (lift b (Either a b) (λ v. inr v) text l (λ v s t h. h) k)
@@ -371,7 +371,7 @@ after_miss a b follow text left l fb fa =
       ])
     ]
 
-pub far : (g : Syntax) (follow : List Word) (text : List ℕ) (left : ℕ) → decides g follow ≡ true → AllCanSpell g → Far g text left (final (parse g text left))
+pub far : (g : SyntaxRule) (follow : List Word) (text : List ℕ) (left : ℕ) → decides g follow ≡ true → AllCanSpell g → Far g text left (final (parse g text left))
 far (One w) follow text left d c = one_far w text left (fit w text) c refl
 far (Then a b) follow text left d c =
     let p = both (decides a (starts b follow)) (decides b follow) d in
@@ -384,13 +384,13 @@ far (Either a b) follow text left d c =
           (after_miss a b follow text left (final (parse b text (miss (heads a) text left))) (far b follow text (miss (heads a) text left) p.second c.1) (miss_far a follow text left p.first c.0 h))
     ]
 far (Maybe a) follow text left d c =
-    let p = maybe_parts (decides a follow) (nullable a) (all_apart (heads a) follow) d in
+    let p = maybe_parts (decides a follow) (nullable a) (all_words_apart (heads a) follow) d in
     elim (is_true_or_false (leads a text)) [
       | inl h ↦ rw (h, final_mapped {B = Option (Value a)} (λ v. Some v) (parse a text left)) (lift_far a (Maybe a) (λ v. Some v) text left (final (parse a text left)) (λ v s t k. k) (far a follow text left p.inner c))
       | inr h ↦ rw h (lift_far a (Maybe a) (λ v. Some v) text left (miss (heads a) text left) (λ v s t k. k) (miss_far a follow text left p.inner c h))
     ]
 far (Many a) follow text left d c =
-    let p = maybe_parts (decides a (heads a ++ follow)) (nullable a) (all_apart (heads a) follow) d in
+    let p = maybe_parts (decides a (heads a ++ follow)) (nullable a) (all_words_apart (heads a) follow) d in
     repeated_far a (heads a ++ follow) p.inner p.full c (λ t m. far a (heads a ++ follow) t m p.inner c) (length text) text left (omega arith)
 
 -- WHOLE TEXTS
@@ -415,14 +415,14 @@ mark_far m rest (Some (u, behind)) b e =
     let j : Joins rest (r.front ++ []) = subst (λ x. Joins x (r.front ++ [])) (sym r.shape) (joins_behind r.front behind [] (inl refl)) in
     record { other = r.front ++ []; end = r.has; joins = j; far = omega arith }
 
-pub record Witness (g : Syntax) (m : ℕ) (text : List ℕ) (at : ℕ) : Type 0 where
+pub record Witness (g : SyntaxRule) (m : ℕ) (text : List ℕ) (at : ℕ) : Type 0 where
   pub other : List ℕ
   pub says : Value g
   pub is_text : IsText g m other says
   pub far : at ≤ common text other
 
 -- A part that goes far and the mark behind it are a text.
-part_witness : (g : Syntax) (m : ℕ) (text : List ℕ) (left at : ℕ) → is_blank m ≡ false → is_word m ≡ false → at ≤ length text - left → FarText g text left (32 ∷ m ∷ []) → Witness g m text at
+part_witness : (g : SyntaxRule) (m : ℕ) (text : List ℕ) (left at : ℕ) → is_blank m ≡ false → is_word m ≡ false → at ≤ length text - left → FarText g text left (32 ∷ m ∷ []) → Witness g m text at
 part_witness g m text left at b w l f = record {
   other = f.front ++ 32 ∷ m ∷ [];
   says = f.says;
@@ -431,19 +431,19 @@ part_witness g m text left at b w l f = record {
 }
 
 -- Where nothing fits, any text of the grammar does.
-any_witness : (g : Syntax) (m : ℕ) (text : List ℕ) (at : ℕ) → is_blank m ≡ false → is_word m ≡ false → at ≤ 0 → Shortest g → Witness g m text at
+any_witness : (g : SyntaxRule) (m : ℕ) (text : List ℕ) (at : ℕ) → is_blank m ≡ false → is_word m ≡ false → at ≤ 0 → Shortest g → Witness g m text at
 any_witness g m text at b w l s =
     let r = s.1 (32 ∷ m ∷ []) refl in
     record { other = s.0 ++ 32 ∷ m ∷ []; says = r.1.0; is_text = record { rest = 32 ∷ m ∷ []; has = r.1.1; end = mark_spelled m [] b }; far = omega arith }
 
-far_witness : (g : Syntax) (m : ℕ) (text : List ℕ) (left at : ℕ) → is_blank m ≡ false → is_word m ≡ false → at ≤ length text - left → Shortest g → Far g text (length text) left → Witness g m text at
+far_witness : (g : SyntaxRule) (m : ℕ) (text : List ℕ) (left at : ℕ) → is_blank m ≡ false → is_word m ≡ false → at ≤ length text - left → Shortest g → Far g text (length text) left → Witness g m text at
 far_witness g m text left at b w l s f =
     elim f [
       | inl k ↦ any_witness g m text at b w (omega arith) s
       | inr k ↦ part_witness g m text left at b w l (k (32 ∷ m ∷ []) refl)
     ]
 
-finish_witness : (g : Syntax) (follow : List Word) (m : ℕ) (text : List ℕ) (at : ℕ) (o : Outcome (Value g)) → decides g follow ≡ true → is_blank m ≡ false → is_word m ≡ false
+finish_witness : (g : SyntaxRule) (follow : List Word) (m : ℕ) (text : List ℕ) (at : ℕ) (o : Outcome (Value g)) → decides g follow ≡ true → is_blank m ≡ false → is_word m ≡ false
     → Shortest g → parse g text (length text) ≡ o → Far g text (length text) (final o) → finish (Mark m) (length text) o ≡ Err at → Witness g m text at
 finish_witness g follow m text at (Failed left) d b w s p f e =
     let k : length text - left ≡ at = cc in far_witness g m text left at b w (omega arith) s f
@@ -466,7 +466,7 @@ finish_witness g follow m text at (Took v rest left) d b w s p f e =
           ]
     ]
 
-pub some_text : (g : Syntax) (m : ℕ) (text : List ℕ) (at : ℕ) → decides g (Mark m ∷ []) ≡ true → AllCanSpell g → is_blank m ≡ false → is_word m ≡ false
+pub some_text : (g : SyntaxRule) (m : ℕ) (text : List ℕ) (at : ℕ) → decides g (Mark m ∷ []) ≡ true → AllCanSpell g → is_blank m ≡ false → is_word m ≡ false
     → whole g (Mark m) text ≡ Err at → Witness g m text at
 some_text g m text at d c b w e =
     finish_witness g (Mark m ∷ []) m text at (parse g text (length text)) d b w (shortest g (Mark m ∷ []) d c) refl (far g (Mark m ∷ []) text (length text) d c) e

@@ -2,8 +2,8 @@
 use Rattle.std.proofs.Common.{◌≡◌, ◌≢◌, ℕ, zero, suc, ◌+◌, ◌-◌, ◌*◌, ◌^◌, ◌<◌, ◌≤◌, min, Bool, true, false, ◌&&◌, not, nat_lt, inl, inr, List, [], ◌∷◌, length, get_or, drop, refl, sym, ap, subst, ◌∙◌, Option, Some, None, arith}
 use Rattle.std.specs.Prelude.{◌==◌, if◌then◌else◌}
 use Rattle.std.proofs.lemmas.Bool.{eqb-true, eq-eqb, ltb-true, ltb-false, lt-ltb, le-ltb}
-use Rattle.asm_grammar.specs.Bytes.{is_word, is_digit, run_of, after_run}
-use Rattle.asm_grammar.specs.Word.{below, digits_after, number_of, near_number, near_value, near_digits, to_quote, behind, near_quote, near_quoted, quoted_of, starts_with_quote}
+use Rattle.asm_grammar.specs.Bytes.{is_word, is_digit_byte, run_of, after_run}
+use Rattle.asm_grammar.specs.Word.{below, digits_after, number_of_text, near_number, near_value, near_digits, to_quote, with_byte_before, near_quote, near_quoted, quoted_of, starts_with_quote}
 use Rattle.asm_grammar.proofs.Tests.{is_true_or_false}
 use Rattle.asm_grammar.proofs.Near.{digit_is_word, digits_grow, open_quote}
 
@@ -29,7 +29,7 @@ quoted_cut front (b ∷ rest) = Some (front, rest)
 number_from : (n : ℕ) (text : List ℕ) → n < 2 ^ 64
     → below (2 ^ 64) (digits_after n (run_of is_word text)) ≡ (if near_number n text == length (run_of is_word text) then Some (near_value n text) else None)
 number_from n [] l = rw (lt-ltb n (2 ^ 64) l) refl
-number_from n (b ∷ text) l = elim (is_true_or_false (is_digit b)) [
+number_from n (b ∷ text) l = elim (is_true_or_false (is_digit_byte b)) [
   | inr d ↦ (elim (is_true_or_false (is_word b)) [
     | inl w ↦ rw (w, d, other_eqb 0 (suc (length (run_of is_word text))) (omega arith)) refl
     | inr w ↦ rw (w, d, lt-ltb n (2 ^ 64) l) refl
@@ -50,28 +50,28 @@ at_least_one x y v l = elim (is_true_or_false (x == y)) [
 ]
 
 -- A run of digits spells a number where all of it is near one.
-pub number_read : (text : List ℕ) → number_of (run_of is_word text)
+pub number_read : (text : List ℕ) → number_of_text (run_of is_word text)
     ≡ (if nat_lt 0 (near_number 0 text) && (near_number 0 text == length (run_of is_word text)) then Some (near_value 0 text) else None)
 number_read [] = refl
 number_read (b ∷ text) = elim (is_true_or_false (is_word b)) [
-  | inr w ↦ (elim (is_true_or_false (is_digit b)) [
+  | inr w ↦ (elim (is_true_or_false (is_digit_byte b)) [
     | inl d ↦ absurd (let k = digit_is_word b d in cc)
     | inr d ↦ rw (w, d) refl
   ])
   | inl w ↦
-      let p : number_of (run_of is_word (b ∷ text)) ≡ below (2 ^ 64) (digits_after 0 (run_of is_word (b ∷ text))) = rw w refl in
+      let p : number_of_text (run_of is_word (b ∷ text)) ≡ below (2 ^ 64) (digits_after 0 (run_of is_word (b ∷ text))) = rw w refl in
       let l : length (run_of is_word (b ∷ text)) ≡ suc (length (run_of is_word text)) = rw w refl in
       p ∙ number_from 0 (b ∷ text) (omega arith) ∙ at_least_one (near_number 0 (b ∷ text)) (length (run_of is_word (b ∷ text))) (near_value 0 (b ∷ text)) (omega arith)
 ]
 
 pub number_near_is : (text : List ℕ) → near_digits near_number text ≡ near_number 0 text
 number_near_is [] = refl
-number_near_is (b ∷ text) = elim (is_true_or_false (is_digit b)) [
+number_near_is (b ∷ text) = elim (is_true_or_false (is_digit_byte b)) [
   | inl d ↦ rw d refl
   | inr d ↦ rw d refl
 ]
 
-behind_cut : (b : ℕ) (front rest : List ℕ) → behind b (quoted_cut front rest) ≡ quoted_cut (b ∷ front) rest
+behind_cut : (b : ℕ) (front rest : List ℕ) → with_byte_before b (quoted_cut front rest) ≡ quoted_cut (b ∷ front) rest
 behind_cut b front [] = refl
 behind_cut b front (c ∷ rest) = refl
 
@@ -79,7 +79,7 @@ pub quote_read : (text : List ℕ) → to_quote text ≡ quoted_cut (run_of (λ 
 quote_read [] = refl
 quote_read (b ∷ text) = elim (is_true_or_false (b == 39)) [
   | inl h ↦ rw h refl
-  | inr h ↦ rw h (ap (behind b) (quote_read text) ∙ behind_cut b (run_of (λ b. not (b == 39)) text) (after_run (λ b. not (b == 39)) text))
+  | inr h ↦ rw h (ap (with_byte_before b) (quote_read text) ∙ behind_cut b (run_of (λ b. not (b == 39)) text) (after_run (λ b. not (b == 39)) text))
 ]
 
 pub quote_near_is : (text : List ℕ) → near_quote text ≡ length (run_of (λ b. not (b == 39)) text) + min 1 (length (after_run (λ b. not (b == 39)) text))

@@ -3,12 +3,12 @@ use Rattle.std.proofs.Common.{◌≡◌, ◌≢◌, ℕ, ◌*◌, ◌^◌, ◌<�
 use Rattle.std.specs.Prelude.{◌==◌}
 use Rattle.std.specs.List.{list_all}
 use Rattle.std.proofs.lemmas.Bool.{eqb-true, eq-eqb}
-use Rattle.asm_grammar.specs.Argument.{Kind, Says, argument_of}
+use Rattle.asm_grammar.specs.Argument.{Kind, ArgumentMeaning, argument_of}
 use Rattle.asm_grammar.proofs.Stages.{of_run, of_some}
-use Rattle.asm_grammar.specs.Bytes.{is_blank, is_space, is_filled, is_word, is_digit, upper, run_of, after_run, common}
-use Rattle.asm_grammar.specs.Word.{Word, Key, Mark, Name, Number, Size, Minutes, Quoted, Argument, End, Meaning, same_bytes, when, gap, begins_argument, fit, fit_here, to_quote, behind, number_of, size_of, is_name, in_minutes, digits_of, minutes_in, begins_word}
-use Rattle.asm_grammar.specs.Syntax.{Syntax, One, Then, Either, Maybe, Many, Value, Has, HasAll}
-use Rattle.asm_grammar.specs.Reading.{is_solid, nullable, decides, starts, all_apart}
+use Rattle.asm_grammar.specs.Bytes.{is_blank, is_space, is_filled, is_word, is_digit_byte, upper, run_of, after_run, common}
+use Rattle.asm_grammar.specs.Word.{Word, Keyword, Mark, Name, Number, Size, Minutes, Quoted, Argument, End, Meaning, same_bytes, when, gap, begins_argument, fit, fit_here, to_quote, with_byte_before, number_of_text, size_of_text, is_name_word, in_minutes, digits_of, minutes_in, begins_word}
+use Rattle.asm_grammar.specs.Syntax.{SyntaxRule, One, Then, Either, Maybe, Many, Value, Has, HasAll}
+use Rattle.asm_grammar.specs.Reading.{is_solid, nullable, decides, starts, all_words_apart}
 use Rattle.asm_grammar.specs.Reading.{first as heads}
 use Rattle.asm_grammar.proofs.Consumes.{either_parts, maybe_parts}
 use Rattle.asm_grammar.proofs.Tests.{both, not_true, is_true_or_false}
@@ -118,7 +118,7 @@ quote_shape (b ∷ x) v rest e = elim (is_true_or_false (b == 39)) [
       let s : b ≡ 39 = eqb-true b 39 h in
       (ap (λ z. z ∷ x) s ∙ (ap (λ z. 39 ∷ z) p.1 ∙ ap (λ z. z ++ 39 ∷ rest) p.0), subst (λ z. list_all (λ b. not (b == 39)) z ≡ true) p.0 refl))
   | inr h ↦
-      (let k : behind b (to_quote x) ≡ Some (v, rest) = rw h at e in
+      (let k : with_byte_before b (to_quote x) ≡ Some (v, rest) = rw h at e in
       let p = after_quote b (to_quote x) v rest k in
       let q = some_pair (rw p.1 at k) in
       let r = quote_shape x p.0 rest p.1 in (
@@ -137,30 +137,30 @@ word_shape w text rest other v nb n c f = record {
   some = n;
 }
 
-key_swap : (k text rest other : List ℕ) (v : Unit {0}) → not (length k == 0) ≡ true → NoFront is_blank text → fit_here (Key k) text ≡ Some (v, rest) → Joins rest other → Swapped (Key k) text rest other v
+key_swap : (k text rest other : List ℕ) (v : Unit {0}) → not (length k == 0) ≡ true → NoFront is_blank text → fit_here (Keyword k) text ≡ Some (v, rest) → Joins rest other → Swapped (Keyword k) text rest other v
 key_swap k text rest other v s nb e j =
     let t = taken (after_run is_word text) (when (same_bytes (map upper (run_of is_word text)) k) tt) v rest e in
     let w = when_true (same_bytes (map upper (run_of is_word text)) k) tt v t.0 in
     let c = run_cut text rest other t.1 j in
-    word_shape (Key k) text rest other v nb (key_run (run_of is_word text) k s w.0) c (rw (c.run, c.rest_is, w.0) refl)
+    word_shape (Keyword k) text rest other v nb (key_run (run_of is_word text) k s w.0) c (rw (c.run, c.rest_is, w.0) refl)
 
 name_swap : (text rest other : List ℕ) (v : List ℕ) → NoFront is_blank text → fit_here Name text ≡ Some (v, rest) → Joins rest other → Swapped Name text rest other v
 name_swap text rest other v nb e j =
-    let t = taken (after_run is_word text) (when (is_name (run_of is_word text)) (run_of is_word text)) v rest e in
-    let w = when_true (is_name (run_of is_word text)) (run_of is_word text) v t.0 in
+    let t = taken (after_run is_word text) (when (is_name_word (run_of is_word text)) (run_of is_word text)) v rest e in
+    let w = when_true (is_name_word (run_of is_word text)) (run_of is_word text) v t.0 in
     let c = run_cut text rest other t.1 j in
     word_shape Name text rest other v nb (name_run (run_of is_word text) w.0) c
     (rw (c.run, c.rest_is, w.0) (ap (λ z. Some (z, other)) w.1))
 
 number_swap : (text rest other : List ℕ) (v : ℕ) → NoFront is_blank text → fit_here Number text ≡ Some (v, rest) → Joins rest other → Swapped Number text rest other v
 number_swap text rest other v nb e j =
-    let t = taken (after_run is_word text) (number_of (run_of is_word text)) v rest e in
+    let t = taken (after_run is_word text) (number_of_text (run_of is_word text)) v rest e in
     let c = run_cut text rest other t.1 j in
     word_shape Number text rest other v nb (number_run (run_of is_word text) v t.0) c (rw (c.run, c.rest_is, t.0) refl)
 
 size_swap : (text rest other : List ℕ) (v : ℕ) → NoFront is_blank text → fit_here Size text ≡ Some (v, rest) → Joins rest other → Swapped Size text rest other v
 size_swap text rest other v nb e j =
-    let t = taken (after_run is_word text) (size_of (run_of is_word text)) v rest e in
+    let t = taken (after_run is_word text) (size_of_text (run_of is_word text)) v rest e in
     let c = run_cut text rest other t.1 j in
     word_shape Size text rest other v nb (size_run (run_of is_word text) v t.0) c (rw (c.run, c.rest_is, t.0) refl)
 
@@ -211,19 +211,19 @@ some_end (c ∷ d) bl b e = cc
 
 minutes_swap : (text rest other : List ℕ) (v : ℕ) → NoFront is_blank text → fit_here Minutes text ≡ Some (v, rest) → Joins rest other → Swapped Minutes text rest other v
 minutes_swap text rest other v nb e j =
-    let d : List ℕ = run_of is_digit text in
-    let r : List ℕ = after_run is_digit text in
+    let d : List ℕ = run_of is_digit_byte text in
+    let r : List ℕ = after_run is_digit_byte text in
     let bl : List ℕ = run_of is_blank r in
     let u = unit_is (digits_of d) (after_run is_blank r) v rest e in
     let b : ℕ = u.0 in
     let r_is : r ≡ bl ++ b ∷ rest = subst (λ x. r ≡ bl ++ x) u.1 (run_then_rest is_blank r) in
     let front : List ℕ = d ++ (bl ++ b ∷ []) in
-    let nd : NoFront is_digit (bl ++ b ∷ other) = front_same is_digit bl b rest other (subst (λ x. NoFront is_digit x) r_is (rest_front is_digit text)) in
+    let nd : NoFront is_digit_byte (bl ++ b ∷ other) = front_same is_digit_byte bl b rest other (subst (λ x. NoFront is_digit_byte x) r_is (rest_front is_digit_byte text)) in
     let nbl : NoFront is_blank (b ∷ other) = front_head is_blank b rest other (subst (λ x. NoFront is_blank x) u.1 (rest_front is_blank r)) in
-    let text_is : text ≡ d ++ (bl ++ b ∷ rest) = subst (λ x. text ≡ d ++ x) r_is (run_then_rest is_digit text) in
+    let text_is : text ≡ d ++ (bl ++ b ∷ rest) = subst (λ x. text ≡ d ++ x) r_is (run_then_rest is_digit_byte text) in
     let shape : (x : List ℕ) → front ++ x ≡ d ++ (bl ++ b ∷ x) = λ x. simp append_assoc in
-    let run : run_of is_digit (d ++ (bl ++ b ∷ other)) ≡ d = run_all is_digit d (bl ++ b ∷ other) (run_words is_digit text) nd.0 in
-    let after : after_run is_digit (d ++ (bl ++ b ∷ other)) ≡ bl ++ b ∷ other = rest_all is_digit d (bl ++ b ∷ other) (run_words is_digit text) nd.1 in
+    let run : run_of is_digit_byte (d ++ (bl ++ b ∷ other)) ≡ d = run_all is_digit_byte d (bl ++ b ∷ other) (run_words is_digit_byte text) nd.0 in
+    let after : after_run is_digit_byte (d ++ (bl ++ b ∷ other)) ≡ bl ++ b ∷ other = rest_all is_digit_byte d (bl ++ b ∷ other) (run_words is_digit_byte text) nd.1 in
     let blank : after_run is_blank (bl ++ b ∷ other) ≡ b ∷ other = rest_all is_blank bl (b ∷ other) (run_words is_blank r) nbl.1 in
     let e' : in_minutes (digits_of d) (b ∷ rest) ≡ Some (v, rest) = subst (λ x. in_minutes (digits_of d) x ≡ Some (v, rest)) u.1 e in
     let fits : fit_here Minutes (d ++ (bl ++ b ∷ other)) ≡ Some (v, other) = rw (run, after, blank) (unit_swap (digits_of d) b rest other v e' j) in
@@ -236,7 +236,7 @@ minutes_swap text rest other v nb e j =
       some = some;
     }
 
-argument_swap : (k : Kind) (text rest other : List ℕ) (v : Says k) → is_solid (Argument k) ≡ true → NoFront is_space text → fit_here (Argument k) text ≡ Some (v, rest) → Joins rest other → Swapped (Argument k) text rest other v
+argument_swap : (k : Kind) (text rest other : List ℕ) (v : ArgumentMeaning k) → is_solid (Argument k) ≡ true → NoFront is_space text → fit_here (Argument k) text ≡ Some (v, rest) → Joins rest other → Swapped (Argument k) text rest other v
 argument_swap k text rest other v s nb e j =
     let run : List ℕ = run_of is_filled text in
     let t = taken (after_run is_filled text) (argument_of k run) v rest e in
@@ -255,7 +255,7 @@ argument_swap k text rest other v s nb e j =
     }
 
 word_swap : (w : Word) (text rest other : List ℕ) (v : Meaning w) → is_solid w ≡ true → NoFront (gap w) text → fit_here w text ≡ Some (v, rest) → Joins rest other → Swapped w text rest other v
-word_swap (Key k) text rest other v s nb e j = key_swap k text rest other v s nb e j
+word_swap (Keyword k) text rest other v s nb e j = key_swap k text rest other v s nb e j
 word_swap (Mark m) text rest other v s nb e j = mark_swap m text rest other v nb e
 word_swap Name text rest other v s nb e j = name_swap text rest other v nb e j
 word_swap Number text rest other v s nb e j = number_swap text rest other v nb e j
@@ -267,7 +267,7 @@ word_swap End text rest other v s nb e j = cc
 
 -- PARTS
 
-pub record Replaced (g : Syntax) (v : Value g) (text rest other : List ℕ) : Type 0 where
+pub record Replaced (g : SyntaxRule) (v : Value g) (text rest other : List ℕ) : Type 0 where
   pub front : List ℕ
   pub shape : text ≡ front ++ rest
   pub has : Has g v (front ++ other) other
@@ -285,7 +285,7 @@ pub joins_behind : (front rest other : List ℕ) → Joins rest other → Joins 
 joins_behind [] rest other j = j
 joins_behind (b ∷ front) rest other j = inr (rw (eq-eqb b b refl) (omega arith))
 
-all_replaced : (a : Syntax) → ((v : Value a) (text rest other : List ℕ) → Has a v text rest → Joins rest other → Replaced a v text rest other)
+all_replaced : (a : SyntaxRule) → ((v : Value a) (text rest other : List ℕ) → Has a v text rest → Joins rest other → Replaced a v text rest other)
     → (vs : List (Value a)) (text rest other : List ℕ) → HasAll (λ v. Has a v) vs text rest → Joins rest other
     → (front : List ℕ) × (text ≡ front ++ rest) × HasAll (λ v. Has a v) vs (front ++ other) other
 all_replaced a each [] text rest other h j = ([], sym h, refl)
@@ -296,7 +296,7 @@ all_replaced a each (v ∷ vs) text rest other h j =
     let shape : text ≡ (f.front ++ o.0) ++ rest = f.shape ∙ (ap (λ x. f.front ++ x) o.1 ∙ sym (append_assoc f.front o.0 rest)) in
     (f.front ++ o.0, shape, (o.0 ++ other, rw (append_assoc f.front o.0 other) f.has, o.2))
 
-pub replaced : (g : Syntax) (follow : List Word) (v : Value g) (text rest other : List ℕ) → decides g follow ≡ true → Has g v text rest → Joins rest other → Replaced g v text rest other
+pub replaced : (g : SyntaxRule) (follow : List Word) (v : Value g) (text rest other : List ℕ) → decides g follow ≡ true → Has g v text rest → Joins rest other → Replaced g v text rest other
 replaced (One w) follow v text rest other d h j = word_replaced w text rest other v d h j
 replaced (Then a b) follow (v, w) text rest other d h j =
     let p = both (decides a (starts b follow)) (decides b follow) d in
@@ -314,8 +314,8 @@ replaced (Either a b) follow (inr v) text rest other d h j =
     let r = replaced b follow v text rest other (either_parts a b follow d).second h j in record { front = r.front; shape = r.shape; has = r.has }
 replaced (Maybe a) follow None text rest other d h j = record { front = []; shape = sym h; has = refl }
 replaced (Maybe a) follow (Some v) text rest other d h j =
-    let r = replaced a follow v text rest other (maybe_parts (decides a follow) (nullable a) (all_apart (heads a) follow) d).inner h j in record { front = r.front; shape = r.shape; has = r.has }
+    let r = replaced a follow v text rest other (maybe_parts (decides a follow) (nullable a) (all_words_apart (heads a) follow) d).inner h j in record { front = r.front; shape = r.shape; has = r.has }
 replaced (Many a) follow vs text rest other d h j =
-    let p = (maybe_parts (decides a (heads a ++ follow)) (nullable a) (all_apart (heads a) follow) d).inner in
+    let p = (maybe_parts (decides a (heads a ++ follow)) (nullable a) (all_words_apart (heads a) follow) d).inner in
     let r = all_replaced a (λ v t r o k q. replaced a (heads a ++ follow) v t r o p k q) vs text rest other h j in
     record { front = r.0; shape = r.1; has = r.2 }

@@ -3,8 +3,8 @@ use Rattle.std.proofs.Common.{◌≡◌, ◌≢◌, ℕ, suc, ◌+◌, ◌-◌, 
 use Rattle.std.specs.Prelude.{is_some, ◌==◌, if◌then◌else◌}
 use Rattle.std.specs.List.{list_all}
 use Rattle.std.proofs.lemmas.Bool.{eqb-true, eq-eqb}
-use Rattle.asm_grammar.specs.Bytes.{is_filled, is_word, is_letter, is_digit, run_of, common}
-use Rattle.asm_grammar.specs.Argument.{Kind, Exact, Text, Named, Numbered, Sized, Path, PathPattern, NotLong, PartPattern, Outside, HexBytes, HexByte, Says, Parts, Starred, Stage, Rest, NameStart, Letters, NumberStart, Digits, SizeStart, SizeDigits, Lettered, PathStart, Plus, GroupName, Slash, Dot, Part, NotLongStart, Dash, DashL, OutsideStart, OutsideDot, OutsidePath, HexStart, Half, Whole, start, step, ends_at, part_begins, part_goes_on, is_part_byte, has_slashes, is_visible, is_hex, factor, onward, reached, near_from, accepts, is_of, says, said_at, argument_of}
+use Rattle.asm_grammar.specs.Bytes.{is_filled, is_word, is_letter_byte, is_digit_byte, run_of, common}
+use Rattle.asm_grammar.specs.Argument.{Kind, Exact, Text, PlainName, PlainNumber, Sized, GroupPath, PathPattern, NotLong, PartPattern, HostPath, HexBytes, HexByte, ArgumentMeaning, Parts, Starred, Stage, Rest, NameStart, Letters, NumberStart, Digits, SizeStart, SizeDigits, Lettered, PathStart, Plus, GroupName, Slash, Dot, Part, NotLongStart, Dash, DashL, OutsideStart, OutsideDot, OutsidePath, HexStart, Half, Whole, first_stage, step, ends_at, part_begins, part_goes_on, is_path_byte, has_slashes, is_visible, is_hex, factor, onward, reached, near_from, accepts, is_of, says, said_at, argument_of}
 use Rattle.asm_grammar.specs.Word.{Argument}
 use Rattle.asm_grammar.specs.Reading.{is_solid}
 use Rattle.asm_grammar.proofs.Tests.{both, is_true_or_false}
@@ -20,9 +20,9 @@ said_is say None = refl
 said_is say (Some s) = said_one say s (ends_at s) refl
 
 pub of_is : (k : Kind) (bytes : List ℕ) → is_some (argument_of k bytes) ≡ is_of k bytes
-of_is k bytes = said_is (λ t. says k bytes t) (reached (start k) bytes)
+of_is k bytes = said_is (λ t. says k bytes t) (reached (first_stage k) bytes)
 
-pub of_some : (k : Kind) (bytes : List ℕ) (v : Says k) → argument_of k bytes ≡ Some v → is_of k bytes ≡ true
+pub of_some : (k : Kind) (bytes : List ℕ) (v : ArgumentMeaning k) → argument_of k bytes ≡ Some v → is_of k bytes ≡ true
 of_some k bytes v e = sym (of_is k bytes) ∙ ap (λ o. is_some o) e
 
 pub of_none : (k : Kind) (bytes : List ℕ) → argument_of k bytes ≡ None → is_of k bytes ≡ false
@@ -32,19 +32,19 @@ some_there : {A : Type 0} (o : Option A) → is_some o ≡ true → (v : A) × (
 some_there None e = cc
 some_there (Some v) e = (v, refl)
 
-pub of_says : (k : Kind) (bytes : List ℕ) → is_of k bytes ≡ true → (v : Says k) × (argument_of k bytes ≡ Some v)
+pub of_says : (k : Kind) (bytes : List ℕ) → is_of k bytes ≡ true → (v : ArgumentMeaning k) × (argument_of k bytes ≡ Some v)
 of_says k bytes e = some_there (argument_of k bytes) (of_is k bytes ∙ e)
 
 not_empty : (k : Kind) → is_solid (Argument k) ≡ true → is_of k [] ≡ true → ⊥
 not_empty (Exact []) s e = cc
 not_empty (Exact (b ∷ k)) s e = cc
-not_empty (Text Named) s e = cc
-not_empty (Text Path) s e = cc
+not_empty (Text PlainName) s e = cc
+not_empty (Text GroupPath) s e = cc
 not_empty (Text PathPattern) s e = cc
 not_empty (Text NotLong) s e = cc
 not_empty (Text PartPattern) s e = cc
-not_empty (Text Outside) s e = cc
-not_empty Numbered s e = cc
+not_empty (Text HostPath) s e = cc
+not_empty PlainNumber s e = cc
 not_empty Sized s e = cc
 not_empty HexBytes s e = cc
 not_empty HexByte s e = cc
@@ -191,27 +191,27 @@ either true o p e f = e
 either false o p e f = f
 
 begins_unspaced : (parts : Parts) (b : ℕ) → Unspaced (part_begins parts b)
-begins_unspaced parts b = either (b == 46) (Some (Dot parts)) _ refl (either (is_part_byte parts b) (Some (Part parts 1)) None refl refl)
+begins_unspaced parts b = either (b == 46) (Some (Dot parts)) _ refl (either (is_path_byte parts b) (Some (Part parts 1)) None refl refl)
 
 goes_unspaced : (parts : Parts) (n b : ℕ) → Unspaced (part_goes_on parts n b)
-goes_unspaced parts n b = either (has_slashes parts && (b == 47)) (Some (Slash parts)) _ refl (either (is_part_byte parts b && nat_lt n 80) (Some (Part parts (n + 1))) None refl refl)
+goes_unspaced parts n b = either (has_slashes parts && (b == 47)) (Some (Slash parts)) _ refl (either (is_path_byte parts b && nat_lt n 80) (Some (Part parts (n + 1))) None refl refl)
 
 step_unspaced : (s : Stage) (b : ℕ) → is_unspaced s ≡ true → Unspaced (step s b)
 step_unspaced (Rest []) b e = refl
 step_unspaced (Rest (c ∷ bytes)) b e = either (b == c) (Some (Rest bytes)) None (both (is_filled c) (list_all is_filled bytes) e).1 refl
-step_unspaced NameStart b e = either (is_letter b) (Some (Letters 1)) None refl refl
+step_unspaced NameStart b e = either (is_letter_byte b) (Some (Letters 1)) None refl refl
 step_unspaced (Letters n) b e = either (is_word b && nat_lt n 30) (Some (Letters (n + 1))) None refl refl
-step_unspaced NumberStart b e = either (is_digit b) (Some (Digits (b - 48))) None refl refl
-step_unspaced (Digits n) b e = either (is_digit b && nat_lt (n * 10 + (b - 48)) (2 ^ 64)) (Some (Digits (n * 10 + (b - 48)))) None refl refl
-step_unspaced SizeStart b e = either (is_digit b) (Some (SizeDigits (b - 48))) None refl refl
-step_unspaced (SizeDigits n) b e = either (is_digit b && nat_lt (n * 10 + (b - 48)) (2 ^ 64)) (Some (SizeDigits (n * 10 + (b - 48)))) _ refl
+step_unspaced NumberStart b e = either (is_digit_byte b) (Some (Digits (b - 48))) None refl refl
+step_unspaced (Digits n) b e = either (is_digit_byte b && nat_lt (n * 10 + (b - 48)) (2 ^ 64)) (Some (Digits (n * 10 + (b - 48)))) None refl refl
+step_unspaced SizeStart b e = either (is_digit_byte b) (Some (SizeDigits (b - 48))) None refl refl
+step_unspaced (SizeDigits n) b e = either (is_digit_byte b && nat_lt (n * 10 + (b - 48)) (2 ^ 64)) (Some (SizeDigits (n * 10 + (b - 48)))) _ refl
     (either (not (factor b == 0) && nat_lt (n * factor b) (2 ^ 64)) (Some (Lettered (n * factor b))) None refl refl)
 step_unspaced (Lettered n) b e = refl
 step_unspaced (PathStart parts) b e = either (b == 43) (Some (Plus parts)) _ refl (begins_unspaced parts b)
-step_unspaced (Plus parts) b e = either (is_letter b) (Some (GroupName parts 1)) None refl refl
+step_unspaced (Plus parts) b e = either (is_letter_byte b) (Some (GroupName parts 1)) None refl refl
 step_unspaced (GroupName parts n) b e = either (b == 47) (Some (Slash parts)) _ refl (either (is_word b && nat_lt n 30) (Some (GroupName parts (n + 1))) None refl refl)
 step_unspaced (Slash parts) b e = begins_unspaced parts b
-step_unspaced (Dot parts) b e = either (is_part_byte parts b) (Some (Part parts 2)) None refl refl
+step_unspaced (Dot parts) b e = either (is_path_byte parts b) (Some (Part parts 2)) None refl refl
 step_unspaced (Part parts n) b e = goes_unspaced parts n b
 step_unspaced NotLongStart b e = either (b == 45) (Some Dash) _ refl (either (b == 43) (Some (Plus Starred)) _ refl (begins_unspaced Starred b))
 step_unspaced Dash b e = either (b == 108) (Some DashL) _ refl (goes_unspaced Starred 1 b)
@@ -246,19 +246,19 @@ exact_is (c ∷ k) (b ∷ bytes) e = elim (is_true_or_false (b == c)) [
 ]
 
 -- a path in a group begins with neither / nor ./
-after_dot : (bytes : List ℕ) → is_of (Text Path) (46 ∷ bytes) ≡ true → is_of (Text Outside) (46 ∷ bytes) ≡ true → ⊥
+after_dot : (bytes : List ℕ) → is_of (Text GroupPath) (46 ∷ bytes) ≡ true → is_of (Text HostPath) (46 ∷ bytes) ≡ true → ⊥
 after_dot [] e f = cc
 after_dot (b ∷ bytes) e f = elim (is_true_or_false (b == 47)) [
-  | inl h ↦ (let g = subst (λ x. is_of (Text Path) (46 ∷ x ∷ bytes) ≡ true) (eqb-true b 47 h) e in cc)
+  | inl h ↦ (let g = subst (λ x. is_of (Text GroupPath) (46 ∷ x ∷ bytes) ≡ true) (eqb-true b 47 h) e in cc)
   | inr h ↦ (let g : false ≡ true = rw h at f in cc)
 ]
 
-pub path_or_outside : (bytes : List ℕ) → is_of (Text Path) bytes ≡ true → is_of (Text Outside) bytes ≡ true → ⊥
+pub path_or_outside : (bytes : List ℕ) → is_of (Text GroupPath) bytes ≡ true → is_of (Text HostPath) bytes ≡ true → ⊥
 path_or_outside [] e f = cc
 path_or_outside (b ∷ bytes) e f = elim (is_true_or_false (b == 47)) [
-  | inl h ↦ (let g = subst (λ x. is_of (Text Path) (x ∷ bytes) ≡ true) (eqb-true b 47 h) e in cc)
+  | inl h ↦ (let g = subst (λ x. is_of (Text GroupPath) (x ∷ bytes) ≡ true) (eqb-true b 47 h) e in cc)
   | inr h ↦ (elim (is_true_or_false (b == 46)) [
     | inr d ↦ (let g : false ≡ true = rw (h, d) at f in cc)
-    | inl d ↦ after_dot bytes (subst (λ x. is_of (Text Path) (x ∷ bytes) ≡ true) (eqb-true b 46 d) e) (subst (λ x. is_of (Text Outside) (x ∷ bytes) ≡ true) (eqb-true b 46 d) f)
+    | inl d ↦ after_dot bytes (subst (λ x. is_of (Text GroupPath) (x ∷ bytes) ≡ true) (eqb-true b 46 d) e) (subst (λ x. is_of (Text HostPath) (x ∷ bytes) ≡ true) (eqb-true b 46 d) f)
   ])
 ]

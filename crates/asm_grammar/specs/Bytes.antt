@@ -12,18 +12,18 @@ is_space b = (b == 32) || (b == 9)
 abbrev pub is_filled : ℕ → Bool
 is_filled b = not (is_space b)
 
-abbrev pub is_digit : ℕ → Bool
-is_digit b = nat_le 48 b && nat_le b 57
+abbrev pub is_digit_byte : ℕ → Bool
+is_digit_byte b = nat_le 48 b && nat_le b 57
 
 abbrev pub is_lower : ℕ → Bool
 is_lower b = nat_le 97 b && nat_le b 122
 
-abbrev pub is_letter : ℕ → Bool
-is_letter b = (nat_le 65 b && nat_le b 90) || is_lower b
+abbrev pub is_letter_byte : ℕ → Bool
+is_letter_byte b = (nat_le 65 b && nat_le b 90) || is_lower b
 
 -- a letter, a digit, _, $ or #
 abbrev pub is_word : ℕ → Bool
-is_word b = is_letter b || is_digit b || (b == 95) || (b == 36) || (b == 35)
+is_word b = is_letter_byte b || is_digit_byte b || (b == 95) || (b == 36) || (b == 35)
 
 -- the byte in upper case
 abbrev pub upper : ℕ → ℕ

@@ -1,6 +1,6 @@
 -- The kinds of bytes that stand together.
 use Rattle.std.specs.Prelude.{ℕ, Bool, ◌==◌, not}
-use Rattle.asm_grammar.specs.Bytes.{is_blank, is_space, is_filled, is_word, is_digit}
+use Rattle.asm_grammar.specs.Bytes.{is_blank, is_space, is_filled, is_word, is_digit_byte}
 use Rattle.asm_grammar.specs.declared.scan.Run.{Run}
 use Rattle.asm_grammar.specs.declared.scan.Run.TheVariants.{Blanks, Spaces, Filled, Word, Digits, Text}
 
@@ -9,5 +9,5 @@ tests Blanks b = is_blank b
 tests Spaces b = is_space b
 tests Filled b = is_filled b
 tests Word b = is_word b
-tests Digits b = is_digit b
+tests Digits b = is_digit_byte b
 tests Text b = not (b == 39)

@@ -8,10 +8,10 @@ use Rattle.asm_grammar.specs.declared.stage.Parts.TheVariants.{Plain, Starred, S
 use Rattle.asm_grammar.specs.declared.stage.Stage.{Stage}
 use Rattle.asm_grammar.specs.declared.stage.Stage.TheVariants.{NameStart, Letters, NumberStart, Digits, SizeStart, SizeDigits, Lettered, PathStart, Plus, GroupName, Slash, Dot, Part, NotLongStart, Dash, DashL, OutsideStart, OutsideDot, OutsidePath, HexStart, Half, Whole}
 
-abbrev pub parts_of : Parts → a.Parts
-parts_of Plain = a.Plain
-parts_of Starred = a.Starred
-parts_of Single = a.Single
+abbrev pub meant_parts : Parts → a.Parts
+meant_parts Plain = a.Plain
+meant_parts Starred = a.Starred
+meant_parts Single = a.Single
 
 abbrev pub stage_of : Stage → a.Stage
 stage_of NameStart = a.NameStart
@@ -21,12 +21,12 @@ stage_of (Digits n) = a.Digits n
 stage_of SizeStart = a.SizeStart
 stage_of (SizeDigits n) = a.SizeDigits n
 stage_of (Lettered n) = a.Lettered n
-stage_of (PathStart parts) = a.PathStart (parts_of parts)
-stage_of (Plus parts) = a.Plus (parts_of parts)
-stage_of (GroupName parts n) = a.GroupName (parts_of parts) n
-stage_of (Slash parts) = a.Slash (parts_of parts)
-stage_of (Dot parts) = a.Dot (parts_of parts)
-stage_of (Part parts n) = a.Part (parts_of parts) n
+stage_of (PathStart parts) = a.PathStart (meant_parts parts)
+stage_of (Plus parts) = a.Plus (meant_parts parts)
+stage_of (GroupName parts n) = a.GroupName (meant_parts parts) n
+stage_of (Slash parts) = a.Slash (meant_parts parts)
+stage_of (Dot parts) = a.Dot (meant_parts parts)
+stage_of (Part parts n) = a.Part (meant_parts parts) n
 stage_of NotLongStart = a.NotLongStart
 stage_of Dash = a.Dash
 stage_of DashL = a.DashL
@@ -37,13 +37,13 @@ stage_of (HexStart more) = a.HexStart more
 stage_of (Half more) = a.Half more
 stage_of (Whole more) = a.Whole more
 
-abbrev pub kind_of : TextKind → a.TextKind
-kind_of Named = a.Named
-kind_of Path = a.Path
-kind_of PathPattern = a.PathPattern
-kind_of NotLong = a.NotLong
-kind_of PartPattern = a.PartPattern
-kind_of Outside = a.Outside
+abbrev pub text_kind_of : TextKind → a.TextKind
+text_kind_of Named = a.PlainName
+text_kind_of Path = a.GroupPath
+text_kind_of PathPattern = a.PathPattern
+text_kind_of NotLong = a.NotLong
+text_kind_of PartPattern = a.PartPattern
+text_kind_of Outside = a.HostPath
 
 -- the stages of paths
 abbrev pub is_path_stage : a.Stage → Bool

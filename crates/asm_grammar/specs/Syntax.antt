@@ -3,20 +3,20 @@ use Rattle.std.specs.Prelude.{◌≡◌, ℕ, ◌⊎◌, List, [], ◌∷◌, Op
 use mathlib.Core.Logic.{inl, inr}
 use Rattle.asm_grammar.specs.Word.{Word, Meaning, fit}
 
-pub data Syntax : Type 0 where
+pub data SyntaxRule : Type 0 where
   -- one word
-  One : Word → Syntax
+  One : Word → SyntaxRule
   -- the first, and behind it the second
-  Then : Syntax → Syntax → Syntax
+  Then : SyntaxRule → SyntaxRule → SyntaxRule
   -- the first or the second
-  Either : Syntax → Syntax → Syntax
+  Either : SyntaxRule → SyntaxRule → SyntaxRule
   -- it, or nothing
-  Maybe : Syntax → Syntax
+  Maybe : SyntaxRule → SyntaxRule
   -- it any number of times
-  Many : Syntax → Syntax
+  Many : SyntaxRule → SyntaxRule
 
 -- what a text of the grammar says
-abbrev pub Value : Syntax → Type 0
+abbrev pub Value : SyntaxRule → Type 0
 Value (One w) = Meaning w
 Value (Then a b) = Value a × Value b
 Value (Either a b) = Value a ⊎ Value b
@@ -29,7 +29,7 @@ HasAll has [] text rest = rest ≡ text
 HasAll has (v ∷ vs) text rest = (middle : List ℕ) × has v text middle × HasAll has vs middle rest
 
 -- The text is one that says v, and then the rest.
-abbrev pub Has : (g : Syntax) → Value g → List ℕ → List ℕ → Type 0
+abbrev pub Has : (g : SyntaxRule) → Value g → List ℕ → List ℕ → Type 0
 Has (One w) v text rest = fit w text ≡ Some (v, rest)
 Has (Then a b) (v, w) text rest = (middle : List ℕ) × Has a v text middle × Has b w middle rest
 Has (Either a b) (inl v) text rest = Has a v text rest

@@ -4,9 +4,9 @@ use Rattle.std.specs.List.{list_all, flat_map}
 use Rattle.std.specs.Fmt.{decimal}
 use mathlib.Core.Logic.{inl, inr}
 use Rattle.asm_grammar.specs.Argument.{Exact}
-use Rattle.asm_grammar.specs.Bytes.{is_blank, is_filled, is_word, is_letter, upper}
-use Rattle.asm_grammar.specs.Word.{Word, Key, Mark, Name, Number, Size, Minutes, Quoted, Argument, End, Meaning, is_name}
-use Rattle.asm_grammar.specs.Syntax.{Syntax, One, Then, Either, Maybe, Many, Value}
+use Rattle.asm_grammar.specs.Bytes.{is_blank, is_filled, is_word, is_letter_byte, upper}
+use Rattle.asm_grammar.specs.Word.{Word, Keyword, Mark, Name, Number, Size, Minutes, Quoted, Argument, End, Meaning, is_name_word}
+use Rattle.asm_grammar.specs.Syntax.{SyntaxRule, One, Then, Either, Maybe, Many, Value}
 
 -- a word and what it says
 pub record Piece : Type 0 where
@@ -14,7 +14,7 @@ pub record Piece : Type 0 where
   pub says : Meaning word
 
 -- the words of a value, one after another
-abbrev pub pieces : (g : Syntax) → Value g → List Piece
+abbrev pub pieces : (g : SyntaxRule) → Value g → List Piece
 pieces (One w) v = record { word = w; says = v } ∷ []
 pieces (Then a b) (v, w) = pieces a v ++ pieces b w
 pieces (Either a b) (inl v) = pieces a v
@@ -25,7 +25,7 @@ pieces (Many a) vs = flat_map (λ v. pieces a v) vs
 
 -- a size is written in bytes, and a time in minutes
 abbrev pub spell : (w : Word) → Meaning w → List ℕ
-spell (Key k) v = k
+spell (Keyword k) v = k
 spell (Mark m) v = m ∷ []
 spell Name v = v
 spell Number v = decimal v
@@ -46,19 +46,19 @@ space (Mark m) other = space_unless (m == 40 || m == 61)
 space other (Mark n) = space_unless (n == 44 || n == 41 || n == 61 || n == 59)
 space word other = 32 ∷ []
 
-abbrev pub written : List Piece → List ℕ
-written [] = []
-written (p ∷ []) = spell p.word p.says
-written (p ∷ q ∷ ps) = spell p.word p.says ++ space p.word q.word ++ written (q ∷ ps)
+abbrev pub text_of_pieces : List Piece → List ℕ
+text_of_pieces [] = []
+text_of_pieces (p ∷ []) = spell p.word p.says
+text_of_pieces (p ∷ q ∷ ps) = spell p.word p.says ++ space p.word q.word ++ text_of_pieces (q ∷ ps)
 
 abbrev pub is_capital : ℕ → Bool
-is_capital b = is_letter b && (upper b == b)
+is_capital b = is_letter_byte b && (upper b == b)
 
 -- what has a spelling; verbs are read alone, and never written
 abbrev pub Spells : (w : Word) → Meaning w → Type 0
-Spells (Key k) v = IsTrue (not (length k == 0) && list_all is_capital k)
+Spells (Keyword k) v = IsTrue (not (length k == 0) && list_all is_capital k)
 Spells (Mark m) v = IsTrue (not (is_blank m) && not (is_word m))
-Spells Name v = IsTrue (is_name v && list_all is_word v)
+Spells Name v = IsTrue (is_name_word v && list_all is_word v)
 Spells Number v = v < 2 ^ 64
 Spells Size v = v < 2 ^ 64
 Spells Minutes v = v * 60 < 2 ^ 64
@@ -72,13 +72,13 @@ AllSpell (p ∷ ps) = Spells p.word p.says × AllSpell ps
 
 -- A keyword has capital letters alone, a mark is no blank, and an exact word has no space.
 abbrev pub can_spell : Word → Bool
-can_spell (Key k) = not (length k == 0) && list_all is_capital k
+can_spell (Keyword k) = not (length k == 0) && list_all is_capital k
 can_spell (Mark m) = not (is_blank m)
 can_spell (Argument (Exact k)) = not (length k == 0) && list_all is_filled k
 can_spell End = false
 can_spell other = true
 
-abbrev pub all_can_spell : Syntax → Bool
+abbrev pub all_can_spell : SyntaxRule → Bool
 all_can_spell (One w) = can_spell w
 all_can_spell (Then a b) = all_can_spell a && all_can_spell b
 all_can_spell (Either a b) = all_can_spell a && all_can_spell b

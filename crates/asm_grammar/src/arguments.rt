@@ -3,10 +3,10 @@
 ghost use Rattle.std.specs.Option.{option_map};
 ghost use Rattle.std.specs.Prelude.{◌≡◌, ◌+◌, ◌-◌, ◌<◌, min, length, true, false, IfOk, Some, None};
 ghost use Rattle.std.specs.List.{list_all};
-ghost use Rattle.asm_grammar.specs.Argument.{Exact, Text, Numbered, Sized, HexBytes, HexByte, Rest, text_start, near_from, argument_of, is_of, onward, ends_at, said_at, number_at, hex_bytes, hex_value, is_hex, NumberStart, SizeStart, HexStart};
+ghost use Rattle.asm_grammar.specs.Argument.{Exact, Text, PlainNumber, Sized, HexBytes, HexByte, Rest, text_start, near_from, argument_of, is_of, onward, ends_at, said_at, spelt_number, hex_bytes, hex_value, is_hex, NumberStart, SizeStart, HexStart};
 ghost use Rattle.asm_grammar.specs.Word.{Argument, End, fit};
 ghost use Rattle.asm_grammar.specs.Reading.{one, close};
-ghost use Rattle.asm_grammar.specs.Stages.{stage_of, kind_of};
+ghost use Rattle.asm_grammar.specs.Stages.{stage_of, text_kind_of};
 ghost use Rattle.asm_grammar.specs.Reads.{Gives, Passes, Tries, TriesFor};
 
 use crate::scan::{Run, split_run};
@@ -31,7 +31,7 @@ pub enum TextKind {
 }
 
 fn start_of(kind: TextKind) -> Stage
-    ensures { stage_of result ≡ text_start (kind_of kind) }
+    ensures { stage_of result ≡ text_start (text_kind_of kind) }
 {
     match kind {
         TextKind::Named => Stage::NameStart,
@@ -55,8 +55,8 @@ fn is_end(stage: Option<Stage>) -> bool
 
 /// Whether the bytes are a word of the kind, and how many of them begin one.
 fn judge_text(kind: TextKind, word: &[u8]) -> (bool, usize)
-    ensures is { result.0 ≡ is_of (Text (kind_of kind)) word.now }
-    ensures near { result.1 ≡ near_from (text_start (kind_of kind)) word.now }
+    ensures is { result.0 ≡ is_of (Text (text_kind_of kind)) word.now }
+    ensures near { result.1 ≡ near_from (text_start (text_kind_of kind)) word.now }
 {
     let (near, stage) = take(start_of(kind), word);
     (is_end(stage), near)
@@ -121,7 +121,7 @@ pub fn exact<'a>(place: Place<'a>, key: &[u8]) -> Result<Place<'a>, ReadError>
 
 /// The next word, where it is of the kind.
 pub fn try_text<'a>(place: Place<'a>, kind: TextKind) -> (Option<&'a [u8]>, Place<'a>)
-    ensures { TriesFor (Argument (Text (kind_of kind))) place.entry (option_map (λ b. b.now) result.0) result.1 }
+    ensures { TriesFor (Argument (Text (text_kind_of kind))) place.entry (option_map (λ b. b.now) result.0) result.1 }
 {
     let (_spaces, text) = split_run(Run::Spaces, place.rest);
     let (word, rest) = split_run(Run::Filled, text);
@@ -140,7 +140,7 @@ pub fn try_text<'a>(place: Place<'a>, kind: TextKind) -> (Option<&'a [u8]>, Plac
 
 /// The next word is of the kind.
 pub fn text<'a>(place: Place<'a>, kind: TextKind) -> Result<(&'a [u8], Place<'a>), ReadError>
-    ensures { Gives (λ b. b.now) result (one (Argument (Text (kind_of kind))) place.entry.rest.now place.entry.left (fit (Argument (Text (kind_of kind))) place.entry.rest.now)) }
+    ensures { Gives (λ b. b.now) result (one (Argument (Text (text_kind_of kind))) place.entry.rest.now place.entry.left (fit (Argument (Text (text_kind_of kind))) place.entry.rest.now)) }
 {
     match try_text(place, kind) {
         (Some(word), place) => Ok((word, place)),
@@ -150,7 +150,7 @@ pub fn text<'a>(place: Place<'a>, kind: TextKind) -> Result<(&'a [u8], Place<'a>
 
 /// The number that digits spelt, where a word ends there.
 fn number_there(stage: Option<Stage>) -> Option<u64>
-    ensures { result ≡ onward None (λ s. said_at number_at s) (option_map stage_of stage) }
+    ensures { result ≡ onward None (λ s. said_at spelt_number s) (option_map stage_of stage) }
 {
     match stage {
         Some(Stage::Digits(number)) => Some(number),
@@ -163,7 +163,7 @@ fn number_there(stage: Option<Stage>) -> Option<u64>
 
 /// The number that the bytes spell, and how many of them begin a number.
 fn judge_number(word: &[u8]) -> (Option<u64>, usize)
-    ensures says { result.0 ≡ argument_of Numbered word.now }
+    ensures says { result.0 ≡ argument_of PlainNumber word.now }
     ensures near { result.1 ≡ near_from NumberStart word.now }
 {
     let (near, stage) = take(Stage::NumberStart, word);
@@ -181,7 +181,7 @@ fn judge_size(word: &[u8]) -> (Option<u64>, usize)
 
 /// The next word is a number.
 pub fn number_word<'a>(place: Place<'a>) -> Result<(u64, Place<'a>), ReadError>
-    ensures { Gives (λ n. n) result (one (Argument Numbered) place.entry.rest.now place.entry.left (fit (Argument Numbered) place.entry.rest.now)) }
+    ensures { Gives (λ n. n) result (one (Argument PlainNumber) place.entry.rest.now place.entry.left (fit (Argument PlainNumber) place.entry.rest.now)) }
 {
     let (_spaces, text) = split_run(Run::Spaces, place.rest);
     let (word, rest) = split_run(Run::Filled, text);

@@ -2,7 +2,7 @@
 
 ghost use Rattle.std.specs.Option.{option_map};
 ghost use Rattle.std.specs.Prelude.{◌≡◌, ◌<◌, drop, ◌+◌, ◌-◌, ◌*◌, ◌^◌, ◌&&◌, ◌==◌, not, nat_lt, map, length, if◌then◌else◌};
-ghost use Rattle.asm_grammar.specs.Bytes.{is_blank, is_space, is_word, is_digit, upper, run_of, after_run, common};
+ghost use Rattle.asm_grammar.specs.Bytes.{is_blank, is_space, is_word, is_digit_byte, upper, run_of, after_run, common};
 ghost use Rattle.asm_grammar.specs.Runs.{tests};
 ghost use Rattle.asm_grammar.specs.Argument.{factor};
 ghost use Rattle.asm_grammar.specs.Word.{same_bytes, starts_with_letter, starts_with_digit, near_number, near_value, near_size, near_size_value, near_count, near_count_value, minutes_in, begins_word, quoted_of};
@@ -140,7 +140,7 @@ pub fn number_prefix(text: &[u8]) -> (usize, u64)
 
 /// The number with one more digit, where the byte is a digit and it stays below 2 ^ 64.
 pub fn with_digit(number: u64, b: u8) -> Option<u64>
-    ensures { result ≡ (if is_digit b && nat_lt (number * 10 + (b - 48)) (2 ^ 64) then Some (number * 10 + (b - 48)) else None) }
+    ensures { result ≡ (if is_digit_byte b && nat_lt (number * 10 + (b - 48)) (2 ^ 64) then Some (number * 10 + (b - 48)) else None) }
 {
     if b < b'0' || b'9' < b {
         return None;
@@ -220,7 +220,7 @@ fn minutes_in(b: u8) -> u64
 
 /// The number with one more digit, where the byte is a digit and so many minutes stay below 2 ^ 64 seconds.
 fn with_count(number: u64, b: u8) -> Option<u64>
-    ensures { result ≡ (if is_digit b && nat_lt ((number * 10 + (b - 48)) * 60) (2 ^ 64) then Some (number * 10 + (b - 48)) else None) }
+    ensures { result ≡ (if is_digit_byte b && nat_lt ((number * 10 + (b - 48)) * 60) (2 ^ 64) then Some (number * 10 + (b - 48)) else None) }
 {
     if b < b'0' || b'9' < b {
         return None;

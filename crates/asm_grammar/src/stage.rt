@@ -2,10 +2,10 @@
 
 ghost use Rattle.std.specs.Option.{option_map};
 ghost use Rattle.std.specs.Prelude.{◌≡◌, ◌+◌, ◌-◌, ◌*◌, ◌^◌, ◌&&◌, ◌==◌, not, nat_lt, if◌then◌else◌, Some, None};
-ghost use Rattle.asm_grammar.specs.Bytes.{is_digit, is_letter};
-ghost use Rattle.asm_grammar.specs.Argument.{is_part_byte, is_visible, is_hex, factor, part_begins, part_goes_on, has_slashes, step, ends_at, near_from, reached};
+ghost use Rattle.asm_grammar.specs.Bytes.{is_digit_byte, is_letter_byte};
+ghost use Rattle.asm_grammar.specs.Argument.{is_path_byte, is_visible, is_hex, factor, part_begins, part_goes_on, has_slashes, step, ends_at, near_from, reached};
 ghost use Rattle.asm_grammar.specs.Argument as a;
-ghost use Rattle.asm_grammar.specs.Stages.{parts_of, stage_of, is_path_stage};
+ghost use Rattle.asm_grammar.specs.Stages.{meant_parts, stage_of, is_path_stage};
 
 use crate::scan::{is_word, with_digit};
 
@@ -57,19 +57,19 @@ pub enum Stage {
 }
 
 fn is_letter(b: u8) -> bool
-    ensures { result ≡ is_letter b }
+    ensures { result ≡ is_letter_byte b }
 {
     b.is_ascii_alphabetic()
 }
 
 fn is_digit(b: u8) -> bool
-    ensures { result ≡ is_digit b }
+    ensures { result ≡ is_digit_byte b }
 {
     b'0' <= b && b <= b'9'
 }
 
 fn is_part_byte(parts: Parts, b: u8) -> bool
-    ensures { result ≡ is_part_byte (parts_of parts) b }
+    ensures { result ≡ is_path_byte (meant_parts parts) b }
 {
     is_word(b)
         || b == b'-'
@@ -81,7 +81,7 @@ fn is_part_byte(parts: Parts, b: u8) -> bool
 }
 
 fn is_slash(parts: Parts, b: u8) -> bool
-    ensures { result ≡ (has_slashes (parts_of parts) && (b == 47)) }
+    ensures { result ≡ (has_slashes (meant_parts parts) && (b == 47)) }
 {
     match parts {
         Parts::Plain | Parts::Starred => b == b'/',
@@ -126,7 +126,7 @@ pub fn with_letter(number: u64, b: u8) -> Option<u64>
 }
 
 fn part_begins(parts: Parts, b: u8) -> Option<Stage>
-    ensures { option_map stage_of result ≡ part_begins (parts_of parts) b }
+    ensures { option_map stage_of result ≡ part_begins (meant_parts parts) b }
 {
     if b == b'.' {
         return Some(Stage::Dot(parts));
@@ -138,7 +138,7 @@ fn part_begins(parts: Parts, b: u8) -> Option<Stage>
 }
 
 fn part_goes_on(parts: Parts, n: u8, b: u8) -> Option<Stage>
-    ensures { option_map stage_of result ≡ part_goes_on (parts_of parts) n b }
+    ensures { option_map stage_of result ≡ part_goes_on (meant_parts parts) n b }
 {
     if is_slash(parts, b) {
         return Some(Stage::Slash(parts));
@@ -150,7 +150,7 @@ fn part_goes_on(parts: Parts, n: u8, b: u8) -> Option<Stage>
 }
 
 fn group_name_goes_on(parts: Parts, n: u8, b: u8) -> Option<Stage>
-    ensures { option_map stage_of result ≡ step (a.GroupName (parts_of parts) n) b }
+    ensures { option_map stage_of result ≡ step (a.GroupName (meant_parts parts) n) b }
 {
     if b == b'/' {
         return Some(Stage::Slash(parts));

@@ -2,10 +2,10 @@
 
 ghost use Rattle.std.specs.Prelude.{◌≡◌, ◌-◌, min, length, Some};
 ghost use Rattle.std.specs.Option.{option_map};
-ghost use Rattle.asm_grammar.specs.Word.{Key, Mark, Name, Number, Size, Minutes, Quoted, fit};
+ghost use Rattle.asm_grammar.specs.Word.{Keyword, Mark, Name, Number, Size, Minutes, Quoted, fit};
 ghost use Rattle.asm_grammar.specs.Reading.{one, close};
 ghost use Rattle.asm_grammar.specs.Bytes.{is_word, run_of};
-ghost use Rattle.asm_grammar.specs.Word.{starts_with_quote, in_minutes, near_letter, size_of, near_digits, near_size};
+ghost use Rattle.asm_grammar.specs.Word.{starts_with_quote, in_minutes, near_letter, size_of_text, near_digits, near_size};
 ghost use Rattle.asm_grammar.specs.Reads.{Gives, Passes, Tries};
 ghost use Rattle.asm_grammar.specs.declared.words.ReadError.TheVariants.{NoMemory};
 
@@ -62,7 +62,7 @@ pub fn missed<'a>(place: Place<'a>, text: &[u8], near: usize) -> Place<'a>
 /// Takes the keyword, where it is the next word.
 #[tactic(auto, using(crate::proofs::Consumes::run_and_rest))]
 pub fn try_key<'a>(place: Place<'a>, key: &[u8]) -> (bool, Place<'a>)
-    ensures { Tries (Key key.now) tt place.entry result.0 result.1 }
+    ensures { Tries (Keyword key.now) tt place.entry result.0 result.1 }
 {
     let (_blanks, text) = split_run(Run::Blanks, place.rest);
     let (word, rest) = split_run(Run::Word, text);
@@ -80,7 +80,7 @@ pub fn try_key<'a>(place: Place<'a>, key: &[u8]) -> (bool, Place<'a>)
 
 /// The keyword is the next word.
 pub fn key<'a>(place: Place<'a>, key: &[u8]) -> Result<Place<'a>, ReadError>
-    ensures { Passes result (one (Key key.now) place.entry.rest.now place.entry.left (fit (Key key.now) place.entry.rest.now)) }
+    ensures { Passes result (one (Keyword key.now) place.entry.rest.now place.entry.left (fit (Keyword key.now) place.entry.rest.now)) }
 {
     let (found, place) = try_key(place, key);
     if found {
@@ -171,7 +171,7 @@ pub fn number<'a>(place: Place<'a>) -> Result<(u64, Place<'a>), ReadError>
 /// The size that the first word spells, and how many bytes of the text begin a size.
 fn judge_size(text: &[u8], word: &[u8]) -> (Option<u64>, usize)
     requires { word.now ≡ run_of is_word text.now }
-    ensures says { result.0 ≡ size_of word.now }
+    ensures says { result.0 ≡ size_of_text word.now }
     ensures near { result.1 ≡ near_digits near_size text.now }
 {
     if !starts_with_digit(text) {

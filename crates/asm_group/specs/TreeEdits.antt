@@ -95,13 +95,13 @@ names_file n Dir = false
 names_file n (System m) = m == n
 names_file n (Alias m) = m == n
 
-abbrev pub is_entry : (TreeNode → Bool) → Option TreeEntry → Bool
-is_entry test None = false
-is_entry test (Some e) = test e.node
+abbrev pub is_tree_entry : (TreeNode → Bool) → Option TreeEntry → Bool
+is_tree_entry test None = false
+is_tree_entry test (Some e) = test e.node
 
 -- some path leads to what passes the test
 abbrev pub leads_to : Tree → (TreeNode → Bool) → Bool
-leads_to t test = list_any (λ key. is_entry test (maps.get t key)) (maps.keys t)
+leads_to t test = list_any (λ key. is_tree_entry test (maps.get t key)) (maps.keys t)
 
 -- the file has a user alias
 abbrev pub has_alias : Tree → Option ℕ → Bool
@@ -110,16 +110,16 @@ has_alias t (Some n) = leads_to t (is_alias_of n)
 
 -- ---- edits
 
--- AddFile gives a file its system name, below a directory that is there; DropFile takes both names of a file.
+-- AddFile gives a file its system name, below a directory that is there; DropFileEntries takes both names of a file.
 pub data TreeEdit : Type 0 where
   MakeDir : (path : Path) → TreeEdit
   DropDir : (path : Path) → TreeEdit
   RenameDir : (old new : Path) → TreeEdit
-  AddAlias : (alias path : Path) → TreeEdit
-  RenameAlias : (old new : Path) → TreeEdit
-  DropAlias : (path : Path) → TreeEdit
+  AddAliasEntry : (alias path : Path) → TreeEdit
+  RenameAliasEntry : (old new : Path) → TreeEdit
+  DropAliasEntry : (path : Path) → TreeEdit
   AddFile : (path : Path) (file : ℕ) → TreeEdit
-  DropFile : (file : ℕ) → TreeEdit
+  DropFileEntries : (file : ℕ) → TreeEdit
 
 -- A new name wants something above it, and isn't the root.
 abbrev pub lacks_parent : Tree → Path → Bool
@@ -136,16 +136,16 @@ edit_causes t (RenameDir old new) =
     (is_root old || not (is_there t old) || lacks_parent t new, r.NoName)
     ∷ (is_there t new || is_under (folded_path old) (folded_path new), r.NameTaken)
     ∷ (not (is_dir t old) || not (is_dir t (up new)), r.NotDirectory) ∷ []
-edit_causes t (AddAlias alias path) =
+edit_causes t (AddAliasEntry alias path) =
     (not (is_file t path) || lacks_parent t alias, r.NoName) ∷ (is_there t alias, r.NameTaken) ∷ (not (is_dir t (up alias)), r.NotDirectory)
     ∷ (has_alias t (file_at t path), r.HasAlias) ∷ []
-edit_causes t (RenameAlias old new) =
+edit_causes t (RenameAliasEntry old new) =
     (not (is_file t old) || lacks_parent t new, r.NoName) ∷ (is_there t new, r.NameTaken) ∷ (not (is_dir t (up new)), r.NotDirectory)
     ∷ (is_system_entry (entry_at t old), r.SystemName) ∷ []
-edit_causes t (DropAlias path) =
+edit_causes t (DropAliasEntry path) =
     (not (is_file t path), r.NoName) ∷ (is_system_entry (entry_at t path), r.SystemName) ∷ []
 edit_causes t (AddFile path file) = new_name_causes t path
-edit_causes t (DropFile file) = (not (leads_to t (names_file file)), r.NoName) ∷ []
+edit_causes t (DropFileEntries file) = (not (leads_to t (names_file file)), r.NoName) ∷ []
 
 abbrev pub with_node : Tree → Path → TreeNode → Tree
 with_node t path node = maps.insert t (folded_path path) (record { name = last_part path; node = node })
@@ -174,17 +174,17 @@ with_alias t alias (Some n) = with_node t alias (Alias n)
 
 -- without the paths that lead to the file
 abbrev pub without_file : Tree → ℕ → Tree
-without_file t n = maps.retain_keys t (λ key. not (is_entry (names_file n) (maps.get t key)))
+without_file t n = maps.retain_keys t (λ key. not (is_tree_entry (names_file n) (maps.get t key)))
 
 abbrev pub changed : Tree → TreeEdit → Tree
 changed t (MakeDir path) = with_node t path Dir
 changed t (DropDir path) = without_node t path
 changed t (RenameDir old new) = with_dir_moved t old new
-changed t (AddAlias alias path) = with_alias t alias (file_at t path)
-changed t (RenameAlias old new) = with_alias (without_node t old) new (file_at t old)
-changed t (DropAlias path) = without_node t path
+changed t (AddAliasEntry alias path) = with_alias t alias (file_at t path)
+changed t (RenameAliasEntry old new) = with_alias (without_node t old) new (file_at t old)
+changed t (DropAliasEntry path) = without_node t path
 changed t (AddFile path file) = with_node t path (System file)
-changed t (DropFile file) = without_file t file
+changed t (DropFileEntries file) = without_file t file
 
 -- The tree after the edit, or why it is refused.
 abbrev pub edited : Tree → TreeEdit → Result Tree r.Refusal

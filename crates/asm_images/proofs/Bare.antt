@@ -12,7 +12,7 @@ use Rattle.asm_formats.specs.Items.{Item}
 use Rattle.asm_formats.specs.Among.{IsAmong}
 use Rattle.asm_placement.specs.Placed.{Placed, placed, fits_entry, is_inside, all_apart, places_fit}
 use Rattle.asm_placement.specs.Work.{is_regular}
-use Rattle.asm_images.specs.Describing.{has_info}
+use Rattle.asm_images.specs.Describing.{has_info_in_items}
 use Rattle.asm_images.specs.RecordLaws.{bare}
 
 abbrev pub Bare : Type 0
@@ -86,17 +86,17 @@ same_places xs ys shape items e = ap (λ (b : Bool). b && all_apart (placed shap
     (all_same (is_inside shape xs) (is_inside shape ys) (placed shape.step items)
     (λ p. same_fit shape p (entry_of xs p.home.disk) (entry_of ys p.home.disk) (same_entry xs ys p.home.disk e)))
 
-same_info : (items : List Item) (x y : Entry) → bare x ≡ bare y → has_info items x ≡ has_info items y
+same_info : (items : List Item) (x y : Entry) → bare x ≡ bare y → has_info_in_items items x ≡ has_info_in_items items y
 same_info items x y e =
     let number = ap (λ (b : Bare). b.0) e in
     let birth = ap (λ (b : Bare). b.1) e in
-    λ i. has_info items (record x { number = number i; birth = birth i })
+    λ i. has_info_in_items items (record x { number = number i; birth = birth i })
 
 first_of : Bare → List Bare → Bare
 first_of b [] = b
 first_of b (c ∷ cs) = c
 
-pub all_info : (items : List Item) (xs ys : List Entry) → map bare xs ≡ map bare ys → list_all (has_info items) xs ≡ list_all (has_info items) ys
+pub all_info : (items : List Item) (xs ys : List Entry) → map bare xs ≡ map bare ys → list_all (has_info_in_items items) xs ≡ list_all (has_info_in_items items) ys
 unfolding first_of
 all_info items [] [] e = refl
 all_info items [] (y ∷ ys) e = absurd cc

@@ -7,12 +7,12 @@ use Rattle.bay.specs.Image as bay
 use Rattle.bay.specs.Image.{window, Range, Same, ChangesOnly, Makes}
 use Rattle.bay.proofs.Images.{length-window, get_or-window, window-same}
 use Rattle.asm_formats.specs.Bytes.{block_size, open_byte, piece, block, is_open}
-use Rattle.asm_formats.specs.Slots.{IsPut, Moment, as_before, closed, put}
+use Rattle.asm_formats.specs.Slots.{IsPut, Moment, as_before, closed, open_with_body}
 use Rattle.std.proofs.Common.{◌⊎◌, ◌*◌, ◌==◌, Bool, true, false, cond, Some, None}
 use Rattle.std.proofs.lemmas.Option.{same_Some, none-some}
 use Rattle.asm_formats.specs.Places.{SameElsewhere}
 use Rattle.asm_images.specs.Members.{written}
-use Rattle.asm_images.specs.Bridge.{shown, disk_bytes, disks_in, ChangesSlot}
+use Rattle.asm_images.specs.Bridge.{shown_block, disk_bytes, disks_in, ChangesSlot}
 
 pub listed : (slots : ℕ) (image : bay.Image) → length (disks_in slots image) ≡ slots
 unfolding disks_in
@@ -145,10 +145,10 @@ module _ (old new : bay.Image) (slot k : ℕ) (body : List ℕ) (old_len : (k + 
   shown_body : (b : Bool) → (new.byte slot (k * block_size) == open_byte) ≡ b → cond b (Some (window (new.byte slot) ((k + 1) * block_size) block_size)) None ≡ Some body
       → Moment (disk_bytes old slot) (disk_bytes new slot) k body
   shown_body false is_b e = closed (new_gate ∙ is_b)
-  shown_body true is_b e = put (new_gate ∙ is_b) (body_of new slot k new_len ∙ same_Some (window (new.byte slot) ((k + 1) * block_size) block_size) body e)
+  shown_body true is_b e = open_with_body (new_gate ∙ is_b) (body_of new slot k new_len ∙ same_Some (window (new.byte slot) ((k + 1) * block_size) block_size) body e)
 
 pub shown_is_put : (old new : bay.Image) (slot k : ℕ) (body : List ℕ) → (k + 2) * block_size ≤ old.size slot → ChangesOnly (Range slot (k * block_size) (2 * block_size)) old new
-    → (shown new slot k ≡ shown old slot k) ⊎ ((shown new slot k ≡ None) ⊎ (shown new slot k ≡ Some body))
+    → (shown_block new slot k ≡ shown_block old slot k) ⊎ ((shown_block new slot k ≡ None) ⊎ (shown_block new slot k ≡ Some body))
     → IsPut (disk_bytes old slot) (disk_bytes new slot) k body
 shown_is_put old new slot k body old_len change shows =
     let new_len : (k + 2) * block_size ≤ new.size slot = omega (arith, old_len, change.size slot) in

@@ -14,7 +14,7 @@ use Rattle.asm_formats.specs.Content.{Content}
 use Rattle.asm_images.specs.Directories.{newest, copies, directories, IsNamed}
 use Rattle.asm_formats.specs.Items.{Item, Home}
 use Rattle.asm_images.specs.Describing.{extent_size}
-use Rattle.asm_images.specs.Members.{Image, Member, within, statuses, claims, claims_of_group, AreDistinct, all_members, byte, written, disk_of}
+use Rattle.asm_images.specs.Members.{ImageBytes, Member, within, statuses, claims, claims_of_group, AreDistinct, all_members, byte, written, disk_of}
 use Rattle.asm_images.specs.Register.{Fits, current_records, HoldsOne, HasEpoch, greatest, is_enough}
 use Rattle.asm_images.specs.Stands.{Describes, IsDiskOf}
 use Rattle.asm_images.specs.Copies.{IsCurrent, is_kept}
@@ -40,7 +40,7 @@ distinct_map f keeps ms distinct m n hm hn number birth =
     (sym (ap (λ (h : Header). h.number) header_a) ∙ number ∙ ap (λ (h : Header). h.number) header_b)
     (sym (ap (λ (h : Header). h.birth) header_a) ∙ birth ∙ ap (λ (h : Header). h.birth) header_b) ∙ sym slot_b
 
-module _ (old new : Image) (f : Member → Member) (keeps : Keeps f) (ms : List Member) where
+module _ (old new : ImageBytes) (f : Member → Member) (keeps : Keeps f) (ms : List Member) where
   -- a current copy on a changed member is one on the member
   pub was_current : (r : Status) (items : List Item) (x i copy : ℕ) (h : Home) (m : Member) → IsCurrent r items x i copy h (f m) → IsCurrent r items x i copy h m
   was_current r items x i copy h m c = record { home = c.home; kept = ap (λ (d : Header). is_kept r h.disk d) (sym (keeps.header m)) ∙ c.kept; fresh = c.fresh }
@@ -118,7 +118,7 @@ module _ (id : ℕ) (f : Member → Member) (keeps : Keeps f) (ms : List Member)
 -- ---- what the contents describe
 
 -- Where contents stay, so does what they describe.
-pub cover_replaced : (id : ℕ) (old new : Image) (groups : List Group) (completed : Option Status) (begun : List Status) (sound : SoundBy id old groups completed begun) (f : Member → Member) → Keeps f
+pub cover_replaced : (id : ℕ) (old new : ImageBytes) (groups : List Group) (completed : Option Status) (begun : List Status) (sound : SoundBy id old groups completed begun) (f : Member → Member) → Keeps f
     → ((m : Member) → IsAmong (all_members id old) m → (f m).disk.content ≡ m.disk.content)
     → ((g : Group) (r : Status) (m : Member) → IsAmong (all_members id old) m → IsDiskOf g r m → IsDiskOf g r (f m))
     → KeepsCopies id old new completed begun
@@ -150,7 +150,7 @@ cover_replaced id old new groups completed begun sound f keeps contents disks ke
           );
     }
 
-pub replaced_sound : (id : ℕ) (old new : Image) (groups : List Group) (completed : Option Status) (begun : List Status) (sound : SoundBy id old groups completed begun) (f : Member → Member) → Keeps f → all_members id new ≡ map f (all_members id old)
+pub replaced_sound : (id : ℕ) (old new : ImageBytes) (groups : List Group) (completed : Option Status) (begun : List Status) (sound : SoundBy id old groups completed begun) (f : Member → Member) → Keeps f → all_members id new ≡ map f (all_members id old)
     → ((m : Member) → IsAmong (all_members id old) m → (f m).disk.content ≡ m.disk.content)
     → ((g : Group) (r : Status) (m : Member) → IsAmong (all_members id old) m → IsDiskOf g r m → IsDiskOf g r (f m))
     → KeepsCopies id old new completed begun
@@ -165,7 +165,7 @@ replaced_sound id old new groups completed begun sound f keeps members_same cont
 
 -- ---- the law
 
-module _ (id : ℕ) (old : Image) (slot : ℕ) (d : Metadata) where
+module _ (id : ℕ) (old : ImageBytes) (slot : ℕ) (d : Metadata) where
   -- what a changed member says: the new metadata at the slot, and elsewhere the old
   pub at_change : (P : Member → Member → Type 0) → ((m : Member) → m.disk ≡ disk_of old slot → P m (record m { disk = d })) → ((m : Member) → P m m)
       → (m : Member) → IsAmong (all_members id old) m → P m (replaced slot d m)
@@ -184,7 +184,7 @@ claim_disk id old new g r m raises is d =
       units = λ e entry birth. subst (λ (x : Metadata). e.units ≤ units_in m.header.shape x.size) (sym others) (d.units e entry birth);
     }
 
-pub claim_keeps : (id : ℕ) (old : Image) (groups : List Group) (completed : Option Status) (begun : List Status) (sound : SoundBy id old groups completed begun) (slot : ℕ) (bytes : List ℕ) → IsClaimed id old completed begun slot bytes → SoundBy id (written old slot bytes) groups completed begun
+pub claim_keeps : (id : ℕ) (old : ImageBytes) (groups : List Group) (completed : Option Status) (begun : List Status) (sound : SoundBy id old groups completed begun) (slot : ℕ) (bytes : List ℕ) → IsClaimed id old completed begun slot bytes → SoundBy id (written old slot bytes) groups completed begun
 claim_keeps id old groups completed begun sound slot bytes claim =
     let ms = all_members id old in
     let d = metadata bytes in

@@ -13,13 +13,13 @@ use Rattle.asm_formats.specs.Claim.{Claim}
 use Rattle.asm_formats.specs.Status.{Status, Entry, entry_of}
 use Rattle.asm_formats.specs.Metadata.{Metadata, metadata}
 use Rattle.asm_formats.specs.Content.{Content}
-use Rattle.asm_images.specs.Directories.{newer, newest, copies, copy_on, held_by, to_list, directories, IsNamed}
-use Rattle.asm_images.specs.Members.{Image, Member, within, is_disk, claims_of_group, AreDistinct, all_members, written, disk_of}
+use Rattle.asm_images.specs.Directories.{newer, newest, copies, copy_on, member_contents, to_list, directories, IsNamed}
+use Rattle.asm_images.specs.Members.{ImageBytes, Member, within, is_disk, claims_of_group, AreDistinct, all_members, written, disk_of}
 use Rattle.asm_images.specs.Register.{Fits, current_records}
 use Rattle.asm_images.specs.Stands.{Describes, IsDiskOf}
 use Rattle.asm_group.specs.Group.{Group}
 use Rattle.asm_images.specs.Sound.{IsCovered, SoundBy}
-use Rattle.asm_images.specs.Steps.{ChangesContent, IsKnown, Outcome, kept, lost, gained, IsCommitted}
+use Rattle.asm_images.specs.Steps.{ChangesContent, IsKnown, Outcome, keeps_old_content, loses_content, gains_content, IsCopyCommitted}
 use Rattle.asm_images.proofs.Membership.{among_filter, among_within}
 use Rattle.asm_images.proofs.Replacing.{Keeps, replaced, replaced_keeps, members_replaced, within_map, find_map, found_among, statuses_map}
 use Rattle.asm_images.proofs.Membership.{map_among}
@@ -205,10 +205,10 @@ data Part (N : Type 0) (after : Option Content) (xs ys : List Content) : Type 0 
   changed : N → xs ≡ to_list after → ys ≡ [] → Part N after xs ys
 
 module _ (ms : List Member) (slot : ℕ) (d : Metadata) (distinct : AreDistinct ms) (r : Status) (P : ℕ → Bool) where
-  held_elsewhere : (m : Member) → (m.slot ≡ slot → ⊥) → held_by (Some (replaced slot d m)) ≡ held_by (Some m)
+  held_elsewhere : (m : Member) → (m.slot ≡ slot → ⊥) → member_contents (Some (replaced slot d m)) ≡ member_contents (Some m)
   held_elsewhere m differ = ap (λ (n : Member). to_list n.disk.content) (cond-false (m.slot == slot) (record m { disk = d }) m (ne_eqb m.slot slot differ))
 
-  held_here : (m : Member) → m.slot ≡ slot → held_by (Some (replaced slot d m)) ≡ to_list d.content
+  held_here : (m : Member) → m.slot ≡ slot → member_contents (Some (replaced slot d m)) ≡ to_list d.content
   held_here m same = ap (λ (n : Member). to_list n.disk.content) (cond-true (m.slot == slot) (record m { disk = d }) m (eq-eqb m.slot slot same))
 
   module _ (x : ℕ) (e : Entry) (is : entry_of r.entries x ≡ Some e) (named : IsAmong (elements r.directories) x) where
@@ -216,22 +216,22 @@ module _ (ms : List Member) (slot : ℕ) (d : Metadata) (distinct : AreDistinct 
     test m = is_disk x e.birth m.header
 
     abbrev the_part : Type 0
-    the_part = Part (IsNamedAt ms slot r) d.content (held_by (find test (map (replaced slot d) (within P ms)))) (held_by (find test (within (but slot P) ms)))
+    the_part = Part (IsNamedAt ms slot r) d.content (member_contents (find test (map (replaced slot d) (within P ms)))) (member_contents (find test (within (but slot P) ms)))
 
-    found_after : (o : Option Member) → find test (within P ms) ≡ o → held_by (find test (map (replaced slot d) (within P ms))) ≡ held_by (option_map (replaced slot d) o)
-    found_after o found = ap held_by (find_map (replaced slot d) test (within P ms) (λ m. ap (λ (h : Header). is_disk x e.birth h) ((replaced_keeps slot d).header m))
+    found_after : (o : Option Member) → find test (within P ms) ≡ o → member_contents (find test (map (replaced slot d) (within P ms))) ≡ member_contents (option_map (replaced slot d) o)
+    found_after o found = ap member_contents (find_map (replaced slot d) test (within P ms) (λ m. ap (λ (h : Header). is_disk x e.birth h) ((replaced_keeps slot d).header m))
         ∙ ap (λ (p : Option Member). option_map (replaced slot d) p) found)
 
     no_part : find test (within P ms) ≡ None → the_part
     no_part none =
-        let right : held_by (find test (within (but slot P) ms)) ≡ [] = ap (λ (l : List Member). held_by (find test l)) (within_but slot P ms) ∙ ap held_by (find_none test (elsewhere slot) (within P ms) none) in
+        let right : member_contents (find test (within (but slot P) ms)) ≡ [] = ap (λ (l : List Member). member_contents (find test l)) (within_but slot P ms) ∙ ap member_contents (find_none test (elsewhere slot) (within P ms) none) in
         alike (found_after None none ∙ sym right)
 
     other_part : (m : Member) → find test (within P ms) ≡ Some m → (m.slot ≡ slot → ⊥) → the_part
     other_part m some differ =
         let keep : elsewhere slot m ≡ true = ap not (ne_eqb m.slot slot differ) in
-        let right : held_by (find test (within (but slot P) ms)) ≡ held_by (Some m) =
-        ap (λ (l : List Member). held_by (find test l)) (within_but slot P ms) ∙ ap held_by (find_kept test (elsewhere slot) (within P ms) m keep some) in
+        let right : member_contents (find test (within (but slot P) ms)) ≡ member_contents (Some m) =
+        ap (λ (l : List Member). member_contents (find test l)) (within_but slot P ms) ∙ ap member_contents (find_kept test (elsewhere slot) (within P ms) m keep some) in
         alike (found_after (Some m) some ∙ held_elsewhere m differ ∙ sym right)
 
     disk_parts : (m : Member) → test m ≡ true → (m.header.number ≡ x) × (m.header.birth ≡ e.birth)
@@ -246,8 +246,8 @@ module _ (ms : List Member) (slot : ℕ) (d : Metadata) (distinct : AreDistinct 
         let also = disk_parts n passes in
         let slot_same : n.slot ≡ m.slot = distinct n m (among_within P ms n (among_filter (elsewhere slot) (within P ms) n h)) among (also.0 ∙ sym disk.0) (also.1 ∙ sym disk.1) in
         both_ways (n.slot == slot) (not-true (n.slot == slot) (filter_out (elsewhere slot) (within P ms) n h)) (eq-eqb n.slot slot (slot_same ∙ at))) in
-        let right : held_by (find test (within (but slot P) ms)) ≡ [] =
-        ap (λ (l : List Member). held_by (find test l)) (within_but slot P ms) ∙ ap held_by (find_nothing test (filter (elsewhere slot) (within P ms)) never) in
+        let right : member_contents (find test (within (but slot P) ms)) ≡ [] =
+        ap (λ (l : List Member). member_contents (find test l)) (within_but slot P ms) ∙ ap member_contents (find_nothing test (filter (elsewhere slot) (within P ms)) never) in
         changed
         (record {
           member = m;
@@ -319,8 +319,8 @@ commit_disk old new g r m change is d =
       units = λ e entry birth. subst (λ (x : Metadata). e.units ≤ units_in m.header.shape x.size) (sym others) (d.units e entry birth);
     }
 
-module _ (id : ℕ) (old : Image) (groups : List Group) (completed : Option Status) (begun : List Status) (sound : SoundBy id old groups completed begun) (slot : ℕ) (bytes : List ℕ)
-    (step : IsCommitted id old groups completed begun slot bytes) where
+module _ (id : ℕ) (old : ImageBytes) (groups : List Group) (completed : Option Status) (begun : List Status) (sound : SoundBy id old groups completed begun) (slot : ℕ) (bytes : List ℕ)
+    (step : IsCopyCommitted id old groups completed begun slot bytes) where
   abbrev ms : List Member
   ms = all_members id old
 
@@ -431,11 +431,11 @@ module _ (id : ℕ) (old : Image) (groups : List Group) (completed : Option Stat
   }
 
   by_outcome : Outcome id old (written old slot bytes) groups completed begun slot (disk_of old slot).content d.content → SoundBy id (written old slot bytes) groups completed begun
-  by_outcome (kept same) = from_cover (λ r counts not_gone. cover_replaced id old (written old slot bytes) groups completed begun sound f keeps
+  by_outcome (keeps_old_content same) = from_cover (λ r counts not_gone. cover_replaced id old (written old slot bytes) groups completed begun sound f keeps
       (λ m h. at_change id old slot d (λ a b. b.disk.content ≡ a.disk.content) (λ a is. same ∙ ap (λ (x : Metadata). x.content) (sym is)) (λ a. refl) m h) disks step.copies r counts not_gone
       (λ s e h k. (sound.covered r counts not_gone).entry_births s e (subst (λ (l : List Status). IsAmong l s) (statuses_map f id ms statuses_same) h) k))
-  by_outcome (lost none) = from_cover (λ r counts not_gone. covered_after r counts not_gone (one_lost none r counts not_gone) (described_lost none r counts not_gone))
-  by_outcome (gained k some known) = from_cover (λ r counts not_gone. covered_after r counts not_gone (one_gained k some known r counts not_gone) (described_gained k some known r counts not_gone))
+  by_outcome (loses_content none) = from_cover (λ r counts not_gone. covered_after r counts not_gone (one_lost none r counts not_gone) (described_lost none r counts not_gone))
+  by_outcome (gains_content k some known) = from_cover (λ r counts not_gone. covered_after r counts not_gone (one_gained k some known r counts not_gone) (described_gained k some known r counts not_gone))
 
   pub commit_keeps : SoundBy id (written old slot bytes) groups completed begun
   commit_keeps = by_outcome step.outcome

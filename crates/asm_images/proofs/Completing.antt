@@ -5,7 +5,7 @@ use Rattle.asm_formats.specs.Among.{IsAmong}
 use Rattle.asm_formats.specs.Status.{Status}
 use Rattle.asm_formats.specs.Following.{rank}
 use Rattle.asm_formats.specs.Metadata.{Metadata}
-use Rattle.asm_images.specs.Members.{Image, Member, within, of_group, statuses, all_members, disk_of}
+use Rattle.asm_images.specs.Members.{ImageBytes, Member, within, of_group, statuses, all_members, disk_of}
 use Rattle.asm_images.specs.Register.{Fits, current_records, IsOlder, HoldsOne, greatest, is_enough}
 use Rattle.asm_group.specs.Group.{Group}
 use Rattle.asm_images.specs.Sound.{IsCovered, SoundBy}
@@ -17,7 +17,7 @@ use Rattle.asm_images.proofs.Recording.{not_older}
 use Rattle.asm_images.proofs.Sharing.{enough_meet, current_share, shares_itself}
 use Rattle.asm_images.specs.Laws.{ShareASet}
 
-module _ (id : ℕ) (image : Image) (groups : List Group) (completed : Option Status) (begun : List Status) (sound : SoundBy id image groups completed begun) (r : Status) (done : IsComplete id image completed begun r) where
+module _ (id : ℕ) (image : ImageBytes) (groups : List Group) (completed : Option Status) (begun : List Status) (sound : SoundBy id image groups completed begun) (r : Status) (done : IsComplete id image completed begun r) where
   abbrev the_members : List Member
   the_members = all_members id image
 

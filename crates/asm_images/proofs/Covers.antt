@@ -12,10 +12,10 @@ use Rattle.asm_formats.specs.Header.{Header}
 use Rattle.asm_formats.specs.Status.{Status, Entry, entry_of}
 use Rattle.asm_formats.specs.Content.{Content}
 use Rattle.asm_formats.specs.Among.{IsAmong}
-use Rattle.asm_images.specs.Members.{Image, Member, all_members, within, is_disk}
-use Rattle.asm_images.specs.Directories.{newest, held_by, copy_on, copies, IsNamed}
+use Rattle.asm_images.specs.Members.{ImageBytes, Member, all_members, within, is_disk}
+use Rattle.asm_images.specs.Directories.{newest, member_contents, copy_on, copies, IsNamed}
 use Rattle.asm_images.specs.Copies.{is_kept}
-use Rattle.asm_images.specs.Stands.{Describes, HasUnits}
+use Rattle.asm_images.specs.Stands.{Describes, HasEntryUnits}
 use Rattle.asm_images.specs.Sound.{IsCovered}
 use Rattle.asm_images.specs.RecordLaws.{bare, ChangesModes}
 use Rattle.asm_formats.specs.Metadata.{header_of}
@@ -31,11 +31,11 @@ same_copy ms d None (Some y) e = absurd cc
 same_copy ms d (Some x) None e = absurd cc
 same_copy ms d (Some x) (Some y) e =
     let birth : x.birth ≡ y.birth = ap (λ (b : Bare). b.1) (same_Some (bare x) (bare y) e) in
-    ap (λ (n : ℕ). held_by (find (λ (m : Member). is_disk d n m.header) ms)) birth
+    ap (λ (n : ℕ). member_contents (find (λ (m : Member). is_disk d n m.header) ms)) birth
 
 -- ---- other modes
 
-module _ (id : ℕ) (image : Image) (groups : List Group) (r s : Status) (change : ChangesModes r s) (cover : IsCovered id image (all_members id image) groups r) where
+module _ (id : ℕ) (image : ImageBytes) (groups : List Group) (r s : Status) (change : ChangesModes r s) (cover : IsCovered id image (all_members id image) groups r) where
   abbrev ms : List Member
   ms = all_members id image
 
@@ -55,7 +55,7 @@ module _ (id : ℕ) (image : Image) (groups : List Group) (r s : Status) (change
         birth = sym (ap (λ (b : Bare). b.1) e.same) ∙ named.birth;
       }
 
-  same_units : (m : Member) → HasUnits r m → HasUnits s m
+  same_units : (m : Member) → HasEntryUnits r m → HasEntryUnits s m
   same_units m units e is birth =
       let b = has_bare s.entries r.entries m.header.number e change.entries is in
       subst (λ (n : ℕ). n ≤ units_in m.header.shape m.disk.size) (sym (ap (λ (b : Bare). b.2) b.same)) (units b.entry b.is (sym (ap (λ (b : Bare). b.1) b.same) ∙ birth))
@@ -126,7 +126,7 @@ filter_twice {A} p q k (x ∷ xs) same =
     go true rest = λ i. cond (same x (inl refl) i) (x ∷ rest i) (rest i)
     go false rest = rest
 
-module _ (id : ℕ) (image : Image) (r : Status) (fewer : ℕ) (less : (d : ℕ) → has_bit fewer d ≡ true → has_bit r.directories d ≡ true) where
+module _ (id : ℕ) (image : ImageBytes) (r : Status) (fewer : ℕ) (less : (d : ℕ) → has_bit fewer d ≡ true → has_bit r.directories d ≡ true) where
   abbrev them : List Member
   them = all_members id image
 
@@ -170,12 +170,12 @@ module _ (id : ℕ) (image : Image) (r : Status) (fewer : ℕ) (less : (d : ℕ)
 
   kept_copy : (all : List Member) (d : ℕ) (o : Option Entry) → has_bit fewer d ≡ true → copy_on (filter is_left all) d o ≡ copy_on all d o
   kept_copy all d None left = refl
-  kept_copy all d (Some e) left = ap held_by (sym (find_filter (λ (m : Member). is_disk d e.birth m.header) is_left all
+  kept_copy all d (Some e) left = ap member_contents (sym (find_filter (λ (m : Member). is_disk d e.birth m.header) is_left all
       (λ m h no. other_number d e.birth m true left (λ also. both_ways (is_left m) no also))))
 
   lost_copy : (all : List Member) (d : ℕ) (o : Option Entry) → has_bit fewer d ≡ false → copy_on (filter is_left all) d o ≡ []
   lost_copy all d None gone = refl
-  lost_copy all d (Some e) gone = ap held_by (find_none (λ (m : Member). is_disk d e.birth m.header) (filter is_left all)
+  lost_copy all d (Some e) gone = ap member_contents (find_none (λ (m : Member). is_disk d e.birth m.header) (filter is_left all)
       (λ m h. other_number d e.birth m false gone (λ also. both_ways (is_left m) also (filter_out is_left all m h))))
 
   each_copy : (all : List Member) (d : ℕ) → cond (has_bit r.directories d) (copy_on (filter is_left all) d (entry_of r.entries d)) [] ≡ cond (has_bit fewer d) (copy_on all d (entry_of r.entries d)) []
@@ -230,7 +230,7 @@ module _ (id : ℕ) (image : Image) (r : Status) (fewer : ℕ) (less : (d : ℕ)
     bytes = λ f o b i inner copy file h m is cell lies hm current. d.bytes f o b i inner copy file h m is cell lies hm (record { home = current.home; kept = current.kept; fresh = current.fresh });
   }
 
-pub fewer_copies_are_covered : (id : ℕ) (image : Image) (groups : List Group) (r : Status) (fewer : ℕ) → ((d : ℕ) → has_bit fewer d ≡ true → has_bit r.directories d ≡ true)
+pub fewer_copies_are_covered : (id : ℕ) (image : ImageBytes) (groups : List Group) (r : Status) (fewer : ℕ) → ((d : ℕ) → has_bit fewer d ≡ true → has_bit r.directories d ≡ true)
     → IsCovered id image (all_members id image) groups r → IsCovered id image (all_members id image) groups (record r { directories = fewer })
 fewer_copies_are_covered id image groups r fewer less cover = record {
   one_content = λ m n c d hm hn named_m named_n is_c is_d e. cover.one_content m n c d hm hn (still_named id image r fewer less m.header named_m) (still_named id image r fewer less n.header named_n) is_c is_d e;

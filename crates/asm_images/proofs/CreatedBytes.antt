@@ -9,7 +9,7 @@ use Rattle.std.proofs.lemmas.Grind.{same_number_lists}
 use Rattle.asm_group.specs.Shape.{is_shape}
 use Rattle.asm_group.specs.Names.{is_name}
 use Rattle.asm_group.specs.NewGroup.{system_templates}
-use Rattle.asm_formats.specs.Bytes.{block_size, open_byte, piece, block, is_open, whole_block, number, name_field}
+use Rattle.asm_formats.specs.Bytes.{block_size, open_byte, piece, block, is_open, whole_block, number_bytes, name_field}
 use Rattle.asm_formats.specs.Regions.{least_size, has_region, page_home, first_log, second_log}
 use Rattle.asm_formats.specs.Sets.{has_bit, elements}
 use Rattle.asm_formats.specs.Header.{Header, header_fields, header_spelling, is_header, decoded_header}
@@ -103,26 +103,26 @@ zero_len : length zero_block ≡ block_size
 zero_len = length-replicate {A = ℕ} block_size 0
 
 header_len : length (header_spelling only_header) ≡ block_size
-unfolding header_spelling header_fields number name_field
+unfolding header_spelling header_fields number_bytes name_field
 header_len = whole_len (header_fields only_header) (lit≤ tt)
 
 claim_len : length (claim_spelling only_claim) ≡ block_size
-unfolding claim_spelling number
+unfolding claim_spelling number_bytes
 claim_len = whole_len _ (lit≤ tt)
 
 status_len : length (status_spelling first_record) ≡ block_size
-unfolding status_spelling front_fields tail_fields number entry_fields
+unfolding status_spelling front_fields tail_fields number_bytes entry_fields
 status_len = whole_len _ (lit≤ tt)
 
 abbrev first_head : LogHead
 first_head = record { commit = 1; pages = [] }
 
 head_len : length (log_head_spelling first_head) ≡ block_size
-unfolding log_head_spelling number
+unfolding log_head_spelling number_bytes
 head_len = whole_len _ (lit≤ tt)
 
 record_len : (i : Item) → is_item i ≡ true → length (record_spelling i) ≡ block_size
-unfolding frame_spelling number
+unfolding frame_spelling number_bytes
 record_len i ok = let short : length (value i) ≤ most_value = len_value i ok in whole_len _ (omega (arith, short))
 
 -- ---- the bodies are allowed

@@ -11,7 +11,7 @@ use Rattle.asm_formats.specs.Metadata.{Metadata, metadata}
 use Rattle.asm_formats.specs.Content.{Content}
 use Rattle.asm_images.specs.Tables.{node_of}
 use Rattle.asm_placement.specs.Tables.{head_of, homes_in, home_of}
-use Rattle.asm_images.specs.Members.{Image, Member, members, within, statuses, all_members}
+use Rattle.asm_images.specs.Members.{ImageBytes, Member, members, within, statuses, all_members}
 use Rattle.asm_images.specs.Register.{Fits, HoldsOne, greatest, is_enough, status}
 use Rattle.asm_images.specs.Directories.{newest, directories, copies}
 use Rattle.asm_images.specs.Stands.{Describes, IsDiskOf}
@@ -151,7 +151,7 @@ disk_is m h = ⊎_elim (λ (e : m ≡ only). subst (λ (x : Member). IsDiskOf cr
   units = λ e is birth. omega (arith, ap (λ (x : Entry). x.units) (same_Some only_entry e is));
 })) (λ none. absurd none) h
 
-describes_all : (image : Image) → Describes image (only ∷ []) (only ∷ []) first_record first_content created_group
+describes_all : (image : ImageBytes) → Describes image (only ∷ []) (only ∷ []) first_record first_content created_group
 describes_all image = record {
   distinct = fits.distinct;
   disks = disk_is;
@@ -172,7 +172,7 @@ nothing_readable = refl
 is_only : (m : Member) → IsAmong (only ∷ []) m → m ≡ only
 is_only m h = ⊎_elim (λ e. e) (λ none. absurd none) h
 
-cover : (image : Image) → IsCovered 65536 image (only ∷ []) (created_group ∷ []) first_record
+cover : (image : ImageBytes) → IsCovered 65536 image (only ∷ []) (created_group ∷ []) first_record
 cover image = record {
   one_content = λ m n c d hm hn named_m named_n is_c is_d e.
       let content : (x : Member) (k : Content) → IsAmong (only ∷ []) x → x.disk.content ≡ Some k → k ≡ first_content =

@@ -5,7 +5,7 @@ use Rattle.asm_group.specs.Shape.{Shape}
 use Rattle.asm_formats.specs.Status.{Status}
 use Rattle.asm_formats.specs.Content.{Content}
 use Rattle.asm_images.specs.Describing.{extent_size}
-use Rattle.asm_images.specs.Members.{Image, Member, metadata_of, within, members, all_members, byte}
+use Rattle.asm_images.specs.Members.{ImageBytes, Member, metadata_of, within, members, all_members, byte}
 use Rattle.asm_images.specs.Register.{Fits, current_records}
 use Rattle.asm_images.specs.Directories.{directories}
 use Rattle.asm_images.specs.Stands.{Describes, Standing, Stands}
@@ -16,7 +16,7 @@ use Rattle.asm_images.proofs.Membership.{among_within}
 use Rattle.asm_images.proofs.History.{status_parts, status_counts}
 
 -- what holds of all members holds of those that can be read
-pub described_within : (image : Image) (ms : List Member) (slots : ℕ → Bool) (r : Status) (c : Content) (g : Group) → Describes image ms ms r c g → Describes image ms (within slots ms) r c g
+pub described_within : (image : ImageBytes) (ms : List Member) (slots : ℕ → Bool) (r : Status) (c : Content) (g : Group) → Describes image ms ms r c g → Describes image ms (within slots ms) r c g
 described_within image ms slots r c g d = record {
   distinct = d.distinct;
   disks = λ m h. d.disks m (among_within slots ms m h);
@@ -26,7 +26,7 @@ described_within image ms slots r c g d = record {
   bytes = d.bytes;
 }
 
-pub standing_stands : (id : ℕ) (image : Image) (groups : List Group) (slots : ℕ → Bool) → Sound id image groups → (s : Standing id image slots) → (g : Group) × IsAmong groups g × Stands id image slots s g
+pub standing_stands : (id : ℕ) (image : ImageBytes) (groups : List Group) (slots : ℕ → Bool) → Sound id image groups → (s : Standing id image slots) → (g : Group) × IsAmong groups g × Stands id image slots s g
 standing_stands id image groups slots sound s =
     let ms = all_members id image in
     let counts = status_counts id ms sound.completed sound.begun slots s.record_ sound.holds.fits s.status_is in
@@ -34,16 +34,16 @@ standing_stands id image groups slots sound s =
     let found = (sound.holds.covered s.record_ counts not_gone).described slots s.content s.directories_is in
     (found.0, found.1, described_within image ms slots s.record_ s.content found.0 found.2)
 
-pub nothing_stands : (id : ℕ) (image : Image) (slots : ℕ → Bool) → Sound id image [] → Standing id image slots → ⊥
+pub nothing_stands : (id : ℕ) (image : ImageBytes) (slots : ℕ → Bool) → Sound id image [] → Standing id image slots → ⊥
 nothing_stands id image slots sound s = (standing_stands id image [] slots sound s).1
 
 -- what is found in an open content of the old image is found in the new one
-abbrev pub Carries : (id : ℕ) (old new : Image) (groups later : List Group) → Option Status → List Status → Type 0
+abbrev pub Carries : (id : ℕ) (old new : ImageBytes) (groups later : List Group) → Option Status → List Status → Type 0
 Carries id old new groups later completed begun =
     (r : Status) (c : Content) (P : ℕ → Bool) (g : Group) → IsAmong (current_records completed begun) r → r.gone ≡ false → directories r (within P (all_members id old)) ≡ Some c
     → IsAmong groups g → Describes old (all_members id old) (all_members id old) r c g → (h : Group) × IsAmong later h × Describes new (all_members id old) (all_members id old) r c h
 
-carried_cover : (id : ℕ) (old new : Image) (groups later : List Group) (completed : Option Status) (begun : List Status) (sound : SoundBy id old groups completed begun) → Carries id old new groups later completed begun
+carried_cover : (id : ℕ) (old new : ImageBytes) (groups later : List Group) (completed : Option Status) (begun : List Status) (sound : SoundBy id old groups completed begun) → Carries id old new groups later completed begun
     → (r : Status) → IsAmong (current_records completed begun) r → r.gone ≡ false → IsCovered id new (all_members id old) later r
 carried_cover id old new groups later completed begun sound carries r counts not_gone =
     let before = sound.covered r counts not_gone in
@@ -55,7 +55,7 @@ carried_cover id old new groups later completed begun sound carries r counts not
     }
 
 -- A change that leaves the metadata keeps the history; what remains is what the contents describe.
-pub carried : (id : ℕ) (old new : Image) (groups later : List Group) (completed : Option Status) (begun : List Status) (sound : SoundBy id old groups completed begun) → metadata_of new ≡ metadata_of old → Carries id old new groups later completed begun → SoundBy id new later completed begun
+pub carried : (id : ℕ) (old new : ImageBytes) (groups later : List Group) (completed : Option Status) (begun : List Status) (sound : SoundBy id old groups completed begun) → metadata_of new ≡ metadata_of old → Carries id old new groups later completed begun → SoundBy id new later completed begun
 carried id old new groups later completed begun sound same carries =
     let members_same : all_members id new ≡ all_members id old = ap (members id) same in
     record {
@@ -65,7 +65,7 @@ carried id old new groups later completed begun sound same carries =
 
 -- ---- spare bytes
 
-spare_bytes : (id : ℕ) (old new : Image) (groups : List Group) (completed : Option Status) (begun : List Status) (sound : SoundBy id old groups completed begun) → IsSpare id old new completed begun → Carries id old new groups groups completed begun
+spare_bytes : (id : ℕ) (old new : ImageBytes) (groups : List Group) (completed : Option Status) (begun : List Status) (sound : SoundBy id old groups completed begun) → IsSpare id old new completed begun → Carries id old new groups groups completed begun
 spare_bytes id old new groups completed begun sound spare r c P g counts not_gone found among d =
     let ms = all_members id old in
     let is_open : IsOpen id old completed begun r d.items = record { counts = counts; not_gone = not_gone; readable = P; content = c; found = found; decodes = d.decodes } in (
@@ -86,5 +86,5 @@ spare_bytes id old new groups completed begun sound spare r c P g counts not_gon
       },
     )
 
-pub spare_keeps : (id : ℕ) (old new : Image) (groups : List Group) (completed : Option Status) (begun : List Status) (sound : SoundBy id old groups completed begun) → IsSpare id old new completed begun → SoundBy id new groups completed begun
+pub spare_keeps : (id : ℕ) (old new : ImageBytes) (groups : List Group) (completed : Option Status) (begun : List Status) (sound : SoundBy id old groups completed begun) → IsSpare id old new completed begun → SoundBy id new groups completed begun
 spare_keeps id old new groups completed begun sound spare = carried id old new groups groups completed begun sound spare.metadata (spare_bytes id old new groups completed begun sound spare)

@@ -13,10 +13,10 @@ use Rattle.asm_formats.specs.Sets.{elements}
 use Rattle.asm_formats.specs.Status.{Status, entry_of}
 use Rattle.asm_formats.specs.Among.{IsAmong}
 use Rattle.asm_images.specs.Bridge.{disk_bytes, disks_in, ChangesSlot}
-use Rattle.asm_images.specs.Directories.{copies, copy_on, held_by, to_list, newer, newest, directories, IsNamed}
+use Rattle.asm_images.specs.Directories.{copies, copy_on, member_contents, to_list, newer, newest, directories, IsNamed}
 use Rattle.asm_images.specs.Kept.{Kept, IsMemberIn, IsHeld, CompleteStands, HeldStands, SameIsHeld, BystandersAreHeld}
-use Rattle.asm_images.specs.Members.{Image, Member, with_member, members_from, members, metadata_of, all_members, within, written, statuses, is_disk, disk_of}
-use Rattle.asm_images.specs.Register.{HoldsOne, greatest, is_enough, status, status_by}
+use Rattle.asm_images.specs.Members.{ImageBytes, Member, with_member, members_from, members, metadata_of, all_members, within, written, statuses, is_disk, disk_of}
+use Rattle.asm_images.specs.Register.{HoldsOne, greatest, is_enough, status, status_if_enough}
 use Rattle.asm_images.specs.Sound.{SoundBy}
 use Rattle.asm_images.specs.Stands.{Standing}
 use Rattle.asm_images.proofs.Bridges.{slot_change, same_is_same, same_disk}
@@ -47,7 +47,7 @@ no_newest (x ∷ xs) c e h = go (newest xs) e
 
 -- ---- Status and directories are there
 
-module _ (id : ℕ) (image : Image) (groups : List Group) (s : Status) (slots : ℕ → Bool) (m : Member) (c : Content) (sound : SoundBy id image groups (Some s) []) (not_gone : s.gone ≡ false)
+module _ (id : ℕ) (image : ImageBytes) (groups : List Group) (s : Status) (slots : ℕ → Bool) (m : Member) (c : Content) (sound : SoundBy id image groups (Some s) []) (not_gone : s.gone ≡ false)
     (enough : IsTrue (is_enough s (within slots (all_members id image)))) (inside : IsAmong (within slots (all_members id image)) m) (named : IsNamed s m.header) (is : m.disk.content ≡ Some c) where
   abbrev ms : List Member
   ms = all_members id image
@@ -74,7 +74,7 @@ module _ (id : ℕ) (image : Image) (groups : List Group) (s : Status) (slots : 
 
   status_is : status id left ≡ Some s
   unfolding status
-  status_is = ap (status_by left) s_is_greatest ∙ cond-true (is_enough s left && not s.gone) (Some s) None (λ i. enough i && not (not_gone i))
+  status_is = ap (status_if_enough left) s_is_greatest ∙ cond-true (is_enough s left && not s.gone) (Some s) None (λ i. enough i && not (not_gone i))
 
   -- the copy is listed
   is_listed : IsAmong (copies s left) c
@@ -89,7 +89,7 @@ module _ (id : ℕ) (image : Image) (groups : List Group) (s : Status) (slots : 
       let at_m = among_within slots ms m inside in
       let slot : n.0.slot ≡ m.slot = sound.fits.distinct n.0 m at_n at_m (eqb-true n.0.header.number m.header.number p.0) (eqb-true n.0.header.birth named.entry.birth p.1 ∙ named.birth) in
       let same : n.0.disk ≡ m.disk = (member_is id image n.0 at_n).disk ∙ ap (λ (k : ℕ). disk_of image k) slot ∙ sym (member_is id image m at_m).disk in
-      let held : held_by (find test left) ≡ c ∷ [] = ap held_by n.1 ∙ ap (λ (d : Metadata). to_list d.content) same ∙ ap to_list is in
+      let held : member_contents (find test left) ≡ c ∷ [] = ap member_contents n.1 ∙ ap (λ (d : Metadata). to_list d.content) same ∙ ap to_list is in
       let listed : copy_on left m.header.number (entry_of s.entries m.header.number) ≡ c ∷ [] = ap (copy_on left m.header.number) named.entry_is ∙ held in
       flat_map_among (λ (d : ℕ). copy_on left d (entry_of s.entries d)) (elements s.directories) m.header.number c named.named (subst (λ (l : List Content). IsAmong l c) (sym listed) (inl refl))
 
@@ -128,8 +128,8 @@ same_member id slot old new same (h, found, named) = (h, ap header_of same ∙ f
 
 pub same_is_held : SameIsHeld
 same_is_held = λ n id groups kept old new same is. record {
-  sound = λ slots. subst (λ (image : Image). SoundBy id image groups (Some kept.completed) kept.begun) (sym (same_is_same slots old new same)) (is.sound slots);
-  standing = subst (λ (image : Image). Standing id image kept.slots) (sym (same_is_same n old new same)) is.standing;
+  sound = λ slots. subst (λ (image : ImageBytes). SoundBy id image groups (Some kept.completed) kept.begun) (sym (same_is_same slots old new same)) (is.sound slots);
+  standing = subst (λ (image : ImageBytes). Standing id image kept.slots) (sym (same_is_same n old new same)) is.standing;
   there = λ slot has. same_member id slot old new (same_disk old new slot (same.size slot) (λ k. same.byte slot k)) (is.there slot has);
 }
 
@@ -166,7 +166,7 @@ unseen id slot (suc k) at P d (disk ∷ disks) e out = go disk.header (unseen id
         let m : Member = record { slot = slot; header = h; disk = disk } in
         with_both P (h.id == id) m (members_from id (suc slot) (set disks k d)) (members_from id (suc slot) disks) rest
 
-unseen_members : (id slot : ℕ) (P : ℕ → Bool) (image : Image) (bytes : List ℕ) → P slot ≡ false → within P (all_members id (written image slot bytes)) ≡ within P (all_members id image)
+unseen_members : (id slot : ℕ) (P : ℕ → Bool) (image : ImageBytes) (bytes : List ℕ) → P slot ≡ false → within P (all_members id (written image slot bytes)) ≡ within P (all_members id image)
 unfolding members
 unseen_members id slot P image bytes out =
     ap (λ (l : List Metadata). within P (members_from id 0 l)) (map-set metadata image slot bytes) ∙ unseen id 0 slot slot P (metadata bytes) (metadata_of image) (omega arith) out
@@ -176,7 +176,7 @@ module _ (n id slot : ℕ) (groups : List Group) (kept : Kept) (old new : bay.Im
   other_disk s differ = same_disk old new s (changes.size s differ) (λ k. changes.byte s k differ)
 
   same_left : within kept.slots (all_members id (disks_in n new)) ≡ within kept.slots (all_members id (disks_in n old))
-  same_left = ap (λ (i : Image). within kept.slots (all_members id i)) (slot_change n slot old new changes) ∙ unseen_members id slot kept.slots (disks_in n old) (disk_bytes new slot) out
+  same_left = ap (λ (i : ImageBytes). within kept.slots (all_members id i)) (slot_change n slot old new changes) ∙ unseen_members id slot kept.slots (disks_in n old) (disk_bytes new slot) out
 
   pub still_standing : Standing id (disks_in n new) kept.slots
   still_standing = record {

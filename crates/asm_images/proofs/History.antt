@@ -6,7 +6,7 @@ use Rattle.asm_formats.specs.Among.{IsAmong}
 use Rattle.asm_formats.specs.Status.{Status}
 use Rattle.asm_formats.specs.Following.{rank}
 use Rattle.asm_images.specs.Members.{Member, within, statuses, of_group}
-use Rattle.asm_images.specs.Register.{Fits, current_records, IsOlder, HoldsOne, greater, greatest, status_by, status, is_enough}
+use Rattle.asm_images.specs.Register.{Fits, current_records, IsOlder, HoldsOne, greater, greatest, status_if_enough, status, is_enough}
 use Rattle.asm_images.proofs.Membership.{among_within, among_flat_map, flat_map_among}
 
 -- the greatest of the records is one of them, and none is greater
@@ -57,9 +57,9 @@ unfolding status
 status_parts id ms r e = go (greatest (statuses id ms)) refl
   where
     go : (o : Option Status) → greatest (statuses id ms) ≡ o → IsStatus id ms r
-    go None none = absurd (let h : None ≡ Some r = subst (λ (o : Option Status). status_by ms o ≡ Some r) none e in cc)
+    go None none = absurd (let h : None ≡ Some r = subst (λ (o : Option Status). status_if_enough ms o ≡ Some r) none e in cc)
     go (Some s) some =
-        let h : cond (is_enough s ms && not s.gone) (Some s) None ≡ Some r = subst (λ (o : Option Status). status_by ms o ≡ Some r) some e in
+        let h : cond (is_enough s ms && not s.gone) (Some s) None ≡ Some r = subst (λ (o : Option Status). status_if_enough ms o ≡ Some r) some e in
         let p = cond_some (is_enough s ms && not s.gone) s r h in
         let q = and_parts (is_enough s ms) (not s.gone) p.0 in
         subst (λ (t : Status). IsStatus id ms t) p.1 (record { greatest_ = some; enough = q.0; not_gone = not-true s.gone q.1 })

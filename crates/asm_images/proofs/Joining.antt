@@ -18,8 +18,8 @@ use Rattle.asm_formats.specs.Metadata.{Metadata, metadata, header_of}
 use Rattle.asm_formats.specs.Content.{Content}
 use Rattle.asm_formats.specs.Items.{Item, Home}
 use Rattle.asm_images.specs.Describing.{extent_size}
-use Rattle.asm_images.specs.Directories.{newest, copies, copy_on, held_by, directories}
-use Rattle.asm_images.specs.Members.{Image, Member, with_member, members_from, members, metadata_of, within, is_disk, has_disk, of_group, statuses, claims, claims_of_group, AreDistinct, all_members, byte, written}
+use Rattle.asm_images.specs.Directories.{newest, copies, copy_on, member_contents, directories}
+use Rattle.asm_images.specs.Members.{ImageBytes, Member, with_member, members_from, members, metadata_of, within, is_disk, has_disk, of_group, statuses, claims, claims_of_group, AreDistinct, all_members, byte, written}
 use Rattle.asm_images.specs.Register.{Fits, current_records, HoldsOne, HasEpoch, greatest, is_majority, is_enough}
 use Rattle.asm_images.specs.Stands.{Describes, IsDiskOf}
 use Rattle.asm_images.specs.Copies.{IsCurrent, is_kept, is_disk_in}
@@ -69,7 +69,7 @@ others_from id slot zero n d (disk ∷ disks) is =
     out d ∙ sym (out disk)
 others_from id slot (suc k) n d (disk ∷ disks) is = head_same id slot n disk disk.header (members_from id (suc slot) (set disks k d)) (members_from id (suc slot) disks) (others_from id (suc slot) k n d disks (omega arith))
 
-others_same : (id : ℕ) (old : Image) (slot : ℕ) (bytes : List ℕ) → filter (elsewhere slot) (all_members id (written old slot bytes)) ≡ filter (elsewhere slot) (all_members id old)
+others_same : (id : ℕ) (old : ImageBytes) (slot : ℕ) (bytes : List ℕ) → filter (elsewhere slot) (all_members id (written old slot bytes)) ≡ filter (elsewhere slot) (all_members id old)
 unfolding members
 others_same id old slot bytes = ap (λ (l : List Metadata). filter (elsewhere slot) (members_from id 0 l)) (map-set metadata old slot bytes)
     ∙ others_from id 0 slot slot (metadata bytes) (metadata_of old) (omega arith)
@@ -95,7 +95,7 @@ within_but slot P ms = filter_and (λ (m : Member). P m.slot) (elsewhere slot) m
 -- ---- fewer members
 
 -- What described all members describes some of them.
-pub described_fewer : (old new : Image) (ms ns : List Member) (r : Status) (c : Content) (g : Group) → ((m : Member) → IsAmong ns m → IsAmong ms m)
+pub described_fewer : (old new : ImageBytes) (ms ns : List Member) (r : Status) (c : Content) (g : Group) → ((m : Member) → IsAmong ns m → IsAmong ms m)
     → ((items : List Item) → c.items ≡ Some items → (f i copy inner : ℕ) (h : Home) (m : Member) → IsAmong ms m → IsCurrent r items f i copy h m → inner < extent_size m.header.shape i
     → byte new m.slot (h.unit * m.header.shape.au + inner) ≡ byte old m.slot (h.unit * m.header.shape.au + inner))
     → Describes old ms ms r c g → Describes new ns ns r c g
@@ -113,7 +113,7 @@ described_fewer old new ms ns r c g fewer kept d = record {
       same ∙ d.bytes f o b i inner copy file h m is_file cell lies (fewer m is_member) current;
 }
 
-module _ (id : ℕ) (old : Image) (groups : List Group) (completed : Option Status) (begun : List Status) (sound : SoundBy id old groups completed begun) (slot : ℕ) (bytes : List ℕ)
+module _ (id : ℕ) (old : ImageBytes) (groups : List Group) (completed : Option Status) (begun : List Status) (sound : SoundBy id old groups completed begun) (slot : ℕ) (bytes : List ℕ)
     (step : IsLeaving id old completed begun slot bytes) where
   abbrev before : List Member
   before = all_members id old
@@ -238,7 +238,7 @@ birth_in_sets entries holders next set h among k = cond_both (next == 0) [] (dis
     (λ no a. ⊎_elim (λ same. birth_in entries holders h (subst (λ (s : List Holder). IsAmong s h) same k))
     (λ more. ⊎_elim (λ same. birth_in entries next h (subst (λ (s : List Holder). IsAmong s h) same k)) (λ none. absurd none) more) a) among
 
-module _ (id : ℕ) (old : Image) (groups : List Group) (completed : Option Status) (begun : List Status) (sound : SoundBy id old groups completed begun) (slot : ℕ) (bytes : List ℕ) (h : Header)
+module _ (id : ℕ) (old : ImageBytes) (groups : List Group) (completed : Option Status) (begun : List Status) (sound : SoundBy id old groups completed begun) (slot : ℕ) (bytes : List ℕ) (h : Header)
     (step : IsJoining id old groups completed begun slot bytes h) where
   abbrev olds : List Member
   olds = all_members id old
@@ -315,7 +315,7 @@ module _ (id : ℕ) (old : Image) (groups : List Group) (completed : Option Stat
 
   copy_within : (P : ℕ → Bool) (r : Status) → IsOther r → (x : ℕ) (o : Option Entry) → entry_of r.entries x ≡ o → copy_on (within P news) x o ≡ copy_on (within P olds) x o
   copy_within P r other x None is = refl
-  copy_within P r other x (Some e) is = ap held_by (find_filter (λ (m : Member). is_disk x e.birth m.header) (elsewhere slot) (within P news)
+  copy_within P r other x (Some e) is = ap member_contents (find_filter (λ (m : Member). is_disk x e.birth m.header) (elsewhere slot) (within P news)
       (λ m k out. not_disk x e.birth m (among_within P news m k) out (other e (entry_is_among r.entries x e is)))
       ∙ ap (λ (l : List Member). find (λ (m : Member). is_disk x e.birth m.header) l) (within_news P))
 
@@ -436,12 +436,12 @@ module _ (id : ℕ) (old : Image) (groups : List Group) (completed : Option Stat
 
 -- ---- a disk that is no member
 
-pub outside_members : (id : ℕ) (old : Image) (slot : ℕ) (bytes : List ℕ) → IsElsewhere id old slot bytes → all_members id (written old slot bytes) ≡ all_members id old
+pub outside_members : (id : ℕ) (old : ImageBytes) (slot : ℕ) (bytes : List ℕ) → IsElsewhere id old slot bytes → all_members id (written old slot bytes) ≡ all_members id old
 outside_members id old slot bytes step =
     sym (filter_all (elsewhere slot) (all_members id (written old slot bytes)) (λ m h. ap not (ne_eqb m.slot slot (step.after m h)))) ∙ others_same id old slot bytes
     ∙ filter_all (elsewhere slot) (all_members id old) (λ m h. ap not (ne_eqb m.slot slot (step.before m h)))
 
-pub outside_keeps : (id : ℕ) (old : Image) (groups : List Group) (completed : Option Status) (begun : List Status) → SoundBy id old groups completed begun
+pub outside_keeps : (id : ℕ) (old : ImageBytes) (groups : List Group) (completed : Option Status) (begun : List Status) → SoundBy id old groups completed begun
     → (slot : ℕ) (bytes : List ℕ) → IsElsewhere id old slot bytes → SoundBy id (written old slot bytes) groups completed begun
 outside_keeps id old groups completed begun sound slot bytes step =
     let new = written old slot bytes in

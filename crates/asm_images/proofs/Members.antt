@@ -8,7 +8,7 @@ use Rattle.asm_formats.specs.Regions.{least_size}
 use Rattle.asm_group.specs.Shape.{is_shape}
 use Rattle.asm_formats.specs.Header.{Header, decoded_header, is_header}
 use Rattle.asm_formats.specs.Metadata.{Metadata, metadata, header_of}
-use Rattle.asm_images.specs.Members.{Image, Member, with_member, members_from, members, metadata_of, all_members}
+use Rattle.asm_images.specs.Members.{ImageBytes, Member, with_member, members_from, members, metadata_of, all_members}
 use Rattle.asm_images.proofs.Codecs.{header_spelled}
 
 -- the member is the disk of slot k of the list, whose first slot is this one
@@ -61,7 +61,7 @@ among_members id slot (suc k) n (disk ∷ disks) d h is lt e group =
     (among_members id (suc slot) k n disks d h (omega arith) (omega arith) e group)
 
 -- the member is the disk of its slot
-pub record IsMember (id : ℕ) (image : Image) (m : Member) : Type 0 where
+pub record IsMember (id : ℕ) (image : ImageBytes) (m : Member) : Type 0 where
   pub slot : m.slot < length image
   pub disk : m.disk ≡ metadata (get_or image m.slot [])
   pub header : header_of (get_or image m.slot []) ≡ Some m.header
@@ -72,7 +72,7 @@ decoded_is_header : (bytes : List ℕ) (h : Header) → header_of bytes ≡ Some
 decoded_is_header bytes h e = cond_both (leb least_size (length bytes) && is_open bytes 0) (decoded_header (block bytes 1)) None (λ (o : Option Header). o ≡ Some h → is_header h ≡ true)
     (λ yes is. (header_spelled (block bytes 1) h is).allowed) (λ no is. absurd cc) e
 
-pub member_is : (id : ℕ) (image : Image) (m : Member) → IsAmong (all_members id image) m → IsMember id image m
+pub member_is : (id : ℕ) (image : ImageBytes) (m : Member) → IsAmong (all_members id image) m → IsMember id image m
 unfolding members metadata
 member_is id image m h =
     let f = from_members id 0 (metadata_of image) m h in

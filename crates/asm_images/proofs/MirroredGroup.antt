@@ -21,7 +21,7 @@ use Rattle.asm_formats.specs.Nodes.{entry_of_node}
 use Rattle.asm_formats.specs.Regions.{reserved_units}
 use Rattle.asm_formats.specs.Sets.{has_bit}
 use Rattle.asm_formats.specs.Status.{Entry, entry_of}
-use Rattle.asm_placement.specs.Layout.{start, units_of, has_extent}
+use Rattle.asm_placement.specs.Layout.{start, units_of, has_extent_by_size}
 use Rattle.asm_placement.specs.Partners.{partners, are_partners}
 use Rattle.asm_placement.specs.Placed.{placed}
 use Rattle.asm_placement.specs.Tables.{head_of, homes_in, marks_in, home_of, is_stale, is_extent}
@@ -29,7 +29,7 @@ use Rattle.asm_placement.specs.Work.{is_regular}
 use Rattle.asm_placement.specs.Naming.{is_pending}
 use Rattle.asm_images.specs.Describing.{DescribesGroup, KeepsExtentRules, SameFile}
 use Rattle.asm_images.specs.Tables.{info_of, node_of, templates_of, settings_of, pending_of}
-use Rattle.asm_images.specs.Tree.{KeepsTreeRules, node_at_path, child, walk, reaches_root, is_named_back, names_file}
+use Rattle.asm_images.specs.Tree.{KeepsTreeRules, node_at_path, child_node, walk_to_node, reaches_root_in_items, is_named_back_in_items, names_file_in_items}
 use Rattle.asm_images.specs.Mirrored.{mirrored_file, mirrored_group, mirrored_head, mirrored_homes, mirrored_items, mirrored_entry, mirrored_entries, mirrored_record, mirrored_node}
 
 -- ---- bits
@@ -188,7 +188,7 @@ module _ (marks next : ℕ) where
       by false true = omega arith
       by false false = omega arith
 
-  first_only : (i : ℕ) → has_extent Coarse 4096 20000 2 i ≡ true → i ≡ 0
+  first_only : (i : ℕ) → has_extent_by_size Coarse 4096 20000 2 i ≡ true → i ≡ 0
   unfolding start
   first_only zero e = refl
   first_only (suc i) e = absurd (omega (arith, ltb-true (start 4096 20000 i + units_of 20000 i * 4096) 2 e, some_units 20000 i))
@@ -198,22 +198,22 @@ module _ (marks next : ℕ) where
   abbrev name_key : Bytes
   name_key = folded mirrored_node.name
 
-  child_is : (n : ℕ) (name : Bytes) → child items n name ≡ cond ((0 == n) && bytes_eq name_key name) (Some (1, mirrored_node)) None
+  child_is : (n : ℕ) (name : Bytes) → child_node items n name ≡ cond ((0 == n) && bytes_eq name_key name) (Some (1, mirrored_node)) None
   child_is n name = alone ((0 == n) && bytes_eq name_key name) (1, mirrored_node)
 
   abbrev next_at : List Bytes → Option (ℕ × Node) → Option Node
   next_at names None = None
-  next_at names (Some c) = walk items c.0 (Some c.1) names
+  next_at names (Some c) = walk_to_node items c.0 (Some c.1) names
 
-  walk_step : (n : ℕ) (at : Option Node) (name : Bytes) (names : List Bytes) (o : Option (ℕ × Node)) → child items n name ≡ o → walk items n at (name ∷ names) ≡ next_at names o
+  walk_step : (n : ℕ) (at : Option Node) (name : Bytes) (names : List Bytes) (o : Option (ℕ × Node)) → child_node items n name ≡ o → walk_to_node items n at (name ∷ names) ≡ next_at names o
   walk_step n at name names None e = rw e refl
   walk_step n at name names (Some c) e = rw e refl
 
-  nowhere : (path : Path) → (path ≡ name_key ∷ [] → ⊥) → walk items 0 None path ≡ None
+  nowhere : (path : Path) → (path ≡ name_key ∷ [] → ⊥) → walk_to_node items 0 None path ≡ None
   nowhere [] apart = refl
   nowhere (name ∷ names) apart = by (bytes_eq name_key name) refl names (λ at. apart (λ j. sym (bytes_same name_key name at.0) j ∷ at.1 j))
     where
-      by : (b : Bool) → bytes_eq name_key name ≡ b → (names : List Bytes) → ((bytes_eq name_key name ≡ true) × (names ≡ []) → ⊥) → walk items 0 None (name ∷ names) ≡ None
+      by : (b : Bool) → bytes_eq name_key name ≡ b → (names : List Bytes) → ((bytes_eq name_key name ≡ true) × (names ≡ []) → ⊥) → walk_to_node items 0 None (name ∷ names) ≡ None
       by false e rest out = walk_step 0 None name rest None (child_is 0 name ∙ (λ j. cond ((0 == 0) && e j) (Some (1, mirrored_node)) None))
       by true e [] out = absurd (out (e, refl))
       by true e (second ∷ rest) out =
@@ -227,21 +227,21 @@ module _ (marks next : ℕ) where
       ∙ (λ i. cond (is_key path (name_key ∷ [])) (Some (entry_of_node mirrored_node)) (maps.get-empty (slice_cmp (slice_cmp nat_cmp)) path i))
       ∙ by (is_key path (name_key ∷ [])) refl
     where
-      by : (b : Bool) → is_key path (name_key ∷ []) ≡ b → cond b (Some (entry_of_node mirrored_node)) None ≡ option_map entry_of_node (walk items 0 None path)
-      by true e = ap (λ (p : Path). option_map entry_of_node (walk items 0 None p)) (sym (key_is path (name_key ∷ []) e))
+      by : (b : Bool) → is_key path (name_key ∷ []) ≡ b → cond b (Some (entry_of_node mirrored_node)) None ≡ option_map entry_of_node (walk_to_node items 0 None path)
+      by true e = ap (λ (p : Path). option_map entry_of_node (walk_to_node items 0 None p)) (sym (key_is path (name_key ∷ []) e))
       by false e = sym (ap (option_map entry_of_node) (nowhere path (λ same. both_ways (is_key path (name_key ∷ [])) e (ap (λ (p : Path). is_key p (name_key ∷ [])) same ∙ key_self (name_key ∷ [])))))
 
   tree_rules : KeepsTreeRules items
   unfolding node_of head_of
   tree_rules = record {
     parents = λ n node parent is up. absurd (none-some parent (sym (nodes_are 0) ∙ ap (λ (k : Node). node_of items k.parent) (sym (the_node n node is).1) ∙ up));
-    rooted = λ n node is. subst (λ (k : ℕ). IsTrue (reaches_root items (length items) k)) (sym (the_node n node is).0) refl;
+    rooted = λ n node is. subst (λ (k : ℕ). IsTrue (reaches_root_in_items items (length items) k)) (sym (the_node n node is).0) refl;
     distinct = λ m n a b is_a is_b same names. (the_node m a is_a).0 ∙ sym (the_node n b is_b).0;
     nodes = λ n node is. let one = the_node n node is in
-        subst (λ (k : Node). IsTrue (is_named_back items n k)) (sym one.1) (subst (λ (k : ℕ). IsTrue (is_named_back items k mirrored_node)) (sym one.0) refl);
+        subst (λ (k : Node). IsTrue (is_named_back_in_items items n k)) (sym one.1) (subst (λ (k : ℕ). IsTrue (is_named_back_in_items items k mirrored_node)) (sym one.0) refl);
     system = λ f head is. let one = the_head f head is in
-        subst (λ (h : FileHead). IsTrue (names_file items f System h.system)) (sym one.1) (subst (λ (k : ℕ). IsTrue (names_file items k System 1)) (sym one.0) refl);
-    alias = λ f head is. subst (λ (h : FileHead). IsTrue (names_file items f Alias h.alias)) (sym (the_head f head is).1) refl;
+        subst (λ (h : FileHead). IsTrue (names_file_in_items items f System h.system)) (sym one.1) (subst (λ (k : ℕ). IsTrue (names_file_in_items items k System 1)) (sym one.0) refl);
+    alias = λ f head is. subst (λ (h : FileHead). IsTrue (names_file_in_items items f Alias h.alias)) (sym (the_head f head is).1) refl;
   }
 
   -- ---- all of it
@@ -284,7 +284,7 @@ module _ (marks next : ℕ) where
       files = files_are;
       extents = λ f i copy file is has lt.
           let one = the_file next f file is in
-          let first : i ≡ 0 = first_only i (subst (λ (x : File). IsTrue (has_extent x.stripe 4096 20000 (length x.cells) i)) one.1 has) in
+          let first : i ≡ 0 = first_only i (subst (λ (x : File). IsTrue (has_extent_by_size x.stripe 4096 20000 (length x.cells) i)) one.1 has) in
           (λ j. is_some (home_of items (one.0 j) (first j) copy)) ∙ ap is_some (home_at copy) ∙ small copy (omega (arith, lt, ap (λ (x : File). x.copies) one.1));
       extent_rules = extent_rules;
       owned = λ f c has.

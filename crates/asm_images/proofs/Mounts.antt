@@ -6,7 +6,7 @@ use Rattle.asm_formats.specs.Content.{Content}
 use Rattle.asm_formats.specs.Status.{Status}
 use Rattle.asm_formats.specs.Following.{rank}
 use Rattle.asm_formats.specs.Metadata.{Metadata}
-use Rattle.asm_images.specs.Members.{Image, Member, within, statuses, claims, claims_of_group, AreDistinct, all_members, disk_of}
+use Rattle.asm_images.specs.Members.{ImageBytes, Member, within, statuses, claims, claims_of_group, AreDistinct, all_members, disk_of}
 use Rattle.asm_images.specs.Register.{Fits, current_records, greatest, is_enough, HasEpoch}
 use Rattle.asm_images.specs.Directories.{copies}
 use Rattle.asm_images.specs.Stands.{Describes}
@@ -23,7 +23,7 @@ use Rattle.asm_formats.specs.Following.{Follows}
 use Rattle.asm_images.specs.Register.{base}
 use Rattle.asm_images.proofs.Recording.{status_allowed, turn_below, epoch_le}
 
-pub majority_is_claimed : (id : ℕ) (image : Image) (r s : Status) (holders slots : ℕ → Bool) (epoch : ℕ) → AreDistinct (all_members id image) → ShareASet r s
+pub majority_is_claimed : (id : ℕ) (image : ImageBytes) (r s : Status) (holders slots : ℕ → Bool) (epoch : ℕ) → AreDistinct (all_members id image) → ShareASet r s
     → IsTrue (is_enough r (within holders (all_members id image))) → HaveClaimed id (within holders (all_members id image)) epoch
     → IsTrue (is_enough s (within slots (all_members id image))) → HasEpoch id (within slots (all_members id image)) epoch
 unfolding claims
@@ -39,7 +39,7 @@ majority_is_claimed id image r s holders slots epoch distinct share enough claim
     inl (c.0, flat_map_among (λ (m : Member). claims_of_group id m.disk.claims) (within slots ms) m c.0 both.3 here, c.2)
 
 -- what the step that begins a record asks of its claim
-pub claim_is_seen : (id : ℕ) (image : Image) (completed : Option Status) (begun : List Status) → Fits id (all_members id image) completed begun
+pub claim_is_seen : (id : ℕ) (image : ImageBytes) (completed : Option Status) (begun : List Status) → Fits id (all_members id image) completed begun
     → (g r : Status) (holders : ℕ → Bool) → IsAmong (current_records completed begun) g → IsTrue (is_enough g (within holders (all_members id image)))
     → HaveClaimed id (within holders (all_members id image)) r.epoch → ((v : Status) → base completed begun ≡ Some v → Follows v r)
     → (P : ℕ → Bool) (s : Status) → IsAmong (r ∷ current_records completed begun) s → IsTrue (is_enough s (within P (all_members id image)))
@@ -52,7 +52,7 @@ claim_is_seen id image completed begun fits g r holders counts enough claimed fo
     (λ here. current_share id ms completed begun fits g s counts here) among in
     majority_is_claimed id image g s holders P r.epoch fits.distinct share enough claimed also
 
-module _ (id : ℕ) (image : Image) (completed : Option Status) (begun : List Status) (slots : ℕ → Bool) (g : Status) (epoch : ℕ) (fits : Fits id (all_members id image) completed begun)
+module _ (id : ℕ) (image : ImageBytes) (completed : Option Status) (begun : List Status) (slots : ℕ → Bool) (g : Status) (epoch : ℕ) (fits : Fits id (all_members id image) completed begun)
     (top : greatest (statuses id (within slots (all_members id image))) ≡ Some g) (enough : IsTrue (is_enough g (within slots (all_members id image))))
     (claims_below : (c : Claim) → IsAmong (claims id (within slots (all_members id image))) c → c.epoch < epoch)
     (records_below : (s : Status) → IsAmong (statuses id (within slots (all_members id image))) s → s.epoch < epoch) where
@@ -88,7 +88,7 @@ module _ (id : ℕ) (image : Image) (completed : Option Status) (begun : List St
   all_below (Some v) is s (inl e) = omega (arith, ap (λ (r : Status). r.epoch) e, completed_below (Some v) v is refl)
   all_below (Some v) is s (inr h) = begun_below s h
 
-pub surveyed_epoch_is_above : (id : ℕ) (image : Image) (completed : Option Status) (begun : List Status) (slots : ℕ → Bool) (g : Status) (epoch : ℕ)
+pub surveyed_epoch_is_above : (id : ℕ) (image : ImageBytes) (completed : Option Status) (begun : List Status) (slots : ℕ → Bool) (g : Status) (epoch : ℕ)
     → Fits id (all_members id image) completed begun
     → greatest (statuses id (within slots (all_members id image))) ≡ Some g → IsTrue (is_enough g (within slots (all_members id image)))
     → ((c : Claim) → IsAmong (claims id (within slots (all_members id image))) c → c.epoch < epoch)
@@ -107,7 +107,7 @@ module _ (r : Status) (epoch turn holders next : ℕ) where
   unfolding copies
   same_copies members = refl
 
-  described_again : (image : Image) (members : List Member) (c : Content) (g : Group) → Describes image members members r c g → Describes image members members renumbered c g
+  described_again : (image : ImageBytes) (members : List Member) (c : Content) (g : Group) → Describes image members members r c g → Describes image members members renumbered c g
   unfolding is_kept
   described_again image members c g d = record {
     distinct = d.distinct;
@@ -133,7 +133,7 @@ module _ (r : Status) (epoch turn holders next : ℕ) where
     bytes = λ f o b i inner copy file h m is cell lies hm current. d.bytes f o b i inner copy file h m is cell lies hm (record { home = current.home; kept = current.kept; fresh = current.fresh });
   }
 
-pub renumbered_is_covered : (id : ℕ) (image : Image) (groups : List Group) (r : Status) (epoch turn holders next : ℕ) → IsCovered id image (all_members id image) groups r
+pub renumbered_is_covered : (id : ℕ) (image : ImageBytes) (groups : List Group) (r : Status) (epoch turn holders next : ℕ) → IsCovered id image (all_members id image) groups r
     → IsCovered id image (all_members id image) groups (record r { epoch = epoch; turn = turn; holders = holders; next_holders = next })
 unfolding copies
 renumbered_is_covered id image groups r epoch turn holders next cover = record {

@@ -15,13 +15,13 @@ use Rattle.asm_formats.specs.Metadata.{Metadata, metadata}
 use Rattle.asm_formats.specs.Places.{SameElsewhere}
 use Rattle.asm_formats.specs.Among.{IsAmong}
 use Rattle.asm_placement.specs.Placed.{places_fit}
-use Rattle.asm_images.specs.Members.{Image, Member, written, disk_of, all_members, within, is_disk, statuses}
+use Rattle.asm_images.specs.Members.{ImageBytes, Member, written, disk_of, all_members, within, is_disk, statuses}
 use Rattle.asm_images.specs.Register.{current_records}
-use Rattle.asm_images.specs.Directories.{to_list, held_by, copy_on, copies, directories, IsNamed}
+use Rattle.asm_images.specs.Directories.{to_list, member_contents, copy_on, copies, directories, IsNamed}
 use Rattle.asm_images.specs.Stands.{Describes, IsDiskOf}
 use Rattle.asm_images.specs.Sound.{IsCovered}
 use Rattle.asm_images.specs.Steps.{IsLast, IsBegun, IsNarrower, ChangesContent, IsKnown}
-use Rattle.asm_images.specs.ContentLaws.{HaveContent, IsReady}
+use Rattle.asm_images.specs.ContentLaws.{HaveContent, IsContentReady}
 use Rattle.asm_images.proofs.Membership.{among_flat_map, among_within, among_right}
 use Rattle.asm_images.proofs.Replacing.{found_among, replaced, replaced_keeps, members_replaced}
 use Rattle.asm_images.proofs.Committing.{newest_among, find_passes, commit_disk}
@@ -31,7 +31,7 @@ use Rattle.asm_images.proofs.Recording.{current_split}
 
 -- ---- where a content is found
 
-held_content : (o : Option Member) (c : Content) → IsAmong (held_by o) c → (m : Member) × (o ≡ Some m) × (m.disk.content ≡ Some c)
+held_content : (o : Option Member) (c : Content) → IsAmong (member_contents o) c → (m : Member) × (o ≡ Some m) × (m.disk.content ≡ Some c)
 held_content None c h = absurd h
 held_content (Some m) c h = go m.disk.content refl h
   where
@@ -64,7 +64,7 @@ one_content_is_found r ms c d P have found =
     let m = found_is_held r (within P ms) d found in
     have m.0 d (among_within P ms m.0 m.1) m.2 m.3
 
-pub one_content_is_covered : (id : ℕ) (image : Image) (groups : List Group) (r : Status) (c : Content) (g : Group) → HaveContent r (all_members id image) c
+pub one_content_is_covered : (id : ℕ) (image : ImageBytes) (groups : List Group) (r : Status) (c : Content) (g : Group) → HaveContent r (all_members id image) c
     → ((m : Member) → IsAmong (all_members id image) m → m.header.birth ≤ r.births)
     → ((s : Status) (e : Entry) → IsAmong (statuses id (all_members id image)) s → IsAmong s.entries e → e.birth ≤ r.births)
     → IsAmong groups g → Describes image (all_members id image) (all_members id image) r c g
@@ -76,7 +76,7 @@ one_content_is_covered id image groups r c g have member_births entry_births amo
   described = λ P x found. (g, among, subst (λ (y : Content). Describes image (all_members id image) (all_members id image) r y g) (sym (one_content_is_found r (all_members id image) c x P have found)) d);
 }
 
-pub one_content_narrows : (id : ℕ) (image : Image) (g : Group) (completed : Option Status) (begun : List Status) (c : Content)
+pub one_content_narrows : (id : ℕ) (image : ImageBytes) (g : Group) (completed : Option Status) (begun : List Status) (c : Content)
     → ((r : Status) → IsAmong (current_records completed begun) r → r.gone ≡ false
     → HaveContent r (all_members id image) c × Describes image (all_members id image) (all_members id image) r c g)
     → IsNarrower id image (g ∷ []) completed begun
@@ -88,10 +88,10 @@ one_content_narrows id image g completed begun c each = record {
 
 -- ---- a content that is ready is known once it is put
 
-pub ready_is_known : (id : ℕ) (old : Image) (groups : List Group) (completed : Option Status) (begun : List Status) (slot : ℕ) (bytes : List ℕ) (c : Content) (at n : ℕ) → slot < length old
+pub ready_is_known : (id : ℕ) (old : ImageBytes) (groups : List Group) (completed : Option Status) (begun : List Status) (slot : ℕ) (bytes : List ℕ) (c : Content) (at n : ℕ) → slot < length old
     → ChangesContent (disk_of old slot) (metadata bytes) → SameElsewhere (get_or old slot []) bytes at n
     → ((m : Member) → IsAmong (all_members id old) m → m.slot ≡ slot → at + n ≤ region_end m.header.shape.dir_blocks * block_size)
-    → IsReady id old groups completed begun slot c → IsKnown id old (written old slot bytes) groups completed begun slot c
+    → IsContentReady id old groups completed begun slot c → IsKnown id old (written old slot bytes) groups completed begun slot c
 ready_is_known id old groups completed begun slot bytes c at n inside change same below ready =
     let ms = all_members id old in
     let d = metadata bytes in
@@ -118,7 +118,7 @@ ready_is_known id old groups completed begun slot bytes c at n inside change sam
 
 -- ---- the last record
 
-pub begun_is_last : (id : ℕ) (image : Image) (groups : List Group) (completed : Option Status) (begun : List Status) (r : Status) → IsBegun id image groups completed begun r
+pub begun_is_last : (id : ℕ) (image : ImageBytes) (groups : List Group) (completed : Option Status) (begun : List Status) (r : Status) → IsBegun id image groups completed begun r
     → IsLast completed (begun ++ (r ∷ [])) r
 begun_is_last id image groups completed begun r b = record {
   counts = counted completed;

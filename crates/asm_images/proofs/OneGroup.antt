@@ -3,14 +3,14 @@ use Rattle.std.proofs.Common.{◌≡◌, ⊎_elim, inl, ℕ, Bool, false, List, 
 use Rattle.asm_formats.specs.Among.{IsAmong}
 use Rattle.asm_formats.specs.Status.{Status}
 use Rattle.asm_formats.specs.Content.{Content}
-use Rattle.asm_images.specs.Members.{Image, within, all_members}
+use Rattle.asm_images.specs.Members.{ImageBytes, within, all_members}
 use Rattle.asm_images.specs.Directories.{directories}
 use Rattle.asm_images.specs.Stands.{Describes}
 use Rattle.asm_group.specs.Group.{Group}
 use Rattle.asm_images.specs.Sound.{SoundBy}
 use Rattle.asm_images.proofs.Spans.{narrow_keeps}
 
-pub one_content_is_one_group : (id : ℕ) (image : Image) (groups : List Group) (r : Status) (c : Content) (slots : ℕ → Bool) → SoundBy id image groups (Some r) [] → r.gone ≡ false
+pub one_content_is_one_group : (id : ℕ) (image : ImageBytes) (groups : List Group) (r : Status) (c : Content) (slots : ℕ → Bool) → SoundBy id image groups (Some r) [] → r.gone ≡ false
     → directories r (within slots (all_members id image)) ≡ Some c
     → ((P : ℕ → Bool) (d : Content) → directories r (within P (all_members id image)) ≡ Some d → d ≡ c)
     → (g : Group) × IsAmong groups g × SoundBy id image (g ∷ []) (Some r) []

@@ -15,8 +15,8 @@ use Rattle.asm_formats.specs.Content.{Content}
 use Rattle.asm_formats.specs.Among.{IsAmong}
 use Rattle.asm_placement.specs.Tables.{home_of}
 use Rattle.asm_placement.specs.Placed.{Placed, placed, fits_entry, is_inside, all_apart, places_fit}
-use Rattle.asm_images.specs.Members.{Image, Member, all_members, within, is_disk}
-use Rattle.asm_images.specs.Directories.{newest, held_by, copy_on, copies, directories, IsNamed}
+use Rattle.asm_images.specs.Members.{ImageBytes, Member, all_members, within, is_disk}
+use Rattle.asm_images.specs.Directories.{newest, member_contents, copy_on, copies, directories, IsNamed}
 use Rattle.asm_images.specs.Stands.{Describes}
 use Rattle.asm_images.specs.Sound.{IsCovered}
 use Rattle.asm_images.specs.RecordLaws.{IsReadUnder, birth_of, ChangesEntries}
@@ -26,7 +26,7 @@ same_copy : (ms : List Member) (d : ℕ) (o p : Option Entry) → birth_of o ≡
 same_copy ms d None None e = refl
 same_copy ms d None (Some y) e = absurd cc
 same_copy ms d (Some x) None e = absurd cc
-same_copy ms d (Some x) (Some y) e = ap (λ (n : ℕ). held_by (find (λ (m : Member). is_disk d n m.header) ms)) (same_Some x.birth y.birth e)
+same_copy ms d (Some x) (Some y) e = ap (λ (n : ℕ). member_contents (find (λ (m : Member). is_disk d n m.header) ms)) (same_Some x.birth y.birth e)
 
 flat_same : {A B : Type 0} (f g : A → List B) (xs : List A) → ((x : A) → IsAmong xs x → f x ≡ g x) → flat_map f xs ≡ flat_map g xs
 flat_same f g [] same = refl
@@ -43,7 +43,7 @@ home_has_entry s entries items f i copy h fit e =
     let inside = all_of_list (is_inside s entries) (placed s.step items) p.0 (and_parts (list_all (is_inside s entries) (placed s.step items)) (all_apart (placed s.step items)) fit).0 p.1 in
     subst (λ (x : Home). is_some (entry_of entries x.disk) ≡ true) p.2 (entry_there s p.0 (entry_of entries p.0.home.disk) inside)
 
-module _ (id : ℕ) (image : Image) (groups : List Group) (r s : Status) (change : ChangesEntries (all_members id image) r s) (cover : IsCovered id image (all_members id image) groups r) where
+module _ (id : ℕ) (image : ImageBytes) (groups : List Group) (r s : Status) (change : ChangesEntries (all_members id image) r s) (cover : IsCovered id image (all_members id image) groups r) where
   abbrev them : List Member
   them = all_members id image
 

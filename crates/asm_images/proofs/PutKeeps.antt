@@ -15,7 +15,7 @@ use Rattle.asm_formats.specs.Pages.{committed, copy_content, decodes_in}
 use Rattle.asm_formats.specs.Metadata.{Metadata, metadata, header_of, in_slot}
 use Rattle.asm_formats.specs.Places.{SameElsewhere, SameButBlocks}
 use Rattle.asm_formats.specs.Slots.{IsPut, ArePair}
-use Rattle.asm_formats.specs.LogSlots.{IsLogPut, MayClose, IsLogClose, IsCheckpoint}
+use Rattle.asm_formats.specs.LogSlots.{IsLogPut, MayCloseLog, IsLogClose, IsCheckpoint}
 use Rattle.asm_formats.specs.Puts.{PutsHeader, header_as_before, no_header, new_header}
 use Rattle.asm_formats.specs.Commits.{Commits, not_committed, is_committed}
 use Rattle.asm_formats.proofs.SameLogs.{closed_content}
@@ -23,11 +23,11 @@ use Rattle.asm_formats.proofs.Framing.{header_allowed, header_blocks, user_write
 use Rattle.asm_formats.proofs.Putting.{header_put}
 use Rattle.asm_formats.proofs.Checkpoints.{log_put_commits, checkpoint_keeps, close_keeps, last_close}
 use Rattle.asm_formats.specs.Among.{IsAmong}
-use Rattle.asm_images.specs.Members.{Image, Member, members, written, metadata_of, disk_of, all_members, IsOutside}
+use Rattle.asm_images.specs.Members.{ImageBytes, Member, members, written, metadata_of, disk_of, all_members, IsOutside}
 use Rattle.asm_images.specs.Sound.{SoundBy}
-use Rattle.asm_images.specs.ContentLaws.{IsReady}
+use Rattle.asm_images.specs.ContentLaws.{IsContentReady}
 use Rattle.asm_images.proofs.OneContent.{ready_is_known}
-use Rattle.asm_images.specs.Steps.{ChangesContent, IsLast, CoversBirths, IsKnown, MayJoin, KeepsCopies, lost, gained}
+use Rattle.asm_images.specs.Steps.{ChangesContent, IsLast, CoversBirths, IsKnown, MayJoin, KeepsCopies, loses_content, gains_content}
 use Rattle.asm_images.specs.PutLaws.{bytes_of, OtherClaims, OtherHolds, OthersClosed}
 use Rattle.asm_images.proofs.Members.{member_is}
 use Rattle.asm_images.proofs.UserBytes.{metadata_write_keeps_copies}
@@ -39,19 +39,19 @@ use Rattle.asm_images.proofs.Describing.{spare_keeps}
 use Rattle.asm_images.proofs.Joining.{leave_keeps, join_keeps, outside_keeps}
 
 -- a disk whose metadata stays
-same_metadata : (old : Image) (slot : ℕ) (bytes : List ℕ) → slot < length old → metadata bytes ≡ disk_of old slot → metadata_of (written old slot bytes) ≡ metadata_of old
+same_metadata : (old : ImageBytes) (slot : ℕ) (bytes : List ℕ) → slot < length old → metadata bytes ≡ disk_of old slot → metadata_of (written old slot bytes) ≡ metadata_of old
 same_metadata old slot bytes inside same =
     map-set metadata old slot bytes
     ∙ ap (λ (d : Metadata). set (metadata_of old) slot d) (same ∙ sym (get_or-map metadata old slot [] (metadata []) inside))
     ∙ set-get_or (metadata_of old) slot (metadata [])
 
-pub user_write_keeps_metadata : (old : Image) (slot : ℕ) (bytes : List ℕ) (h : Header) (at n : ℕ) → slot < length old → SameElsewhere (bytes_of old slot) bytes at n
+pub user_write_keeps_metadata : (old : ImageBytes) (slot : ℕ) (bytes : List ℕ) (h : Header) (at n : ℕ) → slot < length old → SameElsewhere (bytes_of old slot) bytes at n
     → header_of (bytes_of old slot) ≡ Some h → region_end h.shape.dir_blocks * block_size ≤ at → metadata_of (written old slot bytes) ≡ metadata_of old
 user_write_keeps_metadata old slot bytes h at n inside same header behind = same_metadata old slot bytes inside (user_write (bytes_of old slot) bytes h at n same header behind)
 
 -- ---- claims and records
 
-pub claim_put_keeps : (id : ℕ) (old : Image) (groups : List Group) (completed : Option Status) (begun : List Status) → SoundBy id old groups completed begun
+pub claim_put_keeps : (id : ℕ) (old : ImageBytes) (groups : List Group) (completed : Option Status) (begun : List Status) → SoundBy id old groups completed begun
     → (c : Claim) (slot : ℕ) (bytes : List ℕ) (k other : ℕ) → IsTrue (is_claim c) → slot < length old → ArePair 2 4 k other → OtherClaims id (bytes_of old slot) k other
     → IsPut (bytes_of old slot) bytes k (claim_spelling c) → SoundBy id (written old slot bytes) groups completed begun
 claim_put_keeps id old groups completed begun sound c slot bytes k other ok inside pair rule put =
@@ -62,7 +62,7 @@ claim_put_keeps id old groups completed begun sound c slot bytes k other ok insi
           (λ m among at. ⊎_elim (λ x. omega (arith, x.0)) (λ x. omega (arith, x.0)) pair);
     })
 
-pub record_put_keeps : (id : ℕ) (old : Image) (groups : List Group) (completed : Option Status) (begun : List Status) → SoundBy id old groups completed begun
+pub record_put_keeps : (id : ℕ) (old : ImageBytes) (groups : List Group) (completed : Option Status) (begun : List Status) → SoundBy id old groups completed begun
     → (r : Status) (slot : ℕ) (bytes : List ℕ) (k other : ℕ) → IsLast completed begun r → IsTrue (is_status r) → CoversBirths completed begun r
     → slot < length old → ArePair 6 8 k other → OtherHolds id (bytes_of old slot) k other
     → IsPut (bytes_of old slot) bytes k (status_spelling r) → SoundBy id (written old slot bytes) groups completed begun
@@ -78,7 +78,7 @@ record_put_keeps id old groups completed begun sound r slot bytes k other last o
 
 -- ---- the directory copy
 
-module _ (id : ℕ) (old : Image) (groups : List Group) (completed : Option Status) (begun : List Status) (sound : SoundBy id old groups completed begun) (h : Header) (slot : ℕ) (bytes : List ℕ) (inside : slot < length old)
+module _ (id : ℕ) (old : ImageBytes) (groups : List Group) (completed : Option Status) (begun : List Status) (sound : SoundBy id old groups completed begun) (h : Header) (slot : ℕ) (bytes : List ℕ) (inside : slot < length old)
     (header : header_of (bytes_of old slot) ≡ Some h) where
   header_is : (m : Member) → IsAmong (all_members id old) m → m.slot ≡ slot → m.header ≡ h
   header_is m among at = same_Some m.header h (sym (member_is id old m among).header ∙ ap (λ (j : ℕ). header_of (get_or old j [])) at ∙ header)
@@ -118,7 +118,7 @@ module _ (id : ℕ) (old : Image) (groups : List Group) (completed : Option Stat
           commit_keeps id old groups completed begun sound slot bytes (record {
             inside = inside;
             change = change;
-            outcome = gained (committed h.shape.dir_blocks (bytes_of old slot) log) (ap (λ (d : Metadata). d.content) new) (known change);
+            outcome = gains_content (committed h.shape.dir_blocks (bytes_of old slot) log) (ap (λ (d : Metadata). d.content) new) (known change);
             copies = region_write (k * block_size) (66 * block_size) put.elsewhere range;
           })
 
@@ -130,7 +130,7 @@ module _ (id : ℕ) (old : Image) (groups : List Group) (completed : Option Stat
 
   pub ready_put_keeps : (log : Log) (k other : ℕ) → IsLogPut h.shape.dir_blocks (bytes_of old slot) bytes k other log
       → IsTrue (is_some (committed h.shape.dir_blocks (bytes_of old slot) log).items)
-      → IsReady id old groups completed begun slot (committed h.shape.dir_blocks (bytes_of old slot) log)
+      → IsContentReady id old groups completed begun slot (committed h.shape.dir_blocks (bytes_of old slot) log)
       → SoundBy id (written old slot bytes) groups completed begun
   ready_put_keeps log k other put decodes ready = put_log log k other put decodes (λ change.
       ready_is_known id old groups completed begun slot bytes (committed h.shape.dir_blocks (bytes_of old slot) log) (k * block_size) (66 * block_size) inside change put.elsewhere
@@ -140,7 +140,7 @@ module _ (id : ℕ) (old : Image) (groups : List Group) (completed : Option Stat
   pub checkpoint_keeps_image : IsCheckpoint h.shape.dir_blocks (bytes_of old slot) bytes → SoundBy id (written old slot bytes) groups completed begun
   checkpoint_keeps_image check = spare (region_start * block_size) (h.shape.dir_blocks * block_size) check.elsewhere (omega arith) (checkpoint_keeps h (bytes_of old slot) bytes header check)
 
-  pub log_close_keeps : (k other : ℕ) → MayClose h.shape.dir_blocks (bytes_of old slot) k other → IsLogClose (bytes_of old slot) bytes k → SoundBy id (written old slot bytes) groups completed begun
+  pub log_close_keeps : (k other : ℕ) → MayCloseLog h.shape.dir_blocks (bytes_of old slot) k other → IsLogClose (bytes_of old slot) bytes k → SoundBy id (written old slot bytes) groups completed begun
   log_close_keeps k other may close = spare (k * block_size) (1 * block_size) close.elsewhere (log_range k other 1 may.pair (omega arith))
       (close_keeps h (bytes_of old slot) bytes k other header may.pair close may)
 
@@ -156,7 +156,7 @@ module _ (id : ℕ) (old : Image) (groups : List Group) (completed : Option Stat
           others = new ∙ (λ i. record (disk_of old slot) { content = (sym new i).content; decodes = (sym new i).decodes });
           decode = λ before. ap (λ (d : Metadata). d.decodes) new;
         };
-        outcome = lost (ap (λ (d : Metadata). d.content) new);
+        outcome = loses_content (ap (λ (d : Metadata). d.content) new);
         copies = region_write (k * block_size) (1 * block_size) close.elsewhere range;
       }))
       (cases_Bool (is_open bytes k))
@@ -168,7 +168,7 @@ module _ (id : ℕ) (old : Image) (groups : List Group) (completed : Option Stat
 
 -- ---- headers
 
-pub header_close_keeps : (id : ℕ) (old : Image) (groups : List Group) (completed : Option Status) (begun : List Status) → SoundBy id old groups completed begun
+pub header_close_keeps : (id : ℕ) (old : ImageBytes) (groups : List Group) (completed : Option Status) (begun : List Status) → SoundBy id old groups completed begun
     → (slot : ℕ) (bytes : List ℕ) → slot < length old → SameButBlocks (bytes_of old slot) bytes header_gate 2 → header_of bytes ≡ None
     → SoundBy id (written old slot bytes) groups completed begun
 unfolding metadata
@@ -180,7 +180,7 @@ header_close_keeps id old groups completed begun sound slot bytes inside same no
     })
 
 -- a slot without an open header has no member
-headless : (id : ℕ) (image : Image) (slot : ℕ) → (disk_of image slot).header ≡ None → IsOutside (all_members id image) slot
+headless : (id : ℕ) (image : ImageBytes) (slot : ℕ) → (disk_of image slot).header ≡ None → IsOutside (all_members id image) slot
 unfolding metadata
 headless id image slot none m among at = none-some m.header (sym none ∙ ap (λ (j : ℕ). header_of (get_or image j [])) (sym at) ∙ (member_is id image m among).header)
 
@@ -205,7 +205,7 @@ module _ (bytes : List ℕ) (h : Header) (shut : OthersClosed h bytes) where
       let d = h.shape.dir_blocks in
       closed_content d bytes (shut (first_log d) (inr (inr (inr (inr (inl refl)))))) (shut (second_log d) (inr (inr (inr (inr (inr (inl refl)))))))
 
-pub header_put_keeps : (id : ℕ) (old : Image) (groups : List Group) (completed : Option Status) (begun : List Status) → SoundBy id old groups completed begun
+pub header_put_keeps : (id : ℕ) (old : ImageBytes) (groups : List Group) (completed : Option Status) (begun : List Status) → SoundBy id old groups completed begun
     → (h : Header) (slot : ℕ) (bytes : List ℕ) → slot < length old → least_size ≤ length (bytes_of old slot) → IsTrue (is_header h) → OthersClosed h (bytes_of old slot)
     → IsOutside (all_members id old) slot → MayJoin id (all_members id old) groups completed begun h
     → IsPut (bytes_of old slot) bytes header_gate (header_spelling h) → SoundBy id (written old slot bytes) groups completed begun

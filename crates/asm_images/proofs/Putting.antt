@@ -7,7 +7,7 @@ use Rattle.asm_formats.specs.Claim.{Claim, is_claim, claim_spelling, decoded_cla
 use Rattle.asm_formats.specs.Status.{Status, is_status, status_spelling, decoded_status}
 use Rattle.asm_formats.specs.Following.{rank}
 use Rattle.asm_formats.specs.Metadata.{metadata, in_slot}
-use Rattle.asm_formats.specs.Slots.{IsPut, ArePair, Said, same_said, nothing_said, new_said}
+use Rattle.asm_formats.specs.Slots.{IsPut, ArePair, MaySayAfter, same_said, nothing_said, new_said}
 use Rattle.asm_formats.proofs.Framing.{claims_by_slot, statuses_by_slot}
 use Rattle.asm_formats.proofs.Putting.{claim_put, status_put}
 use Rattle.asm_formats.specs.Among.{IsAmong}
@@ -61,7 +61,7 @@ of_pair {A} all said a b k other e (inr p) =
 
 -- values of a pair after a put: none is lost but what the other slot holds as much of
 module _ {A : Type 0} (test : A → Bool) (weight : A → ℕ) (x : A) (all later here there here_later there_later : List (Option A)) (before : IsBoth all here there) (now : IsBoth later here_later there_later)
-    (slot : Said here here_later x) (others : there_later ≡ there) (holds : (s : A) → IsAmong (those test here) s → (t : A) × IsAmong (those test there) t × (weight s ≤ weight t)) where
+    (slot : MaySayAfter here here_later x) (others : there_later ≡ there) (holds : (s : A) → IsAmong (those test here) s → (t : A) × IsAmong (those test there) t × (weight s ≤ weight t)) where
   there_now : (t : A) → IsAmong (those test there) t → IsAmong (those test later) t
   there_now t h = now.from_there test t (subst (λ (l : List (Option A)). IsAmong (those test l) t) (sym others) h)
 
@@ -75,7 +75,7 @@ module _ {A : Type 0} (test : A → Bool) (weight : A → ℕ) (x : A) (all late
   only_it l e t h = cond_both (test x) (x ∷ []) [] (λ (l : List A). IsAmong l t → t ≡ x) (λ yes k. ⊎_elim (λ same. same) (λ none. absurd none) k) (λ out k. absurd k)
       (subst (λ (l : List (Option A)). IsAmong (those test l) t) e h)
 
-  here_from : Said here here_later x → (t : A) → IsAmong (those test here_later) t → (t ≡ x) ⊎ IsAmong (those test all) t
+  here_from : MaySayAfter here here_later x → (t : A) → IsAmong (those test here_later) t → (t ≡ x) ⊎ IsAmong (those test all) t
   here_from (same_said e) t h = inr (before.from_here test t (subst (λ (l : List (Option A)). IsAmong (those test l) t) e h))
   here_from (nothing_said e) t h = absurd (subst (λ (l : List (Option A)). IsAmong (those test l) t) e h)
   here_from (new_said e) t h = inl (only_it here_later e t h)
@@ -84,7 +84,7 @@ module _ {A : Type 0} (test : A → Bool) (weight : A → ℕ) (x : A) (all late
   from t h = ⊎_elim (λ in_here. here_from slot t in_here)
       (λ in_there. inr (before.from_there test t (subst (λ (l : List (Option A)). IsAmong (those test l) t) others in_there))) (now.into test t h)
 
-  here_decodes : Said here here_later x → list_all is_some here ≡ true → list_all is_some here_later ≡ true
+  here_decodes : MaySayAfter here here_later x → list_all is_some here ≡ true → list_all is_some here_later ≡ true
   here_decodes (same_said e) ok = ap (λ (l : List (Option A)). list_all is_some l) e ∙ ok
   here_decodes (nothing_said e) ok = ap (λ (l : List (Option A)). list_all is_some l) e
   here_decodes (new_said e) ok = ap (λ (l : List (Option A)). list_all is_some l) e

@@ -12,7 +12,7 @@ use Rattle.asm_formats.specs.Status.{Status, Entry, is_status, decoded_status}
 use Rattle.asm_formats.specs.Following.{rank, Follows}
 use Rattle.asm_formats.specs.Metadata.{Metadata, metadata, in_slot}
 use Rattle.asm_formats.specs.Bytes.{block, is_open}
-use Rattle.asm_images.specs.Members.{those, Image, Member, within, of_group, statuses, claims, claims_of_group, all_members, written, disk_of}
+use Rattle.asm_images.specs.Members.{those, ImageBytes, Member, within, of_group, statuses, claims, claims_of_group, all_members, written, disk_of}
 use Rattle.asm_images.specs.Register.{Fits, current_records, base, IsOlder, HoldsOne, HasEpoch, greatest, is_enough}
 use Rattle.asm_images.specs.Stands.{IsDiskOf}
 use Rattle.asm_group.specs.Group.{Group}
@@ -53,7 +53,7 @@ disk_allowed id bytes r h = ⊎_elim (λ a. slot_allowed id bytes 6 r a) (λ b. 
     (among_split (of_group id (in_slot decoded_status bytes 6)) (of_group id (in_slot decoded_status bytes 8)) r
     (subst (λ (l : List Status). IsAmong l r) (those_append (λ (s : Status). s.id == id) (in_slot decoded_status bytes 6) (in_slot decoded_status bytes 8)) h))
 
-pub status_allowed : (id : ℕ) (image : Image) (r : Status) → IsAmong (statuses id (all_members id image)) r → is_status r ≡ true
+pub status_allowed : (id : ℕ) (image : ImageBytes) (r : Status) → IsAmong (statuses id (all_members id image)) r → is_status r ≡ true
 unfolding statuses
 status_allowed id image r h =
     let from = among_flat_map (λ (m : Member). of_group id m.disk.statuses) (all_members id image) r h in
@@ -97,7 +97,7 @@ smaller_epoch id ms small great le (inl c) = inl (c.0, c.1, omega (arith, c.2, l
 smaller_epoch id ms small great le (inr s) = inr (s.0, s.1, omega (arith, s.2, le))
 
 -- on the history alone
-pub begin_history : (id : ℕ) (image : Image) (completed : Option Status) (begun : List Status) → Fits id (all_members id image) completed begun → (r : Status) → IsTrue (is_status r)
+pub begin_history : (id : ℕ) (image : ImageBytes) (completed : Option Status) (begun : List Status) → Fits id (all_members id image) completed begun → (r : Status) → IsTrue (is_status r)
     → ((s : Status) → IsAmong (current_records completed begun) s → rank s < rank r) → ((v : Status) → base completed begun ≡ Some v → Follows v r)
     → ((P : ℕ → Bool) (s : Status) → IsAmong (r ∷ current_records completed begun) s → IsTrue (is_enough s (within P (all_members id image))) → HasEpoch id (within P (all_members id image)) r.epoch)
     → Fits id (all_members id image) completed (begun ++ (r ∷ []))
@@ -128,10 +128,10 @@ begin_history id image completed begun fits r allowed above follows seen =
           (begun_split begun r x h);
     }
 
-begin_fits : (id : ℕ) (image : Image) (groups : List Group) (completed : Option Status) (begun : List Status) (sound : SoundBy id image groups completed begun) (r : Status) → IsBegun id image groups completed begun r → Fits id (all_members id image) completed (begun ++ (r ∷ []))
+begin_fits : (id : ℕ) (image : ImageBytes) (groups : List Group) (completed : Option Status) (begun : List Status) (sound : SoundBy id image groups completed begun) (r : Status) → IsBegun id image groups completed begun r → Fits id (all_members id image) completed (begun ++ (r ∷ []))
 begin_fits id image groups completed begun sound r b = begin_history id image completed begun sound.fits r b.allowed b.above b.follows b.claimed
 
-pub begin_keeps : (id : ℕ) (image : Image) (groups : List Group) (completed : Option Status) (begun : List Status) (sound : SoundBy id image groups completed begun) (r : Status) → IsBegun id image groups completed begun r → SoundBy id image groups completed (begun ++ (r ∷ []))
+pub begin_keeps : (id : ℕ) (image : ImageBytes) (groups : List Group) (completed : Option Status) (begun : List Status) (sound : SoundBy id image groups completed begun) (r : Status) → IsBegun id image groups completed begun r → SoundBy id image groups completed (begun ++ (r ∷ []))
 begin_keeps id image groups completed begun sound r b = record {
   fits = begin_fits id image groups completed begun sound r b;
   covered = λ s h not_gone. ⊎_elim (λ before. sound.covered s before not_gone)
@@ -267,7 +267,7 @@ stored_disk id old new s g r m raises is d =
       units = λ e entry birth. subst (λ (x : Metadata). e.units ≤ units_in m.header.shape x.size) (sym others) (d.units e entry birth);
     }
 
-pub store_keeps : (id : ℕ) (old : Image) (groups : List Group) (completed : Option Status) (begun : List Status) (sound : SoundBy id old groups completed begun) (r : Status) (slot : ℕ) (bytes : List ℕ) → IsStored id old completed begun r slot bytes
+pub store_keeps : (id : ℕ) (old : ImageBytes) (groups : List Group) (completed : Option Status) (begun : List Status) (sound : SoundBy id old groups completed begun) (r : Status) (slot : ℕ) (bytes : List ℕ) → IsStored id old completed begun r slot bytes
     → SoundBy id (written old slot bytes) groups completed begun
 store_keeps id old groups completed begun sound r slot bytes step =
     let ms = all_members id old in

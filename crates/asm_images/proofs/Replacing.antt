@@ -12,9 +12,9 @@ use Rattle.asm_formats.specs.Metadata.{Metadata, metadata}
 use Rattle.asm_formats.specs.Status.{Status, Entry, entry_of}
 use Rattle.asm_formats.specs.Following.{Holder, sets}
 use Rattle.asm_formats.specs.Sets.{elements}
-use Rattle.asm_images.specs.Members.{Image, Member, with_member, members_from, members, metadata_of, within, is_disk, has_disk, of_group, statuses, all_members}
+use Rattle.asm_images.specs.Members.{ImageBytes, Member, with_member, members_from, members, metadata_of, within, is_disk, has_disk, of_group, statuses, all_members}
 use Rattle.asm_images.specs.Register.{is_enough}
-use Rattle.asm_images.specs.Directories.{copies, copy_on, held_by, to_list}
+use Rattle.asm_images.specs.Directories.{copies, copy_on, member_contents, to_list}
 
 -- the disk of slot k says d
 abbrev pub replaced : ℕ → Metadata → Member → Member
@@ -80,7 +80,7 @@ replaced_from id slot (suc k) n d e (disk ∷ disks) is lt same =
     first_kept id slot n d disk disk.header (members_from id (suc slot) (set disks k d)) (members_from id (suc slot) disks) (λ e. omega (arith, e)) (replaced_from id (suc slot) k n d e disks (omega arith) (omega arith) same)
 
 -- writes to the disk of one slot that keep its header
-pub members_replaced : (id : ℕ) (old : Image) (slot : ℕ) (bytes : List ℕ) → slot < length old → (metadata bytes).header ≡ (metadata (get_or old slot [])).header
+pub members_replaced : (id : ℕ) (old : ImageBytes) (slot : ℕ) (bytes : List ℕ) → slot < length old → (metadata bytes).header ≡ (metadata (get_or old slot [])).header
     → all_members id (set old slot bytes) ≡ map (replaced slot (metadata bytes)) (all_members id old)
 unfolding members
 members_replaced id old slot bytes lt same =
@@ -133,7 +133,7 @@ found_among {A} test (y ∷ xs) x e =
     let later : find test xs ≡ Some x → IsAmong xs x = found_among test xs x in
     cond_both (test y) (Some y) (find test xs) (λ (o : Option A). o ≡ Some x → IsAmong (y ∷ xs) x) (λ yes is. inl (sym (same_Some y x is))) (λ no is. inr (later is)) e
 
-held_map : (f : Member → Member) (o : Option Member) → ((m : Member) → o ≡ Some m → (f m).disk.content ≡ m.disk.content) → held_by (option_map f o) ≡ held_by o
+held_map : (f : Member → Member) (o : Option Member) → ((m : Member) → o ≡ Some m → (f m).disk.content ≡ m.disk.content) → member_contents (option_map f o) ≡ member_contents o
 held_map f None same = refl
 held_map f (Some m) same = ap to_list (same m refl)
 
@@ -141,7 +141,7 @@ copy_map : (f : Member → Member) → Keeps f → (ms : List Member) → ((m : 
 copy_map f keeps ms same d None = refl
 copy_map f keeps ms same d (Some e) =
     let test : Member → Bool = λ m. is_disk d e.birth m.header in
-    ap held_by (find_map f test ms (λ m. ap (λ (h : Header). is_disk d e.birth h) (keeps.header m)))
+    ap member_contents (find_map f test ms (λ m. ap (λ (h : Header). is_disk d e.birth h) (keeps.header m)))
     ∙ held_map f (find test ms) (λ m is. same m (found_among test ms m is))
 
 pub copies_map : (f : Member → Member) → Keeps f → (r : Status) (ms : List Member) → ((m : Member) → IsAmong ms m → (f m).disk.content ≡ m.disk.content) → copies r (map f ms) ≡ copies r ms

@@ -19,15 +19,15 @@ use Rattle.asm_placement.specs.Tables.{head_of}
 use Rattle.asm_images.specs.Tables.{pending_of}
 use Rattle.asm_placement.specs.Naming.{is_pending}
 use Rattle.asm_images.specs.Describing.{extent_size, LiesIn, DescribesGroup, SameFile}
-use Rattle.asm_placement.specs.Layout.{file_byte, has_extent, IsLayout}
+use Rattle.asm_placement.specs.Layout.{file_byte, has_extent_by_size, IsLayout}
 use Rattle.asm_placement.proofs.Places.{one_place_of}
-use Rattle.asm_images.specs.Members.{Image, Member, all_members, byte}
+use Rattle.asm_images.specs.Members.{ImageBytes, Member, all_members, byte}
 use Rattle.asm_images.specs.Stands.{IsDiskOf, HoldsBytes}
 use Rattle.asm_images.specs.Copies.{IsCurrent}
 use Rattle.asm_group.specs.Group.{Cell, Known, Free, File, Group}
 use Rattle.asm_images.specs.Sound.{SoundBy}
 use Rattle.asm_images.specs.Steps.{IsOpen, IsNarrower}
-use Rattle.asm_images.specs.Spans.{Span, is_inside, inner_of, cell_or, cells_with, file_with, files_with, group_with, freed, settled, FitsIn, IsPiece, IsSettled}
+use Rattle.asm_images.specs.Spans.{Span, is_inside_span, inner_of, cell_or, cells_with, file_with, files_with, group_with, freed, settled, FitsIn, IsPiece, IsSpanSettled}
 use Rattle.asm_images.proofs.Describing.{Carries, carried}
 use Rattle.asm_images.proofs.Members.{member_is, member_shape}
 
@@ -174,7 +174,7 @@ describes_with r items g x put d = record {
   extents = λ f i copy new is has lt.
       let k = keeps_file g x put f new (file_source g x put f new is) in
       d.extents f i copy k.file k.is
-      (subst (λ (t : Stripe). IsTrue (has_extent t g.shape.au g.shape.step (length k.file.cells) i)) (sym k.stripe) (subst (λ (n : ℕ). IsTrue (has_extent new.stripe g.shape.au g.shape.step n i)) (sym k.len) has))
+      (subst (λ (t : Stripe). IsTrue (has_extent_by_size t g.shape.au g.shape.step (length k.file.cells) i)) (sym k.stripe) (subst (λ (n : ℕ). IsTrue (has_extent_by_size new.stripe g.shape.au g.shape.step n i)) (sym k.len) has))
       (omega (arith, lt, k.copies));
   owned = λ f c has. subst (λ (b : Bool). IsTrue (b || is_pending f (pending_of items))) (sym (still_there g x put f)) (d.owned f c has);
   disks = d.disks;
@@ -196,8 +196,8 @@ layout_of s ok = let p = and_parts (is_unit_size s.au) _ ok in record { unit_all
 -- ---- what the bytes have to be
 
 -- Under an open content, outside the span bytes stay, and in it a cell that is put known is of the byte that stands.
-record PutsRight (old new : Image) (ms : List Member) (r : Status) (items : List Item) (x : Span) (put : ℕ → Cell) : Type 0 where
-  outside : (f i copy inner : ℕ) (h : Home) (m : Member) → IsAmong ms m → IsCurrent r items f i copy h m → inner < extent_size m.header.shape i → is_inside x f i inner ≡ false
+record PutsRight (old new : ImageBytes) (ms : List Member) (r : Status) (items : List Item) (x : Span) (put : ℕ → Cell) : Type 0 where
+  outside : (f i copy inner : ℕ) (h : Home) (m : Member) → IsAmong ms m → IsCurrent r items f i copy h m → inner < extent_size m.header.shape i → is_inside_span x f i inner ≡ false
       → byte new m.slot (h.unit * m.header.shape.au + inner) ≡ byte old m.slot (h.unit * m.header.shape.au + inner)
   inside : (copy inner b : ℕ) (h : Home) (m : Member) → IsAmong ms m → IsCurrent r items x.file x.index copy h m → x.from ≤ inner → inner < x.from + x.len → put inner ≡ Known b
       → byte new m.slot (h.unit * m.header.shape.au + inner) ≡ b
@@ -209,18 +209,18 @@ record IsInside (x : Span) (f i inner : ℕ) : Type 0 where
   low : x.from ≤ inner
   high : inner < x.from + x.len
 
-inside_parts : (x : Span) (f i inner : ℕ) → is_inside x f i inner ≡ true → IsInside x f i inner
+inside_parts : (x : Span) (f i inner : ℕ) → is_inside_span x f i inner ≡ true → IsInside x f i inner
 inside_parts x f i inner h =
     let a = and_parts ((f == x.file) && (i == x.index) && leb x.from inner) (ltb inner (x.from + x.len)) h in
     let b = and_parts ((f == x.file) && (i == x.index)) (leb x.from inner) a.0 in
     let c = and_parts (f == x.file) (i == x.index) b.0 in
     record { file = eqb-true f x.file c.0; index = eqb-true i x.index c.1; low = leb-true x.from inner b.1; high = ltb-true inner (x.from + x.len) a.1 }
 
-module _ (old new : Image) (ms : List Member) (r : Status) (items : List Item) (g : Group) (x : Span) (put : ℕ → Cell) (ok : is_shape g.shape ≡ true) (fits : x.from + x.len ≤ extent_size g.shape x.index)
+module _ (old new : ImageBytes) (ms : List Member) (r : Status) (items : List Item) (g : Group) (x : Span) (put : ℕ → Cell) (ok : is_shape g.shape ≡ true) (fits : x.from + x.len ≤ extent_size g.shape x.index)
     (shapes : (m : Member) → IsAmong ms m → m.header.shape ≡ g.shape) (puts : PutsRight old new ms r items x put) (bytes : HoldsBytes old ms r items g) where
   -- a byte outside the span
   outside_byte : (f o b i inner copy : ℕ) (file : File) (h : Home) (m : Member) → maps.get g.files f ≡ Some file → get_or file.cells o Free ≡ Known b → LiesIn g.shape file.stripe o i inner → IsAmong ms m
-      → IsCurrent r items f i copy h m → is_inside x f i inner ≡ false → byte new m.slot (h.unit * g.shape.au + inner) ≡ b
+      → IsCurrent r items f i copy h m → is_inside_span x f i inner ≡ false → byte new m.slot (h.unit * g.shape.au + inner) ≡ b
   outside_byte f o b i inner copy file h m is_file cell lies is_member current out =
       let shape = shapes m is_member in
       let within_extent : inner < extent_size m.header.shape i = subst (λ (s : Shape). inner < extent_size s i) (sym shape) lies.inside in
@@ -248,9 +248,9 @@ module _ (old new : Image) (ms : List Member) (r : Status) (items : List Item) (
       let here : file_byte file.stripe g.shape.au g.shape.step x.index inner ≡ o = ap (λ (j : ℕ). file_byte file.stripe g.shape.au g.shape.step j inner) (sym p.index) ∙ sym lies.byte in
       absurd (both_ways (file_byte file.stripe g.shape.au g.shape.step x.index inner == o) no (eq-eqb (file_byte file.stripe g.shape.au g.shape.step x.index inner) o here)))
       (λ no. outside_byte f o b i inner copy file h m is_file cell lies is_member current no)
-      (cases_Bool (is_inside x f i inner))
+      (cases_Bool (is_inside_span x f i inner))
 
-  other_file : (f i inner : ℕ) → (f ≡ x.file → ⊥) → is_inside x f i inner ≡ false
+  other_file : (f i inner : ℕ) → (f ≡ x.file → ⊥) → is_inside_span x f i inner ≡ false
   other_file f i inner differ = ap (λ (t : Bool). t && (i == x.index) && leb x.from inner && ltb inner (x.from + x.len)) (ne_eqb f x.file differ)
 
   put_file : (f o b i inner copy : ℕ) (file : File) (h : Home) (m : Member) → f ≡ x.file → maps.get g.files f ≡ Some file → Source g.shape file x put o b → LiesIn g.shape file.stripe o i inner → IsAmong ms m
@@ -272,11 +272,11 @@ module _ (old new : Image) (ms : List Member) (r : Status) (items : List Item) (
 
 -- ---- the laws
 
-members_shape : (id : ℕ) (image : Image) (g : Group) (r : Status) → ((m : Member) → IsAmong (all_members id image) m → IsDiskOf g r m) → (m : Member) → IsAmong (all_members id image) m → is_shape g.shape ≡ true
+members_shape : (id : ℕ) (image : ImageBytes) (g : Group) (r : Status) → ((m : Member) → IsAmong (all_members id image) m → IsDiskOf g r m) → (m : Member) → IsAmong (all_members id image) m → is_shape g.shape ≡ true
 members_shape id image g r disks m h = subst (λ (s : Shape). is_shape s ≡ true) (disks m h).shape (member_shape m.header (member_is id image m h).allowed)
 
 -- A span is put anew in each group.
-put_carries : (id : ℕ) (old new : Image) (groups : List Group) (completed : Option Status) (begun : List Status) (sound : SoundBy id old groups completed begun) (x : Span) (put : ℕ → Cell) → FitsIn groups x
+put_carries : (id : ℕ) (old new : ImageBytes) (groups : List Group) (completed : Option Status) (begun : List Status) (sound : SoundBy id old groups completed begun) (x : Span) (put : ℕ → Cell) → FitsIn groups x
     → ((r : Status) (items : List Item) → IsOpen id old completed begun r items → PutsRight old new (all_members id old) r items x put)
     → Carries id old new groups (map (group_with x put) groups) completed begun
 put_carries id old new groups completed begun sound x put fits puts r c P g counts not_gone found among d =
@@ -296,7 +296,7 @@ put_carries id old new groups completed begun sound x put fits puts r c P g coun
       },
     )
 
-pub piece_keeps : (id : ℕ) (old new : Image) (groups : List Group) (completed : Option Status) (begun : List Status) (sound : SoundBy id old groups completed begun) (x : Span) → IsPiece id old new groups completed begun x → SoundBy id new (map (freed x) groups) completed begun
+pub piece_keeps : (id : ℕ) (old new : ImageBytes) (groups : List Group) (completed : Option Status) (begun : List Status) (sound : SoundBy id old groups completed begun) (x : Span) → IsPiece id old new groups completed begun x → SoundBy id new (map (freed x) groups) completed begun
 piece_keeps id old new groups completed begun sound x piece =
     carried id old new groups (map (freed x) groups) completed begun sound piece.metadata
     (put_carries id old new groups completed begun sound x (λ inner. Free) piece.fits (λ r items is_open. record {
@@ -307,7 +307,7 @@ piece_keeps id old new groups completed begun sound x piece =
 known_same : (a b : ℕ) → Known a ≡ Known b → a ≡ b
 known_same a b e = cc
 
-pub settle_keeps : (id : ℕ) (image : Image) (groups : List Group) (completed : Option Status) (begun : List Status) (sound : SoundBy id image groups completed begun) (x : Span) (bytes : List ℕ) → IsSettled id image groups completed begun x bytes → SoundBy id image (map (settled x bytes) groups) completed begun
+pub settle_keeps : (id : ℕ) (image : ImageBytes) (groups : List Group) (completed : Option Status) (begun : List Status) (sound : SoundBy id image groups completed begun) (x : Span) (bytes : List ℕ) → IsSpanSettled id image groups completed begun x bytes → SoundBy id image (map (settled x bytes) groups) completed begun
 settle_keeps id image groups completed begun sound x bytes settle =
     carried id image image groups (map (settled x bytes) groups) completed begun sound refl
     (put_carries id image image groups completed begun sound x (λ inner. Known (slice_index bytes (inner - x.from))) settle.fits (λ r items is_open. record {
@@ -318,9 +318,9 @@ settle_keeps id image groups completed begun sound x bytes settle =
           (settle.same r items copy (inner - x.from) h m is_open is_member current (omega arith) ∙ known_same (slice_index bytes (inner - x.from)) b value);
     }))
 
-pub narrow_keeps : (id : ℕ) (image : Image) (groups fewer : List Group) (completed : Option Status) (begun : List Status) (sound : SoundBy id image groups completed begun) → IsNarrower id image fewer completed begun → SoundBy id image fewer completed begun
+pub narrow_keeps : (id : ℕ) (image : ImageBytes) (groups fewer : List Group) (completed : Option Status) (begun : List Status) (sound : SoundBy id image groups completed begun) → IsNarrower id image fewer completed begun → SoundBy id image fewer completed begun
 narrow_keeps id image groups fewer completed begun sound narrow = carried id image image groups fewer completed begun sound refl (λ r c P g counts not_gone found among d. narrow.left r c P counts not_gone found)
 
-pub widen_keeps : (id : ℕ) (image : Image) (groups more : List Group) (completed : Option Status) (begun : List Status) (sound : SoundBy id image groups completed begun) → ((g : Group) → IsAmong groups g → IsAmong more g)
+pub widen_keeps : (id : ℕ) (image : ImageBytes) (groups more : List Group) (completed : Option Status) (begun : List Status) (sound : SoundBy id image groups completed begun) → ((g : Group) → IsAmong groups g → IsAmong more g)
     → SoundBy id image more completed begun
 widen_keeps id image groups more completed begun sound wider = carried id image image groups more completed begun sound refl (λ r c P g counts not_gone found among d. (g, wider g among, d))

@@ -17,7 +17,7 @@ use Rattle.asm_formats.specs.Items.{Item, file_item, chunk_item, disk_item, reba
 use Rattle.asm_placement.specs.Tables.{homes_in, home_of}
 use Rattle.asm_placement.specs.Placed.{Placed, placed_copies, placed_extents, placed, fits_entry, is_inside, all_apart, places_fit}
 use Rattle.asm_formats.specs.Places.{SameElsewhere}
-use Rattle.asm_images.specs.Members.{Image, Member, all_members, written}
+use Rattle.asm_images.specs.Members.{ImageBytes, Member, all_members, written}
 use Rattle.asm_group.specs.Group.{Group}
 use Rattle.asm_images.specs.Sound.{SoundBy}
 use Rattle.asm_images.specs.Steps.{KeepsByte, KeepsCopies}
@@ -99,7 +99,7 @@ unfolding is_shape
 shape_au s ok = ltb-true 0 s.au (passes_if_all (λ n. ltb 0 n) s.au unit_sizes (and_parts (is_unit_size s.au) _ ok).0 refl)
 
 -- a write before the end of the directory region changes no byte of a copy whose home lies in the user units
-pub copy_byte_kept : (id : ℕ) (old : Image) (slot : ℕ) (bytes : List ℕ) (at n : ℕ) → slot < length old → SameElsewhere (get_or old slot []) bytes at n
+pub copy_byte_kept : (id : ℕ) (old : ImageBytes) (slot : ℕ) (bytes : List ℕ) (at n : ℕ) → slot < length old → SameElsewhere (get_or old slot []) bytes at n
     → ((m : Member) → IsAmong (all_members id old) m → m.slot ≡ slot → at + n ≤ region_end m.header.shape.dir_blocks * block_size)
     → (r : Status) (items : List Item) (f i copy inner : ℕ) (h : Home) (m : Member) → places_fit m.header.shape r.entries items ≡ true → IsAmong (all_members id old) m → home_of items f i copy ≡ Some h
     → KeepsByte old (written old slot bytes) m h inner
@@ -114,7 +114,7 @@ copy_byte_kept id old slot bytes at n inside same below r items f i copy inner h
     (λ differ. ap (λ (l : List ℕ). slice_index l (h.unit * m.header.shape.au + inner)) (get_or-set_other old slot m.slot bytes [] differ))
     (cases_eq m.slot slot)
 
-pub metadata_write_keeps_copies : (id : ℕ) (old : Image) (groups : List Group) (completed : Option Status) (begun : List Status) → SoundBy id old groups completed begun
+pub metadata_write_keeps_copies : (id : ℕ) (old : ImageBytes) (groups : List Group) (completed : Option Status) (begun : List Status) → SoundBy id old groups completed begun
     → (slot : ℕ) (bytes : List ℕ) (at n : ℕ) → slot < length old → SameElsewhere (get_or old slot []) bytes at n
     → ((m : Member) → IsAmong (all_members id old) m → m.slot ≡ slot → at + n ≤ region_end m.header.shape.dir_blocks * block_size)
     → KeepsCopies id old (written old slot bytes) completed begun

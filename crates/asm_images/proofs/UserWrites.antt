@@ -21,14 +21,14 @@ use Rattle.asm_formats.specs.Among.{IsAmong}
 use Rattle.asm_placement.specs.Layout.{units_of}
 use Rattle.asm_placement.specs.Tables.{homes_in, home_of}
 use Rattle.asm_placement.specs.Placed.{Placed, placed_copies, placed_extents, placed, are_apart, is_inside, all_apart, places_fit}
-use Rattle.asm_images.specs.Members.{Image, Member, byte, written, metadata_of, all_members}
+use Rattle.asm_images.specs.Members.{ImageBytes, Member, byte, written, metadata_of, all_members}
 use Rattle.asm_images.specs.Copies.{is_kept, is_disk_in}
 use Rattle.asm_images.specs.Sound.{SoundBy}
 use Rattle.asm_images.specs.Steps.{IsOpen, IsSpare}
 use Rattle.asm_images.specs.Spans.{Span, FitsIn, IsPiece}
 use Rattle.asm_images.specs.Spans as spans
 use Rattle.asm_images.specs.PutLaws.{bytes_of}
-use Rattle.asm_images.specs.WriteLaws.{AreApart, AreFree, AreOwn}
+use Rattle.asm_images.specs.WriteLaws.{AreApart, AreFreeUnits, HasOwnUnits}
 use Rattle.asm_images.proofs.Membership.{among_left, among_right}
 use Rattle.asm_images.proofs.Members.{member_is, member_shape}
 use Rattle.asm_images.proofs.UserBytes.{reserved_cover, shape_au, all_of_list}
@@ -123,7 +123,7 @@ other_way a b c d (inl le) = inr le
 other_way a b c d (inr le) = inl le
 
 pub homes_are_apart : (s : Shape) (entries : List Entry) (items : List Item) (x : Span) (copy : ℕ) (h : Home) → IsTrue (places_fit s entries items)
-    → home_of items x.file x.index copy ≡ Some h → AreOwn items s.step x h
+    → home_of items x.file x.index copy ≡ Some h → HasOwnUnits items s.step x h
 homes_are_apart s entries items x copy h fit own f i other k home disk =
     let p = placed_as s.step items x.file x.index copy h own in
     let q = placed_as s.step items f i other k home in
@@ -161,7 +161,7 @@ bytes_apart : (au unit len other other_len inner : ℕ) → AreApart unit len ot
 bytes_apart au unit len other other_len inner (inl le) lt = inl (omega (arith, mul-le-mul_right au le))
 bytes_apart au unit len other other_len inner (inr le) lt = inr (omega (arith, mul-le-mul_right au le, lt))
 
-module _ (id : ℕ) (old : Image) (m : Member) (bytes : List ℕ) (at n : ℕ) (is_member : IsAmong (all_members id old) m) (same : SameElsewhere (bytes_of old m.slot) bytes at n) where
+module _ (id : ℕ) (old : ImageBytes) (m : Member) (bytes : List ℕ) (at n : ℕ) (is_member : IsAmong (all_members id old) m) (same : SameElsewhere (bytes_of old m.slot) bytes at n) where
   -- a byte outside the range
   byte_kept : (k : Member) (place : ℕ) → ((k.slot ≡ m.slot) → (place < at) ⊎ (at + n ≤ place)) → byte (written old m.slot bytes) k.slot place ≡ byte old k.slot place
   byte_kept k place out = ⊎_elim
@@ -183,10 +183,10 @@ module _ (id : ℕ) (old : Image) (m : Member) (bytes : List ℕ) (at n : ℕ) (
   metadata_kept : reserved_units m.header.shape * m.header.shape.au ≤ at → metadata_of (written old m.slot bytes) ≡ metadata_of old
   metadata_kept le = user_write_keeps_metadata old m.slot bytes m.header at n (member_is id old m is_member).slot same (member_is id old m is_member).header (behind le)
 
-pub free_write_is_spare : (id : ℕ) (old : Image) (groups : List Group) (completed : Option Status) (begun : List Status) → SoundBy id old groups completed begun
+pub free_write_is_spare : (id : ℕ) (old : ImageBytes) (groups : List Group) (completed : Option Status) (begun : List Status) → SoundBy id old groups completed begun
     → (m : Member) (bytes : List ℕ) (unit len at n : ℕ) → IsAmong (all_members id old) m → reserved_units m.header.shape ≤ unit
     → unit * m.header.shape.au ≤ at → at + n ≤ (unit + len) * m.header.shape.au
-    → ((r : Status) (items : List Item) → IsOpen id old completed begun r items → AreFree items m.header.shape.step m.header.number unit len)
+    → ((r : Status) (items : List Item) → IsOpen id old completed begun r items → AreFreeUnits items m.header.shape.step m.header.number unit len)
     → SameElsewhere (bytes_of old m.slot) bytes at n → IsSpare id old (written old m.slot bytes) completed begun
 free_write_is_spare id old groups completed begun sound m bytes unit len at n is_member reserved low high free same = record {
   metadata = metadata_kept id old m bytes at n is_member same (omega (arith, low, mul-le-mul_right m.header.shape.au reserved));
@@ -202,16 +202,16 @@ free_write_is_spare id old groups completed begun sound m bytes unit len at n is
 }
 
 -- an inner byte of the span's own extent that isn't in the span
-outside_span : (x : Span) (inner : ℕ) → spans.is_inside x x.file x.index inner ≡ false → (inner < x.from) ⊎ (x.from + x.len ≤ inner)
+outside_span : (x : Span) (inner : ℕ) → spans.is_inside_span x x.file x.index inner ≡ false → (inner < x.from) ⊎ (x.from + x.len ≤ inner)
 outside_span x inner out = ⊎_elim (λ low. inl low)
     (λ from. ⊎_elim
     (λ lt. absurd (false≢true (sym out ∙ and_from _ _ (and_from _ _ (and_from _ _ (eq-eqb x.file x.file refl) (eq-eqb x.index x.index refl)) (le-leb x.from inner from)) (lt-ltb inner (x.from + x.len) lt))))
     (λ le. inr le) (cases_lt inner (x.from + x.len))) (cases_lt inner x.from)
 
-pub copy_write_is_piece : (id : ℕ) (old : Image) (groups : List Group) (completed : Option Status) (begun : List Status) → SoundBy id old groups completed begun
+pub copy_write_is_piece : (id : ℕ) (old : ImageBytes) (groups : List Group) (completed : Option Status) (begun : List Status) → SoundBy id old groups completed begun
     → (x : Span) (h : Home) (m : Member) (bytes : List ℕ) → IsAmong (all_members id old) m → h.disk ≡ m.header.number → reserved_units m.header.shape ≤ h.unit
     → FitsIn groups x → x.from + x.len ≤ units_of m.header.shape.step x.index * m.header.shape.au
-    → ((r : Status) (items : List Item) → IsOpen id old completed begun r items → AreOwn items m.header.shape.step x h)
+    → ((r : Status) (items : List Item) → IsOpen id old completed begun r items → HasOwnUnits items m.header.shape.step x h)
     → SameElsewhere (bytes_of old m.slot) bytes (h.unit * m.header.shape.au + x.from) x.len → IsPiece id old (written old m.slot bytes) groups completed begun x
 copy_write_is_piece id old groups completed begun sound x h m bytes is_member number reserved fits short own same = record {
   fits = fits;
@@ -226,7 +226,7 @@ copy_write_is_piece id old groups completed begun sound x h m bytes is_member nu
       (⊎_elim
       (λ one.
       let unit : k_home.unit ≡ h.unit = ap (λ (y : Home). y.unit) one.2 in
-      let out_here : spans.is_inside x x.file x.index inner ≡ false = subst (λ (j : ℕ). spans.is_inside x x.file j inner ≡ false) one.1 (subst (λ (g : ℕ). spans.is_inside x g i inner ≡ false) one.0 out) in
+      let out_here : spans.is_inside_span x x.file x.index inner ≡ false = subst (λ (j : ℕ). spans.is_inside_span x x.file j inner ≡ false) one.1 (subst (λ (g : ℕ). spans.is_inside_span x g i inner ≡ false) one.0 out) in
       let bytes_same : k_home.unit * m.header.shape.au ≡ h.unit * m.header.shape.au = ap (λ (u : ℕ). u * m.header.shape.au) unit in
       ⊎_elim (λ low. inl (omega (arith, low, bytes_same))) (λ high. inr (omega (arith, high, bytes_same))) (outside_span x inner out_here))
       (λ apart.

@@ -7,7 +7,7 @@ use Rattle.asm_formats.specs.Bytes.{block}
 use Rattle.asm_formats.specs.Regions.{least_size}
 use Rattle.asm_images.specs.Laws.{zeros}
 use Rattle.asm_formats.specs.Metadata.{metadata}
-use Rattle.asm_images.specs.Members.{Image, Member, with_member, members_from, members, metadata_of, within, statuses, all_members}
+use Rattle.asm_images.specs.Members.{ImageBytes, Member, with_member, members_from, members, metadata_of, within, statuses, all_members}
 use Rattle.asm_images.specs.Register.{Fits}
 use Rattle.asm_images.specs.Sound.{Sound}
 
@@ -41,7 +41,7 @@ nothing_fits id = record {
 }
 
 -- an image without members is that of no group
-pub memberless : (id : ℕ) (image : Image) → all_members id image ≡ [] → Sound id image []
+pub memberless : (id : ℕ) (image : ImageBytes) → all_members id image ≡ [] → Sound id image []
 memberless id image none = record {
   completed = None;
   begun = [];

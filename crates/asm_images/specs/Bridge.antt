@@ -6,14 +6,14 @@ use Rattle.bay.specs.Image.{window, Range, Same, ChangesOnly, Makes}
 use Rattle.asm_formats.specs.Bytes.{block_size, open_byte, piece}
 use Rattle.asm_formats.specs.Slots.{IsPut}
 use Rattle.asm_formats.specs.Places.{SameElsewhere}
-use Rattle.asm_images.specs.Members.{Image, written}
+use Rattle.asm_images.specs.Members.{ImageBytes, written}
 
 -- the bytes of the disk in a slot
 abbrev pub disk_bytes : bay.Image → ℕ → List ℕ
 disk_bytes image slot = window (image.byte slot) 0 (image.size slot)
 
 -- the disks of so many slots
-unfoldable pub disks_in : ℕ → bay.Image → Image
+unfoldable pub disks_in : ℕ → bay.Image → ImageBytes
 disks_in slots image = map (disk_bytes image) (range_with_len 0 slots)
 
 -- Each slot's disk is the list of its bytes.
@@ -64,12 +64,12 @@ MadeIsZeros =
 -- ---- slots
 
 -- what the slot behind the gate in block k shows: the block behind it, where the gate is open
-abbrev pub shown : bay.Image → ℕ → ℕ → Option (List ℕ)
-shown image slot k = if image.byte slot (k * block_size) == open_byte then Some (window (image.byte slot) ((k + 1) * block_size) block_size) else None
+abbrev pub shown_block : bay.Image → ℕ → ℕ → Option (List ℕ)
+shown_block image slot k = if image.byte slot (k * block_size) == open_byte then Some (window (image.byte slot) ((k + 1) * block_size) block_size) else None
 
 -- A change inside a slot's two blocks, after which it shows what it did, nothing or a body, is a moment of putting that body.
 abbrev pub ShownIsPut : Type 0
 ShownIsPut =
     (old new : bay.Image) (slot k : ℕ) (body : List ℕ) → (k + 2) * block_size ≤ old.size slot → ChangesOnly (Range slot (k * block_size) (2 * block_size)) old new
-    → (shown new slot k ≡ shown old slot k) ⊎ ((shown new slot k ≡ None) ⊎ (shown new slot k ≡ Some body))
+    → (shown_block new slot k ≡ shown_block old slot k) ⊎ ((shown_block new slot k ≡ None) ⊎ (shown_block new slot k ≡ Some body))
     → IsPut (disk_bytes old slot) (disk_bytes new slot) k body

@@ -10,7 +10,7 @@ use Rattle.asm_formats.specs.Pages.{committed}
 use Rattle.asm_formats.specs.Metadata.{header_of}
 use Rattle.asm_formats.specs.LogSlots.{IsLogPut}
 use Rattle.asm_formats.specs.Among.{IsAmong}
-use Rattle.asm_images.specs.Members.{Image, Member, written, all_members, within, statuses}
+use Rattle.asm_images.specs.Members.{ImageBytes, Member, written, all_members, within, statuses}
 use Rattle.asm_images.specs.Register.{current_records}
 use Rattle.asm_images.specs.Directories.{directories, IsNamed}
 use Rattle.asm_images.specs.Stands.{Describes}
@@ -37,7 +37,7 @@ OneContentIsFound = (r : Status) (ms : List Member) (c d : Content) (P : ℕ →
 -- A record whose copies have one content, which describes a listed group, may be taken for Status.
 abbrev pub OneContentIsCovered : Type 0
 OneContentIsCovered =
-    (id : ℕ) (image : Image) (groups : List Group) (r : Status) (c : Content) (g : Group) → HaveContent r (all_members id image) c
+    (id : ℕ) (image : ImageBytes) (groups : List Group) (r : Status) (c : Content) (g : Group) → HaveContent r (all_members id image) c
     → ((m : Member) → IsAmong (all_members id image) m → m.header.birth ≤ r.births)
     → ((s : Status) (e : Entry) → IsAmong (statuses id (all_members id image)) s → IsAmong s.entries e → e.birth ≤ r.births)
     → IsAmong groups g → Describes image (all_members id image) (all_members id image) r c g
@@ -46,7 +46,7 @@ OneContentIsCovered =
 -- Where it is so of each record that counts, with one group, that group is left.
 abbrev pub OneContentNarrows : Type 0
 OneContentNarrows =
-    (id : ℕ) (image : Image) (g : Group) (completed : Option Status) (begun : List Status) (c : Content)
+    (id : ℕ) (image : ImageBytes) (g : Group) (completed : Option Status) (begun : List Status) (c : Content)
     → ((r : Status) → IsAmong (current_records completed begun) r → r.gone ≡ false
     → HaveContent r (all_members id image) c × Describes image (all_members id image) (all_members id image) r c g)
     → IsNarrower id image (g ∷ []) completed begun
@@ -54,7 +54,7 @@ OneContentNarrows =
 -- ---- a commit
 
 -- Before it is put: no other named copy has the number with another content, and with it the disks as they are hold a listed group.
-pub record IsReady (id : ℕ) (old : Image) (groups : List Group) (completed : Option Status) (begun : List Status) (slot : ℕ) (c : Content) : Type 0 where
+pub record IsContentReady (id : ℕ) (old : ImageBytes) (groups : List Group) (completed : Option Status) (begun : List Status) (slot : ℕ) (c : Content) : Type 0 where
   pub agrees : (r : Status) (m n : Member) (d : Content) → IsAmong (current_records completed begun) r → r.gone ≡ false → IsAmong (all_members id old) m → m.slot ≡ slot → IsNamed r m.header
       → IsAmong (all_members id old) n → (n.slot ≡ slot → ⊥) → IsNamed r n.header → n.disk.content ≡ Some d → d.commit ≡ c.commit → d ≡ c
   pub described : (r : Status) (m : Member) → IsAmong (current_records completed begun) r → r.gone ≡ false → IsAmong (all_members id old) m → m.slot ≡ slot → IsNamed r m.header
@@ -63,11 +63,11 @@ pub record IsReady (id : ℕ) (old : Image) (groups : List Group) (completed : O
 -- At each moment while a log is put whose content is ready, the image is sound.
 abbrev pub ReadyPutKeeps : Type 0
 ReadyPutKeeps =
-    (id : ℕ) (old : Image) (groups : List Group) (completed : Option Status) (begun : List Status) → SoundBy id old groups completed begun
+    (id : ℕ) (old : ImageBytes) (groups : List Group) (completed : Option Status) (begun : List Status) → SoundBy id old groups completed begun
     → (h : Header) (log : Log) (slot : ℕ) (bytes : List ℕ) (k other : ℕ) → slot < length old → header_of (bytes_of old slot) ≡ Some h
     → IsLogPut h.shape.dir_blocks (bytes_of old slot) bytes k other log
     → IsTrue (is_some (committed h.shape.dir_blocks (bytes_of old slot) log).items)
-    → IsReady id old groups completed begun slot (committed h.shape.dir_blocks (bytes_of old slot) log)
+    → IsContentReady id old groups completed begun slot (committed h.shape.dir_blocks (bytes_of old slot) log)
     → SoundBy id (written old slot bytes) groups completed begun
 
 -- ---- the last record
@@ -75,7 +75,7 @@ ReadyPutKeeps =
 -- A record that is begun is the last.
 abbrev pub BegunIsLast : Type 0
 BegunIsLast =
-    (id : ℕ) (image : Image) (groups : List Group) (completed : Option Status) (begun : List Status) (r : Status) → IsBegun id image groups completed begun r
+    (id : ℕ) (image : ImageBytes) (groups : List Group) (completed : Option Status) (begun : List Status) (r : Status) → IsBegun id image groups completed begun r
     → IsLast completed (begun ++ (r ∷ [])) r
 
 -- Once it is complete, it is the last still.

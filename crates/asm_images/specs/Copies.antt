@@ -19,8 +19,8 @@ unfoldable pub is_kept : Status → ℕ → Header → Bool
 is_kept r d h = is_disk_in (λ mode. not (is_forced mode)) d h (entry_of r.entries d)
 
 -- the disk has an entry whose mode serves
-unfoldable pub is_serving : Status → ℕ → Header → Bool
-is_serving r d h = is_disk_in serves d h (entry_of r.entries d)
+unfoldable pub has_serving_entry : Status → ℕ → Header → Bool
+has_serving_entry r d h = is_disk_in serves d h (entry_of r.entries d)
 
 -- a copy of extent i of file f has this home, on this member, and is current: the disk is kept, and the copy isn't marked
 pub record IsCurrent (r : Status) (items : List Item) (f i copy : ℕ) (h : Home) (m : Member) : Type 0 where
@@ -31,5 +31,5 @@ pub record IsCurrent (r : Status) (items : List Item) (f i copy : ℕ) (h : Home
 -- it is usable: its disk can be read and serves besides
 pub record IsUsable (r : Status) (items : List Item) (readable : List Member) (f i copy : ℕ) (h : Home) : Type 0 where
   pub home : home_of items f i copy ≡ Some h
-  pub serving : IsTrue (list_any (λ (m : Member). is_serving r h.disk m.header) readable)
+  pub serving : IsTrue (list_any (λ (m : Member). has_serving_entry r h.disk m.header) readable)
   pub not_stale : is_stale items f i copy ≡ false

@@ -9,7 +9,7 @@ use Rattle.asm_formats.specs.Header.{Header}
 use Rattle.asm_formats.specs.Items.{Item, FileHead, Settings, file_item, settings_item}
 use Rattle.asm_formats.specs.Metadata.{Metadata}
 use Rattle.asm_formats.specs.Status.{Entry, Status}
-use Rattle.asm_images.specs.Members.{Image, metadata_of}
+use Rattle.asm_images.specs.Members.{ImageBytes, metadata_of}
 
 pub record HeaderIsBelow (limit : ℕ) (h : Header) : Type 0 where
   pub id : h.id < limit
@@ -43,5 +43,5 @@ pub record DiskIsBelow (limit : ℕ) (disk : Metadata) : Type 0 where
   pub content : ForSome disk.content (ContentIsBelow limit)
 
 -- The counters in this image are below a limit.
-abbrev pub CountersAreBelow : ℕ → Image → Type 0
+abbrev pub CountersAreBelow : ℕ → ImageBytes → Type 0
 CountersAreBelow limit image = (disk : Metadata) → IsAmong (metadata_of image) disk → DiskIsBelow limit disk

@@ -8,7 +8,7 @@ use Rattle.asm_group.specs.declared.Stripe.{Stripe}
 use Rattle.asm_group.specs.Shape.{Shape}
 use Rattle.asm_group.specs.Group.{File, Group}
 use Rattle.asm_group.specs.NewGroup.{templates_by_name}
-use Rattle.asm_placement.specs.Layout.{extent_len, LiesAt, has_extent}
+use Rattle.asm_placement.specs.Layout.{extent_len, LiesAt, has_extent_by_size}
 use Rattle.asm_placement.specs.Tables.{head_of, homes_in, marks_in, home_of, is_stale, is_extent}
 use Rattle.asm_placement.specs.Naming.{is_birth, is_pending}
 use Rattle.asm_placement.specs.Placed.{places_fit}
@@ -46,14 +46,14 @@ SameFile (Some head) None = head.system ≡ 0
 SameFile (Some head) (Some file) = (0 < head.system) × IsHeadOf head file
 
 -- the entry has a disk record of its number and birth
-abbrev pub has_info : List Item → Entry → Bool
-has_info items e = is_birth e.birth (info_of items e.number)
+abbrev pub has_info_in_items : List Item → Entry → Bool
+has_info_in_items items e = is_birth e.birth (info_of items e.number)
 
 -- a record of kind 4, for which two blocks are kept
-abbrev pub is_operation : Item → Bool
-is_operation (rebalance_item power) = true
-is_operation (pending_item op) = true
-is_operation _ = false
+abbrev pub is_operation_item : Item → Bool
+is_operation_item (rebalance_item power) = true
+is_operation_item (pending_item op) = true
+is_operation_item _ = false
 
 -- the records of extents
 pub record KeepsExtentRules (items : List Item) : Type 0 where
@@ -80,7 +80,7 @@ pub record DescribesGroup (r : Status) (items : List Item) (g : Group) : Type 0 
   -- files
   pub files : (f : ℕ) → SameFile (head_of items f) (maps.get g.files f)
   -- each extent that a file has by its size has all its copies
-  pub extents : (f i copy : ℕ) (file : File) → maps.get g.files f ≡ Some file → IsTrue (has_extent file.stripe g.shape.au g.shape.step (length file.cells) i) → copy < file.copies
+  pub extents : (f i copy : ℕ) (file : File) → maps.get g.files f ≡ Some file → IsTrue (has_extent_by_size file.stripe g.shape.au g.shape.step (length file.cells) i) → copy < file.copies
       → IsTrue (is_some (home_of items f i copy))
   pub extent_rules : KeepsExtentRules items
   -- each chunk is of a file of the group or of the pending operation
@@ -93,7 +93,7 @@ pub record DescribesGroup (r : Status) (items : List Item) (g : Group) : Type 0 
   pub attributes : option_map (λ (s : Settings). s.attributes) (settings_of items) ≡ Some g.attributes
   pub next : option_map (λ (s : Settings). s.incarnation) (settings_of items) ≡ Some g.next
   -- disks
-  pub disks : IsTrue (list_all (has_info items) r.entries)
+  pub disks : IsTrue (list_all (has_info_in_items items) r.entries)
   pub partners : HasPartners r.entries
   -- room for the rebalance and the pending operation
-  pub room : length (filter (λ i. not (is_operation i)) items) + 2 ≤ g.shape.dir_blocks
+  pub room : length (filter (λ i. not (is_operation_item i)) items) + 2 ≤ g.shape.dir_blocks

@@ -12,14 +12,14 @@ abbrev pub to_list : Option Content → List Content
 to_list None = []
 to_list (Some c) = c ∷ []
 
-abbrev pub held_by : Option Member → List Content
-held_by None = []
-held_by (Some m) = to_list m.disk.content
+abbrev pub member_contents : Option Member → List Content
+member_contents None = []
+member_contents (Some m) = to_list m.disk.content
 
 -- the content of the copy on disk d, which is meant with the birth of its entry
 abbrev pub copy_on : List Member → ℕ → Option Entry → List Content
 copy_on ms d None = []
-copy_on ms d (Some e) = held_by (find (λ (m : Member). is_disk d e.birth m.header) ms)
+copy_on ms d (Some e) = member_contents (find (λ (m : Member). is_disk d e.birth m.header) ms)
 
 -- the contents of the copies that the record names, by disk number
 unfoldable pub copies : Status → List Member → List Content

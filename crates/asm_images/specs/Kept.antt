@@ -10,7 +10,7 @@ use Rattle.asm_formats.specs.Metadata.{header_of}
 use Rattle.asm_images.specs.Bridge.{disk_bytes, disks_in, ChangesSlot}
 use Rattle.asm_formats.specs.Among.{IsAmong}
 use Rattle.asm_images.specs.Directories.{IsNamed}
-use Rattle.asm_images.specs.Members.{Image, Member, all_members, within}
+use Rattle.asm_images.specs.Members.{ImageBytes, Member, all_members, within}
 use Rattle.asm_images.specs.Register.{is_enough}
 use Rattle.asm_images.specs.Sound.{SoundBy}
 use Rattle.asm_images.specs.Stands.{Standing}
@@ -51,7 +51,7 @@ FewerSlotsAreSound =
 -- has one of its copies.
 abbrev pub CompleteStands : Type 0
 CompleteStands =
-    (id : ℕ) (image : Image) (groups : List Group) (s : Status) (slots : ℕ → Bool) (m : Member) (c : Content) → SoundBy id image groups (Some s) [] → s.gone ≡ false
+    (id : ℕ) (image : ImageBytes) (groups : List Group) (s : Status) (slots : ℕ → Bool) (m : Member) (c : Content) → SoundBy id image groups (Some s) [] → s.gone ≡ false
     → IsTrue (is_enough s (within slots (all_members id image))) → IsAmong (within slots (all_members id image)) m → IsNamed s m.header → m.disk.content ≡ Some c
     → Standing id image slots
 

@@ -8,23 +8,23 @@ use Rattle.asm_formats.specs.Status.{Status}
 use Rattle.asm_formats.specs.Metadata.{Metadata, metadata}
 
 -- of each slot of the bay the bytes of its disk
-abbrev pub Image : Type 0
-Image = List (List ℕ)
+abbrev pub ImageBytes : Type 0
+ImageBytes = List (List ℕ)
 
 -- a byte of the disk in a slot
-abbrev pub byte : Image → ℕ → ℕ → ℕ
+abbrev pub byte : ImageBytes → ℕ → ℕ → ℕ
 byte image slot at = slice_index (get_or image slot []) at
 
 -- the disk of a slot has these bytes, and all others stay
-abbrev pub written : Image → ℕ → List ℕ → Image
+abbrev pub written : ImageBytes → ℕ → List ℕ → ImageBytes
 written image slot bytes = set image slot bytes
 
 -- what the disk in a slot says
-abbrev pub disk_of : Image → ℕ → Metadata
+abbrev pub disk_of : ImageBytes → ℕ → Metadata
 disk_of image slot = metadata (get_or image slot [])
 
 -- what each disk says
-abbrev pub metadata_of : Image → List Metadata
+abbrev pub metadata_of : ImageBytes → List Metadata
 metadata_of image = map metadata image
 
 -- a disk whose open header names the group
@@ -46,7 +46,7 @@ unfoldable pub members : ℕ → List Metadata → List Member
 members id disks = members_from id 0 disks
 
 -- all members of an id, by slot
-abbrev pub all_members : ℕ → Image → List Member
+abbrev pub all_members : ℕ → ImageBytes → List Member
 all_members id image = members id (metadata_of image)
 
 -- those in a set of slots
@@ -54,7 +54,7 @@ unfoldable pub within : (ℕ → Bool) → List Member → List Member
 within slots ms = filter (λ (m : Member). slots m.slot) ms
 
 -- the members that can be read, where these slots can
-abbrev pub readable_members : ℕ → Image → (ℕ → Bool) → List Member
+abbrev pub readable_members : ℕ → ImageBytes → (ℕ → Bool) → List Member
 readable_members id image slots = within slots (all_members id image)
 
 -- the header is that of the disk with this number and birth

@@ -17,7 +17,7 @@ use Rattle.asm_formats.specs.Status.{Status, Entry}
 use Rattle.asm_formats.specs.Among.{IsAmong}
 use Rattle.asm_images.specs.Describing.{DescribesGroup, KeepsExtentRules, AreRegular}
 use Rattle.asm_images.specs.Directories.{directories}
-use Rattle.asm_images.specs.Members.{Image, Member, within}
+use Rattle.asm_images.specs.Members.{ImageBytes, Member, within}
 use Rattle.asm_images.specs.Stands.{HoldsBytes, Describes}
 
 -- ---- the group
@@ -97,7 +97,7 @@ abbrev pub mirrored_disks : Content → Content → List Member
 mirrored_disks a b = mirrored_disk 0 a ∷ mirrored_disk 1 b ∷ []
 
 -- so many bytes in front of the extent, then the two bytes of its copies: the first are a and b
-abbrev pub mirrored_image : ℕ → ℕ → ℕ → Image
+abbrev pub mirrored_image : ℕ → ℕ → ℕ → ImageBytes
 mirrored_image front a b = (replicate front 0 ++ (a ∷ 0 ∷ [])) ∷ (replicate front 0 ++ (b ∷ 0 ∷ [])) ∷ []
 
 -- a commit stands on the second copy alone
@@ -105,18 +105,18 @@ abbrev pub torn_disks : List Member
 torn_disks = mirrored_disks (mirrored_content 0 1) (mirrored_content 0 2)
 
 -- the bytes stand as the group says, where the first bytes of the copies are a and b, and with these marks
-abbrev pub Holds : (front a b marks : ℕ) → Type 0
-Holds front a b marks =
+abbrev pub HoldsMirroredBytes : (front a b marks : ℕ) → Type 0
+HoldsMirroredBytes front a b marks =
     HoldsBytes (mirrored_image front a b) (mirrored_disks (mirrored_content marks 1) (mirrored_content marks 1)) mirrored_record (mirrored_items marks 1) (mirrored_group 1)
 
 -- ---- the rows
 
 -- one byte of a copy is another; that copy is marked, or the other one
 pub record MirroredBytes (front : ℕ) : Type 0 where
-  pub both : Holds front 7 7 0
-  pub one_changed : Holds front 7 9 0 → ⊥
-  pub it_is_marked : Holds front 7 9 2
-  pub other_is_marked : Holds front 7 9 1 → ⊥
+  pub both : HoldsMirroredBytes front 7 7 0
+  pub one_changed : HoldsMirroredBytes front 7 9 0 → ⊥
+  pub it_is_marked : HoldsMirroredBytes front 7 9 2
+  pub other_is_marked : HoldsMirroredBytes front 7 9 1 → ⊥
   -- the copy on a disk that can't be read counts too
   pub unread : Describes (mirrored_image front 7 9) (mirrored_disks (mirrored_content 0 1) (mirrored_content 0 1)) (mirrored_disk 0 (mirrored_content 0 1) ∷ [])
       mirrored_record (mirrored_content 0 1) (mirrored_group 1) → ⊥

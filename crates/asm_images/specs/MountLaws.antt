@@ -6,7 +6,7 @@ use Rattle.asm_formats.specs.Status.{Status}
 use Rattle.asm_formats.specs.Following.{Follows}
 use Rattle.asm_formats.specs.Content.{Content}
 use Rattle.asm_formats.specs.Among.{IsAmong}
-use Rattle.asm_images.specs.Members.{Image, Member, all_members, within, statuses, claims, claims_of_group, AreDistinct}
+use Rattle.asm_images.specs.Members.{ImageBytes, Member, all_members, within, statuses, claims, claims_of_group, AreDistinct}
 use Rattle.asm_images.specs.Register.{Fits, current_records, base, greatest, is_enough, HasEpoch}
 use Rattle.asm_images.specs.Directories.{directories}
 use Rattle.asm_images.specs.Sound.{IsCovered, SoundBy}
@@ -19,7 +19,7 @@ HaveClaimed id ms epoch = (m : Member) → IsAmong ms m → (c : Claim) × IsAmo
 -- Where members that are enough for a record have claims of an epoch, every set that is enough for a record that shares a set with it sees the epoch.
 abbrev pub MajorityIsClaimed : Type 0
 MajorityIsClaimed =
-    (id : ℕ) (image : Image) (r s : Status) (holders slots : ℕ → Bool) (epoch : ℕ) → AreDistinct (all_members id image) → ShareASet r s
+    (id : ℕ) (image : ImageBytes) (r s : Status) (holders slots : ℕ → Bool) (epoch : ℕ) → AreDistinct (all_members id image) → ShareASet r s
     → IsTrue (is_enough r (within holders (all_members id image))) → HaveClaimed id (within holders (all_members id image)) epoch
     → IsTrue (is_enough s (within slots (all_members id image))) → HasEpoch id (within slots (all_members id image)) epoch
 
@@ -27,7 +27,7 @@ MajorityIsClaimed =
 -- each set that is enough for it or for a record that counts.
 abbrev pub ClaimIsSeen : Type 0
 ClaimIsSeen =
-    (id : ℕ) (image : Image) (completed : Option Status) (begun : List Status) → Fits id (all_members id image) completed begun
+    (id : ℕ) (image : ImageBytes) (completed : Option Status) (begun : List Status) → Fits id (all_members id image) completed begun
     → (g r : Status) (holders : ℕ → Bool) → IsAmong (current_records completed begun) g → IsTrue (is_enough g (within holders (all_members id image)))
     → HaveClaimed id (within holders (all_members id image)) r.epoch → ((v : Status) → base completed begun ≡ Some v → Follows v r)
     → (P : ℕ → Bool) (s : Status) → IsAmong (r ∷ current_records completed begun) s → IsTrue (is_enough s (within P (all_members id image)))
@@ -36,7 +36,7 @@ ClaimIsSeen =
 -- An epoch above all that a survey reads is above that of every record that counts.
 abbrev pub SurveyedEpochIsAbove : Type 0
 SurveyedEpochIsAbove =
-    (id : ℕ) (image : Image) (completed : Option Status) (begun : List Status) (slots : ℕ → Bool) (g : Status) (epoch : ℕ)
+    (id : ℕ) (image : ImageBytes) (completed : Option Status) (begun : List Status) (slots : ℕ → Bool) (g : Status) (epoch : ℕ)
     → Fits id (all_members id image) completed begun
     → greatest (statuses id (within slots (all_members id image))) ≡ Some g → IsTrue (is_enough g (within slots (all_members id image)))
     → ((c : Claim) → IsAmong (claims id (within slots (all_members id image))) c → c.epoch < epoch)
@@ -52,13 +52,13 @@ SurveyedCounts =
 -- A record under another number, and with other holders, may be taken for Status as the record may.
 abbrev pub RenumberedIsCovered : Type 0
 RenumberedIsCovered =
-    (id : ℕ) (image : Image) (groups : List Group) (r : Status) (epoch turn holders next : ℕ) → IsCovered id image (all_members id image) groups r
+    (id : ℕ) (image : ImageBytes) (groups : List Group) (r : Status) (epoch turn holders next : ℕ) → IsCovered id image (all_members id image) groups r
     → IsCovered id image (all_members id image) groups (record r { epoch = epoch; turn = turn; holders = holders; next_holders = next })
 
 -- Where the completed record is the only one that counts, and one content is found whichever disks are left, one group is left.
 abbrev pub OneContentIsOneGroup : Type 0
 OneContentIsOneGroup =
-    (id : ℕ) (image : Image) (groups : List Group) (r : Status) (c : Content) (slots : ℕ → Bool) → SoundBy id image groups (Some r) [] → r.gone ≡ false
+    (id : ℕ) (image : ImageBytes) (groups : List Group) (r : Status) (c : Content) (slots : ℕ → Bool) → SoundBy id image groups (Some r) [] → r.gone ≡ false
     → directories r (within slots (all_members id image)) ≡ Some c
     → ((P : ℕ → Bool) (d : Content) → directories r (within P (all_members id image)) ≡ Some d → d ≡ c)
     → (g : Group) × IsAmong groups g × SoundBy id image (g ∷ []) (Some r) []

@@ -5,26 +5,26 @@ use Rattle.asm_formats.specs.Header.{Header}
 use Rattle.asm_formats.specs.Status.{Status}
 use Rattle.asm_formats.specs.Metadata.{metadata}
 use Rattle.asm_formats.specs.Among.{IsAmong}
-use Rattle.asm_images.specs.Members.{Image, Member, all_members, IsOutside}
+use Rattle.asm_images.specs.Members.{ImageBytes, Member, all_members, IsOutside}
 use Rattle.asm_images.specs.Sound.{SoundBy}
 use Rattle.asm_images.specs.Steps.{IsElsewhere}
 
 -- An id that no disk is a member of holds no group.
 abbrev pub MemberlessIsSound : Type 0
-MemberlessIsSound = (id : ℕ) (image : Image) → all_members id image ≡ [] → SoundBy id image [] None []
+MemberlessIsSound = (id : ℕ) (image : ImageBytes) → all_members id image ≡ [] → SoundBy id image [] None []
 
 -- Once the record that says so is complete, a dropped group is gone.
 abbrev pub GoneHoldsNothing : Type 0
 GoneHoldsNothing =
-    (id : ℕ) (image : Image) (groups : List Group) (r : Status) → SoundBy id image groups (Some r) [] → r.gone ≡ true → SoundBy id image [] (Some r) []
+    (id : ℕ) (image : ImageBytes) (groups : List Group) (r : Status) → SoundBy id image groups (Some r) [] → r.gone ≡ true → SoundBy id image [] (Some r) []
 
 -- A disk is a member of one id.
 abbrev pub MemberIsOutsideOthers : Type 0
 MemberIsOutsideOthers =
-    (id other : ℕ) (image : Image) (m : Member) → IsAmong (all_members id image) m → other ≢ id → IsOutside (all_members other image) m.slot
+    (id other : ℕ) (image : ImageBytes) (m : Member) → IsAmong (all_members id image) m → other ≢ id → IsOutside (all_members other image) m.slot
 
 -- A disk that is no member of an id, and whose header afterwards, if there is one, has another id, is outside before and after.
 abbrev pub OtherHeaderIsElsewhere : Type 0
 OtherHeaderIsElsewhere =
-    (id : ℕ) (old : Image) (slot : ℕ) (bytes : List ℕ) → IsOutside (all_members id old) slot
+    (id : ℕ) (old : ImageBytes) (slot : ℕ) (bytes : List ℕ) → IsOutside (all_members id old) slot
     → ((h : Header) → (metadata bytes).header ≡ Some h → h.id ≢ id) → IsElsewhere id old slot bytes

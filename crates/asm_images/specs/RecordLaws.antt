@@ -12,11 +12,11 @@ use Rattle.asm_formats.specs.Content.{Content}
 use Rattle.asm_formats.specs.Among.{IsAmong}
 use Rattle.asm_placement.specs.Placed.{places_fit}
 use Rattle.asm_placement.specs.Partners.{HasPartners}
-use Rattle.asm_images.specs.Members.{Image, Member, all_members, within}
+use Rattle.asm_images.specs.Members.{ImageBytes, Member, all_members, within}
 use Rattle.asm_images.specs.Directories.{directories}
 use Rattle.asm_images.specs.Copies.{is_kept}
-use Rattle.asm_images.specs.Describing.{has_info, AreRegular}
-use Rattle.asm_images.specs.Stands.{HasUnits}
+use Rattle.asm_images.specs.Describing.{has_info_in_items, AreRegular}
+use Rattle.asm_images.specs.Stands.{HasEntryUnits}
 use Rattle.asm_images.specs.Sound.{IsCovered}
 
 -- of an entry its number, its birth, its units, and whether its failure group is a quorum one
@@ -34,13 +34,13 @@ pub record ChangesModes (r s : Status) : Type 0 where
 -- A record with other modes may be taken for Status as the record may.
 abbrev pub ModesAreCovered : Type 0
 ModesAreCovered =
-    (id : ℕ) (image : Image) (groups : List Group) (r s : Status) → ChangesModes r s → IsCovered id image (all_members id image) groups r
+    (id : ℕ) (image : ImageBytes) (groups : List Group) (r s : Status) → ChangesModes r s → IsCovered id image (all_members id image) groups r
     → IsCovered id image (all_members id image) groups s
 
 -- So may the record that names fewer directory copies.
 abbrev pub FewerCopiesAreCovered : Type 0
 FewerCopiesAreCovered =
-    (id : ℕ) (image : Image) (groups : List Group) (r : Status) (fewer : ℕ) → ((d : ℕ) → has_bit fewer d ≡ true → has_bit r.directories d ≡ true)
+    (id : ℕ) (image : ImageBytes) (groups : List Group) (r : Status) (fewer : ℕ) → ((d : ℕ) → has_bit fewer d ≡ true → has_bit r.directories d ≡ true)
     → IsCovered id image (all_members id image) groups r → IsCovered id image (all_members id image) groups (record r { directories = fewer })
 
 -- ---- other entries
@@ -63,14 +63,14 @@ pub record ChangesEntries (ms : List Member) (r s : Status) : Type 0 where
   pub births : r.births ≤ s.births
   pub named : (d : ℕ) → IsAmong (elements r.directories) d → birth_of (entry_of s.entries d) ≡ birth_of (entry_of r.entries d)
   pub kept : (d : ℕ) (h : Header) → IsTrue (is_some (entry_of r.entries d)) → IsTrue (is_kept s d h) → IsTrue (is_kept r d h)
-  pub infos : (items : List Item) → IsReadUnder r ms items → IsTrue (list_all (has_info items) s.entries)
+  pub infos : (items : List Item) → IsReadUnder r ms items → IsTrue (list_all (has_info_in_items items) s.entries)
   pub places : (shape : Shape) (items : List Item) → IsReadUnder r ms items → IsTrue (places_fit shape r.entries items) → IsTrue (places_fit shape s.entries items)
   pub regular : (items : List Item) → IsReadUnder r ms items → AreRegular r.entries items → AreRegular s.entries items
-  pub units : (m : Member) → IsAmong ms m → HasUnits s m
+  pub units : (m : Member) → IsAmong ms m → HasEntryUnits s m
   pub partners : HasPartners s.entries
 
 -- Such a record may be taken for Status as the record may: disks are added, resized, or leave.
 abbrev pub EntriesAreCovered : Type 0
 EntriesAreCovered =
-    (id : ℕ) (image : Image) (groups : List Group) (r s : Status) → ChangesEntries (all_members id image) r s → IsCovered id image (all_members id image) groups r
+    (id : ℕ) (image : ImageBytes) (groups : List Group) (r s : Status) → ChangesEntries (all_members id image) r s → IsCovered id image (all_members id image) groups r
     → IsCovered id image (all_members id image) groups s

@@ -24,13 +24,13 @@ greatest [] = None
 greatest (r ∷ rs) = greater r (greatest rs)
 
 -- the record, where the members are enough for it and it isn't marked gone
-abbrev pub status_by : List Member → Option Status → Option Status
-status_by ms None = None
-status_by ms (Some r) = if is_enough r ms && not r.gone then Some r else None
+abbrev pub status_if_enough : List Member → Option Status → Option Status
+status_if_enough ms None = None
+status_if_enough ms (Some r) = if is_enough r ms && not r.gone then Some r else None
 
 -- Status: the greatest record that these members hold, where they are enough for it and it isn't marked gone
 unfoldable pub status : ℕ → List Member → Option Status
-status id ms = status_by ms (greatest (statuses id ms))
+status id ms = status_if_enough ms (greatest (statuses id ms))
 
 -- ---- the history that counts: the record that was last completed, if there is one, and those begun after it
 

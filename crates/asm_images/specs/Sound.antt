@@ -4,13 +4,13 @@ use Rattle.asm_group.specs.Group.{Group}
 use Rattle.asm_formats.specs.Status.{Status, Entry}
 use Rattle.asm_formats.specs.Content.{Content}
 use Rattle.asm_formats.specs.Among.{IsAmong}
-use Rattle.asm_images.specs.Members.{Image, Member, all_members, within, statuses}
+use Rattle.asm_images.specs.Members.{ImageBytes, Member, all_members, within, statuses}
 use Rattle.asm_images.specs.Register.{Fits, current_records}
 use Rattle.asm_images.specs.Directories.{directories, IsNamed}
 use Rattle.asm_images.specs.Stands.{Describes}
 
 -- What must hold of a record that some disks may take for Status.
-pub record IsCovered (id : ℕ) (image : Image) (ms : List Member) (groups : List Group) (r : Status) : Type 0 where
+pub record IsCovered (id : ℕ) (image : ImageBytes) (ms : List Member) (groups : List Group) (r : Status) : Type 0 where
   -- two of its directory copies with one commit number have one content
   pub one_content : (m n : Member) (c d : Content) → IsAmong ms m → IsAmong ms n → IsNamed r m.header → IsNamed r n.header
       → m.disk.content ≡ Some c → n.disk.content ≡ Some d → c.commit ≡ d.commit → c ≡ d
@@ -22,12 +22,12 @@ pub record IsCovered (id : ℕ) (image : Image) (ms : List Member) (groups : Lis
       → (g : Group) × IsAmong groups g × Describes image ms ms r c g
 
 -- The image is sound by a history: the record that was last completed, and those begun after it.
-pub record SoundBy (id : ℕ) (image : Image) (groups : List Group) (completed : Option Status) (begun : List Status) : Type 0 where
+pub record SoundBy (id : ℕ) (image : ImageBytes) (groups : List Group) (completed : Option Status) (begun : List Status) : Type 0 where
   pub fits : Fits id (all_members id image) completed begun
   pub covered : (r : Status) → IsAmong (current_records completed begun) r → r.gone ≡ false → IsCovered id image (all_members id image) groups r
 
 -- Sound: under this id the image holds one of the groups, whichever disks are left, by some history.
-pub record Sound (id : ℕ) (image : Image) (groups : List Group) : Type 0 where
+pub record Sound (id : ℕ) (image : ImageBytes) (groups : List Group) : Type 0 where
   pub completed : Option Status
   pub begun : List Status
   pub holds : SoundBy id image groups completed begun

@@ -9,7 +9,7 @@ use Rattle.asm_placement.specs.Layout.{file_byte}
 use Rattle.asm_formats.specs.Status.{Status}
 use Rattle.asm_formats.specs.Items.{Item, Home}
 use Rattle.asm_formats.specs.Among.{IsAmong}
-use Rattle.asm_images.specs.Members.{Image, Member, byte, metadata_of, all_members}
+use Rattle.asm_images.specs.Members.{ImageBytes, Member, byte, metadata_of, all_members}
 use Rattle.asm_images.specs.Copies.{IsCurrent}
 use Rattle.asm_images.specs.Describing.{extent_size}
 use Rattle.asm_images.specs.Steps.{IsOpen, KeepsByte}
@@ -23,8 +23,8 @@ pub record Span : Type 0 where
   pub len : ℕ
 
 -- the byte of this file and extent is in the span
-abbrev pub is_inside : Span → ℕ → ℕ → ℕ → Bool
-is_inside x f i inner = (f == x.file) && (i == x.index) && nat_le x.from inner && nat_lt inner (x.from + x.len)
+abbrev pub is_inside_span : Span → ℕ → ℕ → ℕ → Bool
+is_inside_span x f i inner = (f == x.file) && (i == x.index) && nat_le x.from inner && nat_lt inner (x.from + x.len)
 
 -- the span lies in its extent
 abbrev pub FitsIn : List Group → Span → Type 0
@@ -68,16 +68,16 @@ settled x bytes g = group_with x (λ inner. Known (slice_index bytes (inner - x.
 -- ---- Piece
 
 -- Of the bytes that current copies have under open contents, none changes but those of the span.
-pub record IsPiece (id : ℕ) (old new : Image) (groups : List Group) (completed : Option Status) (begun : List Status) (x : Span) : Type 0 where
+pub record IsPiece (id : ℕ) (old new : ImageBytes) (groups : List Group) (completed : Option Status) (begun : List Status) (x : Span) : Type 0 where
   pub fits : FitsIn groups x
   pub metadata : metadata_of new ≡ metadata_of old
   pub bytes : (r : Status) (items : List Item) (f i copy inner : ℕ) (h : Home) (m : Member) → IsOpen id old completed begun r items
-      → IsAmong (all_members id old) m → IsCurrent r items f i copy h m → inner < extent_size m.header.shape i → is_inside x f i inner ≡ false → KeepsByte old new m h inner
+      → IsAmong (all_members id old) m → IsCurrent r items f i copy h m → inner < extent_size m.header.shape i → is_inside_span x f i inner ≡ false → KeepsByte old new m h inner
 
 -- ---- Settle
 
 -- Each current copy under each open content has these bytes in the span.
-pub record IsSettled (id : ℕ) (image : Image) (groups : List Group) (completed : Option Status) (begun : List Status) (x : Span) (bytes : List ℕ) : Type 0 where
+pub record IsSpanSettled (id : ℕ) (image : ImageBytes) (groups : List Group) (completed : Option Status) (begun : List Status) (x : Span) (bytes : List ℕ) : Type 0 where
   pub fits : FitsIn groups x
   pub same : (r : Status) (items : List Item) (copy inner : ℕ) (h : Home) (m : Member) → IsOpen id image completed begun r items
       → IsAmong (all_members id image) m → IsCurrent r items x.file x.index copy h m → inner < x.len

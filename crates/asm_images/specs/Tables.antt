@@ -28,8 +28,8 @@ pending_of items = first_said says items
     says _ = None
 
 -- the power of the active rebalance
-unfoldable pub rebalance_of : List Item → Option ℕ
-rebalance_of items = first_said says items
+unfoldable pub active_rebalance_power : List Item → Option ℕ
+active_rebalance_power items = first_said says items
   where
     says : Item → Option ℕ
     says (rebalance_item power) = Some power

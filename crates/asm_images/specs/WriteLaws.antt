@@ -10,7 +10,7 @@ use Rattle.asm_formats.specs.Regions.{reserved_units}
 use Rattle.asm_formats.specs.Status.{Status, Entry}
 use Rattle.asm_formats.specs.Items.{Item, Home}
 use Rattle.asm_formats.specs.Places.{SameElsewhere}
-use Rattle.asm_images.specs.Members.{Image, Member, written, all_members}
+use Rattle.asm_images.specs.Members.{ImageBytes, Member, written, all_members}
 use Rattle.asm_images.specs.Sound.{SoundBy}
 use Rattle.asm_images.specs.Steps.{IsOpen, IsSpare}
 use Rattle.asm_images.specs.Spans.{Span, FitsIn, IsPiece}
@@ -21,13 +21,13 @@ abbrev pub AreApart : ℕ → ℕ → ℕ → ℕ → Type 0
 AreApart unit len other other_len = (unit + len ≤ other) ⊎ (other + other_len ≤ unit)
 
 -- every home that the items name on this disk lies apart from the units
-abbrev pub AreFree : List Item → ℕ → ℕ → ℕ → ℕ → Type 0
-AreFree items step disk unit len =
+abbrev pub AreFreeUnits : List Item → ℕ → ℕ → ℕ → ℕ → Type 0
+AreFreeUnits items step disk unit len =
     (f i copy : ℕ) (k : Home) → home_of items f i copy ≡ Some k → k.disk ≡ disk → AreApart unit len k.unit (units_of step i)
 
 -- every home that the items name on this disk lies apart from this home of the span's extent, or is it
-abbrev pub AreOwn : List Item → ℕ → Span → Home → Type 0
-AreOwn items step x h =
+abbrev pub HasOwnUnits : List Item → ℕ → Span → Home → Type 0
+HasOwnUnits items step x h =
     (f i copy : ℕ) (k : Home) → home_of items f i copy ≡ Some k → k.disk ≡ h.disk
     → ((f ≡ x.file) × (i ≡ x.index) × (k ≡ h)) ⊎ AreApart h.unit (units_of step x.index) k.unit (units_of step i)
 
@@ -35,22 +35,22 @@ AreOwn items step x h =
 abbrev pub HomesAreApart : Type 0
 HomesAreApart =
     (s : Shape) (entries : List Entry) (items : List Item) (x : Span) (copy : ℕ) (h : Home) → IsTrue (places_fit s entries items)
-    → home_of items x.file x.index copy ≡ Some h → AreOwn items s.step x h
+    → home_of items x.file x.index copy ≡ Some h → HasOwnUnits items s.step x h
 
 -- A write to free units is one of spare bytes, however it is torn.
 abbrev pub FreeWriteIsSpare : Type 0
 FreeWriteIsSpare =
-    (id : ℕ) (old : Image) (groups : List Group) (completed : Option Status) (begun : List Status) → SoundBy id old groups completed begun
+    (id : ℕ) (old : ImageBytes) (groups : List Group) (completed : Option Status) (begun : List Status) → SoundBy id old groups completed begun
     → (m : Member) (bytes : List ℕ) (unit len at n : ℕ) → IsAmong (all_members id old) m → reserved_units m.header.shape ≤ unit
     → unit * m.header.shape.au ≤ at → at + n ≤ (unit + len) * m.header.shape.au
-    → ((r : Status) (items : List Item) → IsOpen id old completed begun r items → AreFree items m.header.shape.step m.header.number unit len)
+    → ((r : Status) (items : List Item) → IsOpen id old completed begun r items → AreFreeUnits items m.header.shape.step m.header.number unit len)
     → SameElsewhere (bytes_of old m.slot) bytes at n → IsSpare id old (written old m.slot bytes) completed begun
 
 -- A write to the span of one copy is a piece, however it is torn.
 abbrev pub CopyWriteIsPiece : Type 0
 CopyWriteIsPiece =
-    (id : ℕ) (old : Image) (groups : List Group) (completed : Option Status) (begun : List Status) → SoundBy id old groups completed begun
+    (id : ℕ) (old : ImageBytes) (groups : List Group) (completed : Option Status) (begun : List Status) → SoundBy id old groups completed begun
     → (x : Span) (h : Home) (m : Member) (bytes : List ℕ) → IsAmong (all_members id old) m → h.disk ≡ m.header.number → reserved_units m.header.shape ≤ h.unit
     → FitsIn groups x → x.from + x.len ≤ units_of m.header.shape.step x.index * m.header.shape.au
-    → ((r : Status) (items : List Item) → IsOpen id old completed begun r items → AreOwn items m.header.shape.step x h)
+    → ((r : Status) (items : List Item) → IsOpen id old completed begun r items → HasOwnUnits items m.header.shape.step x h)
     → SameElsewhere (bytes_of old m.slot) bytes (h.unit * m.header.shape.au + x.from) x.len → IsPiece id old (written old m.slot bytes) groups completed begun x

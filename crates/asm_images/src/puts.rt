@@ -1,6 +1,6 @@
 //! From torn bytes up: at each moment while a slot of a disk is put, the image is sound.
 
-ghost use Rattle.asm_images.specs.PutLaws.{CheckpointKeeps, ClaimPutKeeps, ClosedCopyWriteKeeps, HeaderCloseKeeps, HeaderPutKeeps, LastLogCloseKeeps, LogCloseKeeps, LogPutKeeps, MetadataWriteKeepsCopies, RecordPutKeeps, UserWriteKeepsMetadata};
+ghost use Rattle.asm_images.specs.PutLaws.{CheckpointKeeps, ClaimPutKeeps, ClosedCopyWriteKeeps, HeaderCloseKeeps, HeaderPutKeeps, LastLogCloseKeeps, LogCloseKeeps, LogPutKeeps, MetadataWriteKeepsCopies, RecordPutKeeps, UserWriteKeepsImageMetadata};
 ghost use Rattle.asm_images.specs.ContentLaws.{ReadyPutKeeps};
 
 /// A write before the end of the directory region changes no byte of a current copy.
@@ -10,7 +10,7 @@ pub fn metadata_write_keeps_copies()
 
 /// A write behind the directory region leaves all metadata.
 pub fn user_write_keeps_metadata()
-    ensures { UserWriteKeepsMetadata }
+    ensures { UserWriteKeepsImageMetadata }
 {}
 
 /// A claim is put into the slot that doesn't hold.

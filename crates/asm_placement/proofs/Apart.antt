@@ -10,11 +10,11 @@ use Rattle.asm_formats.specs.Status.{Entry, entry_of, ascends_from}
 use Rattle.asm_formats.specs.Items.{Item, Homes}
 use Rattle.asm_formats.specs.Among.{IsAmong}
 use Rattle.asm_placement.specs.Modes.{is_target, stays}
-use Rattle.asm_placement.specs.DiskSets.{is_among, numbers, groups_of}
+use Rattle.asm_placement.specs.DiskSets.{is_among, numbers, distinct_failgroups}
 use Rattle.asm_placement.specs.Partners.{Pair, partners, are_partners, HasPartners}
 use Rattle.asm_placement.specs.Space.{has_room, earlier, tried_first, is_tried_before}
 use Rattle.asm_placement.specs.Choices.{home_on, partners_with_room, may_be_first, in_turn, disks_for, homes_for}
-use Rattle.asm_placement.specs.HomeLaws.{all_differ, failgroups, AreHomes}
+use Rattle.asm_placement.specs.HomeLaws.{all_differ, failgroup_numbers, AreHomes}
 use Rattle.asm_placement.proofs.Membership.{among_filter, filter_out, among_filtered}
 use Rattle.asm_placement.proofs.Bits.{kept_is, left_out}
 use Rattle.asm_placement.proofs.Counting.{mapped}
@@ -38,7 +38,7 @@ free_of taken es = filter (λ (e : Entry). not (is_among taken e.failgroup)) es
 
 -- failure groups that aren't taken
 abbrev groups_left : List ℕ → List Entry → List ℕ
-groups_left taken es = filter (λ g. not (is_among taken g)) (groups_of es)
+groups_left taken es = filter (λ g. not (is_among taken g)) (distinct_failgroups es)
 
 first_of_groups : (gs : List ℕ) → 0 < length gs → (g : ℕ) × (is_among gs g ≡ true)
 first_of_groups [] h = absurd (omega arith)
@@ -48,7 +48,7 @@ first_of_groups (g ∷ gs) h = (g, or_left (eqb g g) _ (eq-eqb g g refl))
 pub one_left : (s : Shape) (items : List Item) (es : List Entry) (taken : List ℕ) → 0 < length (groups_left taken es) → (d : Entry) × (tried_first s items (free_of taken es) ≡ Some d)
 one_left s items es taken h =
     let g = first_of_groups (groups_left taken es) h in
-    let from = group_from es g.0 (was_among (λ n. not (is_among taken n)) (groups_of es) g.0 g.1) in
+    let from = group_from es g.0 (was_among (λ n. not (is_among taken n)) (distinct_failgroups es) g.0 g.1) in
     let free : not (is_among taken g.0) ≡ true = by (not (is_among taken g.0)) refl g.0 g.1 in
     some_first s items (free_of taken es) from.0 (among_filtered (λ (e : Entry). not (is_among taken e.failgroup)) es from.0 from.1 (ap (λ (n : ℕ). not (is_among taken n)) from.2 ∙ free))
   where
@@ -57,11 +57,11 @@ one_left s items es taken h =
       where
         go : (c : Bool) → not (is_among taken n) ≡ c → c ≡ true
         go true e = refl
-        go false e = absurd (both_ways (is_among (groups_left taken es) n) (left_out (λ m. not (is_among taken m)) (groups_of es) n e) k)
+        go false e = absurd (both_ways (is_among (groups_left taken es) n) (left_out (λ m. not (is_among taken m)) (distinct_failgroups es) n e) k)
 
 -- taking one group leaves one less
 pub one_less : (es : List Entry) (taken : List ℕ) (g : ℕ) → length (groups_left taken es) ≤ suc (length (groups_left (g ∷ taken) es))
-one_less es taken g = fits (groups_left taken es) (g ∷ groups_left (g ∷ taken) es) (distinct_filter (λ n. not (is_among taken n)) (groups_of es) (groups_distinct es)) (λ n k.
+one_less es taken g = fits (groups_left taken es) (g ∷ groups_left (g ∷ taken) es) (distinct_filter (λ n. not (is_among taken n)) (distinct_failgroups es) (groups_distinct es)) (λ n k.
     elim (cases_eq g n) [
       | inl same ↦ or_left (eqb g n) _ (eq-eqb g n same)
       | inr other ↦ or_right (eqb g n) _ (still n other k)
@@ -71,8 +71,8 @@ one_less es taken g = fits (groups_left taken es) (g ∷ groups_left (g ∷ take
     still n other k = by (is_among taken n) refl
       where
         by : (b : Bool) → is_among taken n ≡ b → is_among (groups_left (g ∷ taken) es) n ≡ true
-        by true e = absurd (both_ways (is_among (groups_left taken es) n) (left_out (λ m. not (is_among taken m)) (groups_of es) n (ap not e)) k)
-        by false e = kept_is (λ m. not (is_among (g ∷ taken) m)) (groups_of es) n (rw (ne_eqb g n other, e) refl) ∙ was_among (λ m. not (is_among taken m)) (groups_of es) n k
+        by true e = absurd (both_ways (is_among (groups_left taken es) n) (left_out (λ m. not (is_among taken m)) (distinct_failgroups es) n (ap not e)) k)
+        by false e = kept_is (λ m. not (is_among (g ∷ taken) m)) (distinct_failgroups es) n (rw (ne_eqb g n other, e) refl) ∙ was_among (λ m. not (is_among taken m)) (distinct_failgroups es) n k
 
 not_so : (b : Bool) → (b ≡ true → ⊥) → b ≡ false
 not_so true h = absurd (h refl)
@@ -82,9 +82,9 @@ all_from : {A : Type 0} (t : A → Bool) (xs : List A) → ((x : A) → IsAmong 
 all_from t [] h = refl
 all_from t (x ∷ xs) h = and_from (t x) (list_all t xs) (h x (inl refl)) (all_from t xs (λ y k. h y (inr k)))
 
-failgroup_from : (es : List Entry) (g : ℕ) → is_among (failgroups es) g ≡ true → (e : Entry) × IsAmong es e × (e.failgroup ≡ g)
+failgroup_from : (es : List Entry) (g : ℕ) → is_among (failgroup_numbers es) g ≡ true → (e : Entry) × IsAmong es e × (e.failgroup ≡ g)
 failgroup_from [] g h = absurd cc
-failgroup_from (f ∷ es) g h = ⊎_elim (λ here. (f, inl refl, eqb-true f.failgroup g here)) (λ there. further (failgroup_from es g there)) (or_cases (eqb f.failgroup g) (is_among (failgroups es) g) h)
+failgroup_from (f ∷ es) g h = ⊎_elim (λ here. (f, inl refl, eqb-true f.failgroup g here)) (λ there. further (failgroup_from es g there)) (or_cases (eqb f.failgroup g) (is_among (failgroup_numbers es) g) h)
   where
     further : (e : Entry) × IsAmong es e × (e.failgroup ≡ g) → (e : Entry) × IsAmong (f ∷ es) e × (e.failgroup ≡ g)
     further p = (p.0, inr p.1, p.2)
@@ -94,7 +94,7 @@ record IsTurn (es : List Entry) (taken : List ℕ) (k : ℕ) (ds : List Entry) :
   count : length ds ≡ k
   there : (e : Entry) → IsAmong ds e → IsAmong es e
   new : (e : Entry) → IsAmong ds e → is_among taken e.failgroup ≡ false
-  apart : all_differ (failgroups ds) ≡ true
+  apart : all_differ (failgroup_numbers ds) ≡ true
 
 one_more : (es : List Entry) (taken : List ℕ) (k : ℕ) (d : Entry) (ds : List Entry) → IsAmong es d → is_among taken d.failgroup ≡ false → IsTurn es (d.failgroup ∷ taken) k ds → IsTurn es taken (suc k) (d ∷ ds)
 one_more es taken k d ds among free rest = record {
@@ -102,8 +102,8 @@ one_more es taken k d ds among free rest = record {
   there = λ e h. ⊎_elim (λ is. subst (λ (x : Entry). IsAmong es x) (sym is) among) (λ later. rest.there e later) h;
   new = λ e h. ⊎_elim (λ is. ap (λ (x : Entry). is_among taken x.failgroup) is ∙ free)
       (λ later. not_so (is_among taken e.failgroup) (λ yes. both_ways (is_among (d.failgroup ∷ taken) e.failgroup) (rest.new e later) (or_right (eqb d.failgroup e.failgroup) _ yes))) h;
-  apart = and_from (not (is_among (failgroups ds) d.failgroup)) (all_differ (failgroups ds))
-      (ap not (not_so (is_among (failgroups ds) d.failgroup) (λ yes.
+  apart = and_from (not (is_among (failgroup_numbers ds) d.failgroup)) (all_differ (failgroup_numbers ds))
+      (ap not (not_so (is_among (failgroup_numbers ds) d.failgroup) (λ yes.
       let p = failgroup_from ds d.failgroup yes in
       both_ways (is_among (d.failgroup ∷ taken) p.0.failgroup) (rest.new p.0 p.1) (or_left (eqb d.failgroup p.0.failgroup) _ (eq-eqb d.failgroup p.0.failgroup (sym p.2)))))) rest.apart;
 }
@@ -142,11 +142,11 @@ partner_crosses es a b up has ha hb bit same =
     (or_cases ((pair.0.number == a.number) && (pair.1.number == b.number)) ((pair.0.number == b.number) && (pair.1.number == a.number)) p.2)
 
 -- so none of the partners' failure groups is the disk's own
-all_left : (ps : List Entry) (g : ℕ) → ((e : Entry) → IsAmong ps e → g ≡ e.failgroup → ⊥) → length (groups_of ps) ≤ length (groups_left (g ∷ []) ps)
-all_left ps g out = fits (groups_of ps) (groups_left (g ∷ []) ps) (groups_distinct ps) (λ n k.
+all_left : (ps : List Entry) (g : ℕ) → ((e : Entry) → IsAmong ps e → g ≡ e.failgroup → ⊥) → length (distinct_failgroups ps) ≤ length (groups_left (g ∷ []) ps)
+all_left ps g out = fits (distinct_failgroups ps) (groups_left (g ∷ []) ps) (groups_distinct ps) (λ n k.
     let p = group_from ps n k in
     let other : (g == n) ≡ false = ne_eqb g n (λ same. out p.0 p.1 (same ∙ sym p.2)) in
-    kept_is (λ m. not (is_among (g ∷ []) m)) (groups_of ps) n (rw other refl) ∙ k)
+    kept_is (λ m. not (is_among (g ∷ []) m)) (distinct_failgroups ps) n (rw other refl) ∙ k)
 
 -- ---- the homes
 
@@ -160,12 +160,12 @@ homes_are_apart s items es copies n homes up has some e =
     let chosen : IsAmong (filter (may_be_first s items es copies n) es) first = tried_among s items (filter (may_be_first s items es copies n) es) first d.1 in
     let among : IsAmong es first = among_filter (may_be_first s items es copies n) es first chosen in
     let ps = partners_with_room s items es n first in
-    let a = and_parts (is_target first && has_room s items n first) (nat_le copies (length (groups_of ps) + 1)) (filter_out (may_be_first s items es copies n) es first chosen) in
+    let a = and_parts (is_target first && has_room s items n first) (nat_le copies (length (distinct_failgroups ps) + 1)) (filter_out (may_be_first s items es copies n) es first chosen) in
     let b = and_parts (is_target first) (has_room s items n first) a.0 in
     let good = λ (f : Entry). is_target f && has_bit first.partners f.number && has_room s items n f in
     let left = all_left ps first.failgroup (λ f k. partner_crosses es first f up has among (among_filter good es f k)
     (and_parts (is_target f) (has_bit first.partners f.number) (and_parts (is_target f && has_bit first.partners f.number) (has_room s items n f) (filter_out good es f k)).0).1) in
-    let rest = turn s items ps (first.failgroup ∷ []) (copies - 1) (omega (arith, leb-true copies (length (groups_of ps) + 1) a.1, left)) in
+    let rest = turn s items ps (first.failgroup ∷ []) (copies - 1) (omega (arith, leb-true copies (length (distinct_failgroups ps) + 1) a.1, left)) in
     let ds = in_turn s items ps (first.failgroup ∷ []) (copies - 1) in
     record {
       disks = first ∷ ds;
@@ -176,8 +176,8 @@ homes_are_apart s items es copies n homes up has some e =
           (all_from is_target ds (λ f k. (and_parts (is_target f) (has_bit first.partners f.number) (and_parts (is_target f && has_bit first.partners f.number) (has_room s items n f) (filter_out good es f (rest.there f k))).0).0));
       room = and_from (has_room s items n first) (list_all (has_room s items n) ds) b.1
           (all_from (has_room s items n) ds (λ f k. (and_parts (is_target f && has_bit first.partners f.number) (has_room s items n f) (filter_out good es f (rest.there f k))).1));
-      apart = and_from (not (is_among (failgroups ds) first.failgroup)) (all_differ (failgroups ds))
-          (ap not (not_so (is_among (failgroups ds) first.failgroup) (λ yes.
+      apart = and_from (not (is_among (failgroup_numbers ds) first.failgroup)) (all_differ (failgroup_numbers ds))
+          (ap not (not_so (is_among (failgroup_numbers ds) first.failgroup) (λ yes.
           let p = failgroup_from ds first.failgroup yes in
           both_ways (is_among (first.failgroup ∷ []) p.0.failgroup) (rest.new p.0 p.1) (or_left (eqb first.failgroup p.0.failgroup) _ (eq-eqb first.failgroup p.0.failgroup (sym p.2)))))) rest.apart;
     }

@@ -10,10 +10,10 @@ use Rattle.std.proofs.lemmas.List.{get_or-set_same, get_or-set_other, get_or_pas
 use Rattle.std.proofs.lemmas.Nat.{div-add-mod', mod_below}
 use Rattle.std.proofs.lemmas.Nat.Bits.{bit_at_xor, bit_at-pow_same, bit_at-pow_other, bit_at-lt, bit_at-zero}
 use Rattle.asm_formats.specs.Sets.{has_bit}
-use Rattle.asm_formats.specs.Items.{Item, file_item, chunk_item, marks_item, FileHead, Home, Homes, chunk_len, is_item, is_homes, is_redundancy, key, is_same_key}
+use Rattle.asm_formats.specs.Items.{Item, file_item, chunk_item, marks_item, FileHead, Home, Homes, chunk_len, is_item, is_homes, is_redundancy, item_key, is_same_key}
 use Rattle.asm_formats.specs.Among.{IsAmong}
 use Rattle.asm_placement.specs.Tables.{head_of, marks_in, is_stale, if_is}
-use Rattle.asm_placement.specs.Copies.{Copy, has_home, copies_from, file_copies, item_copies, all_copies}
+use Rattle.asm_placement.specs.Copies.{Copy, has_any_home, copies_from, file_copies, item_copies, all_copies}
 use Rattle.asm_placement.specs.Moves.{moved_item, unmarked_item, without_bit, with_current, with_home}
 use Rattle.asm_placement.specs.Work.{keys_differ}
 use Rattle.asm_placement.proofs.Membership.{among_flat_map}
@@ -62,7 +62,7 @@ pub record IsOf (items : List Item) (x : Copy) : Type 0 where
   pub among : IsAmong items (chunk_item x.file (x.index / 256) chunk)
   pub size : length chunk ≡ 256
   pub homes : x.homes ≡ get_or chunk (x.index % 256) []
-  pub some : has_home x.homes ≡ true
+  pub some : has_any_home x.homes ≡ true
   pub three : length x.homes ≡ 3
   pub copy : x.copy < 3
 
@@ -101,7 +101,7 @@ copy_of items x ok h = let p = among_flat_map (item_copies (head_of items)) item
 
 -- ---- one chunk a key
 
-same_key : (f c : ℕ) (hs bs : List Homes) → is_same_key (key (chunk_item f c hs)) (key (chunk_item f c bs)) ≡ true
+same_key : (f c : ℕ) (hs bs : List Homes) → is_same_key (item_key (chunk_item f c hs)) (item_key (chunk_item f c bs)) ≡ true
 same_key f c hs bs = rw (eq-eqb f f refl, eq-eqb (c + 1) (c + 1) refl) refl
 
 pub one_chunk : (items : List Item) (f c : ℕ) (hs bs : List Homes) → keys_differ items ≡ true → IsAmong items (chunk_item f c hs) → IsAmong items (chunk_item f c bs) → hs ≡ bs
@@ -111,20 +111,20 @@ one_chunk (j ∷ items) f c hs bs differ (inl a) (inl b) = chunk_same (a ∙ sym
     chunk_same : chunk_item f c hs ≡ chunk_item f c bs → hs ≡ bs
     chunk_same e = cc
 one_chunk (j ∷ items) f c hs bs differ (inl a) (inr b) =
-    let all = (and_parts (list_all (λ k. not (is_same_key (key j) (key k))) items) (keys_differ items) differ).0 in
-    let apart = all_of (λ k. not (is_same_key (key j) (key k))) items (chunk_item f c bs) all b in
-    absurd (both_ways (is_same_key (key j) (key (chunk_item f c bs))) (not-true (is_same_key (key j) (key (chunk_item f c bs))) apart)
-    (ap (λ (k : Item). is_same_key (key k) (key (chunk_item f c bs))) (sym a) ∙ same_key f c hs bs))
+    let all = (and_parts (list_all (λ k. not (is_same_key (item_key j) (item_key k))) items) (keys_differ items) differ).0 in
+    let apart = all_of (λ k. not (is_same_key (item_key j) (item_key k))) items (chunk_item f c bs) all b in
+    absurd (both_ways (is_same_key (item_key j) (item_key (chunk_item f c bs))) (not-true (is_same_key (item_key j) (item_key (chunk_item f c bs))) apart)
+    (ap (λ (k : Item). is_same_key (item_key k) (item_key (chunk_item f c bs))) (sym a) ∙ same_key f c hs bs))
 one_chunk (j ∷ items) f c hs bs differ (inr a) (inl b) =
-    let all = (and_parts (list_all (λ k. not (is_same_key (key j) (key k))) items) (keys_differ items) differ).0 in
-    let apart = all_of (λ k. not (is_same_key (key j) (key k))) items (chunk_item f c hs) all a in
-    absurd (both_ways (is_same_key (key j) (key (chunk_item f c hs))) (not-true (is_same_key (key j) (key (chunk_item f c hs))) apart)
-    (ap (λ (k : Item). is_same_key (key k) (key (chunk_item f c hs))) (sym b) ∙ same_key f c bs hs))
-one_chunk (j ∷ items) f c hs bs differ (inr a) (inr b) = one_chunk items f c hs bs (and_parts (list_all (λ k. not (is_same_key (key j) (key k))) items) (keys_differ items) differ).1 a b
+    let all = (and_parts (list_all (λ k. not (is_same_key (item_key j) (item_key k))) items) (keys_differ items) differ).0 in
+    let apart = all_of (λ k. not (is_same_key (item_key j) (item_key k))) items (chunk_item f c hs) all a in
+    absurd (both_ways (is_same_key (item_key j) (item_key (chunk_item f c hs))) (not-true (is_same_key (item_key j) (item_key (chunk_item f c hs))) apart)
+    (ap (λ (k : Item). is_same_key (item_key k) (item_key (chunk_item f c hs))) (sym b) ∙ same_key f c bs hs))
+one_chunk (j ∷ items) f c hs bs differ (inr a) (inr b) = one_chunk items f c hs bs (and_parts (list_all (λ k. not (is_same_key (item_key j) (item_key k))) items) (keys_differ items) differ).1 a b
 
 pub has_extent_of : (items : List Item) (x : Copy) → keys_differ items ≡ true → IsOf items x → HasExtent x.file x.index items
 has_extent_of items x differ of homes among =
-    ap (λ (l : List Homes). has_home (get_or l (x.index % 256) [])) (one_chunk items x.file (x.index / 256) homes of.chunk differ among of.among) ∙ ap has_home (sym of.homes) ∙ of.some
+    ap (λ (l : List Homes). has_any_home (get_or l (x.index % 256) [])) (one_chunk items x.file (x.index / 256) homes of.chunk differ among of.among) ∙ ap has_any_home (sym of.homes) ∙ of.some
 
 -- ---- marks
 

@@ -5,7 +5,7 @@ use Rattle.std.proofs.lemmas.Bool.{cond_both}
 use Rattle.std.proofs.lemmas.Option.{same_Some, none-some}
 use Rattle.asm_formats.specs.Among.{IsAmong}
 use Rattle.asm_placement.specs.Copies.{Copy}
-use Rattle.asm_placement.specs.Rebalancing.{first_of, when}
+use Rattle.asm_placement.specs.Rebalancing.{first_of, option_when}
 use Rattle.asm_placement.specs.Work.{count}
 
 -- where what passes afterwards passed before, the count doesn't rise
@@ -53,7 +53,7 @@ said_by {A} says (x ∷ xs) a e = by (said_by says xs a) (says x) refl e
     by later None is k = let p = later k in (p.0, inr p.1, p.2)
     by later (Some b) is k = (x, inl refl, is ∙ k)
 
-pub when_said : {A : Type 0} (b : Bool) (o : Option A) (a : A) → when b o ≡ Some a → (b ≡ true) × (o ≡ Some a)
+pub when_said : {A : Type 0} (b : Bool) (o : Option A) (a : A) → option_when b o ≡ Some a → (b ≡ true) × (o ≡ Some a)
 when_said true o a e = (refl, e)
 when_said false o a e = absurd (none-some a e)
 

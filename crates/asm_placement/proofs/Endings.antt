@@ -10,12 +10,12 @@ use Rattle.asm_formats.specs.Items.{Item, Home}
 use Rattle.asm_formats.specs.Among.{IsAmong}
 use Rattle.asm_placement.specs.Modes.{is_online, is_dropping, is_forced, leaves, serves, mode_is}
 use Rattle.asm_placement.specs.Tables.{is_stale}
-use Rattle.asm_placement.specs.DiskSets.{is_among, groups_of}
+use Rattle.asm_placement.specs.DiskSets.{is_among, distinct_failgroups}
 use Rattle.asm_placement.specs.TableDisks.{directory_target, status_target}
 use Rattle.asm_placement.specs.Space.{lowest_run, has_room}
 use Rattle.asm_placement.specs.Choices.{home_on, is_eligible, replacement}
-use Rattle.asm_placement.specs.Copies.{Copy, home, units, all_copies, entry_at_home, is_on, is_marked, is_unmarked, can_be_read, same_extent, siblings, has_source, has_other_source, wants_fill, wants_shift, is_doubled, is_whole_copy, disks_of, is_full}
-use Rattle.asm_placement.specs.Rebalancing.{Move, recopy, fill, shift, directory, tables, Next, move, done, no_space, lost, first_of, when, next_recopy, new_home, next_fill, next_shift, next_directory, next_tables, next_lost, next_no_space, next_balancing, balancing, next}
+use Rattle.asm_placement.specs.Copies.{Copy, home, units, all_copies, entry_at_home, is_on, is_marked, is_unmarked, can_be_read, same_extent, siblings, has_source, has_other_source, wants_fill, wants_shift, is_doubled, is_whole_copy, disks_of_copies, has_full_redundancy}
+use Rattle.asm_placement.specs.Rebalancing.{Move, recopy, fill, shift, directory, tables, Next, move, done, lacks_space, lost_extent, first_of, option_when, next_recopy, new_home, next_fill, next_shift, next_directory, next_tables, next_lost, next_no_space, next_balancing, balancing, next}
 use Rattle.asm_placement.specs.Work.{is_absent}
 use Rattle.asm_placement.specs.EndLaws.{IsDone, HasNoPlace, IsOutOfSpace, IsLost}
 use Rattle.asm_placement.proofs.Membership.{filter_out, among_filtered}
@@ -44,11 +44,11 @@ none_says {A} says (y ∷ xs) x e h = by (says y) refl e h (none_says says xs x)
     by None is k (inr there) later = later k there
     by (Some a) is k _ later = absurd (none-some a (sym k))
 
-when_none : {A : Type 0} (b : Bool) (a : A) → when b (Some a) ≡ None → b ≡ false
+when_none : {A : Type 0} (b : Bool) (a : A) → option_when b (Some a) ≡ None → b ≡ false
 when_none true a e = absurd (none-some a (sym e))
 when_none false a e = refl
 
-when_true : {A : Type 0} (b : Bool) (o : Option A) → when b o ≡ None → b ≡ true → o ≡ None
+when_true : {A : Type 0} (b : Bool) (o : Option A) → option_when b o ≡ None → b ≡ true → o ≡ None
 when_true true o e h = e
 when_true false o e h = absurd cc
 
@@ -123,7 +123,7 @@ no_moves s r items end is e =
 -- ---- what each of them says
 
 usable_if : (es : List Entry) (items : List Item) (all : List Copy) → next_lost es items all ≡ None → (x : Copy) → IsAmong all x → has_source es items all x ≡ true
-usable_if es items all e x h = so (has_source es items all x) (λ out. both_ways (not (has_source es items all x)) (when_none (not (has_source es items all x)) (lost x.file x.index) (none_says _ all x e h)) (ap not out))
+usable_if es items all e x h = so (has_source es items all x) (λ out. both_ways (not (has_source es items all x)) (when_none (not (has_source es items all x)) (lost_extent x.file x.index) (none_says _ all x e h)) (ap not out))
 
 fills_none : (s : Shape) (es : List Entry) (items : List Item) (all : List Copy) → next_fill s es items all ≡ None → (x : Copy) → IsAmong all x → has_source es items all x ≡ true → wants_fill es x ≡ true → new_home s es items x ≡ None
 fills_none s es items all e x h source wants =
@@ -169,13 +169,13 @@ done_is_end = no_move (λ m e. cc)
 lost_is_not : (f i : ℕ) (es : List Entry) (items : List Item) (all : List Copy) → IsNever (next_lost es items all) done
 lost_is_not f i es items all e = let p = said_by _ all done e in by p.0.file p.0.index (same_Some _ done (when_said (not (has_source es items all p.0)) _ done p.2).1)
   where
-    by : (g j : ℕ) → lost g j ≡ done → ⊥
+    by : (g j : ℕ) → lost_extent g j ≡ done → ⊥
     by g j k = cc
 
 space_is_not : (s : Shape) (es : List Entry) (items : List Item) (all : List Copy) → IsNever (next_no_space s es items all) done
 space_is_not s es items all e = let p = said_by _ all done e in by p.0.file p.0.index (same_Some _ done (when_said ((wants_fill es p.0 || wants_shift es p.0) && is_none (new_home s es items p.0)) _ done p.2).1)
   where
-    by : (g j : ℕ) → no_space g j ≡ done → ⊥
+    by : (g j : ℕ) → lacks_space g j ≡ done → ⊥
     by g j k = cc
 
 nothing_left : (o : Option Next) (n : Next) → IsNever o n → unwrap_or o done ≡ n → o ≡ None
@@ -192,7 +192,7 @@ done_means s r items e =
     let usable = usable_if es items all a.0 in
     let placed : (x : Copy) → IsAmong all x → (wants_fill es x || wants_shift es x) ≡ false = λ x h. not_so (wants_fill es x || wants_shift es x) (λ wants.
     let away = homeless s r items done none x h (usable x h) wants in
-    both_ways ((wants_fill es x || wants_shift es x) && is_none (new_home s es items x)) (when_none ((wants_fill es x || wants_shift es x) && is_none (new_home s es items x)) (no_space x.file x.index) (none_says _ all x b.0 h))
+    both_ways ((wants_fill es x || wants_shift es x) && is_none (new_home s es items x)) (when_none ((wants_fill es x || wants_shift es x) && is_none (new_home s es items x)) (lacks_space x.file x.index) (none_says _ all x b.0 h))
     (and_from (wants_fill es x || wants_shift es x) (is_none (new_home s es items x)) wants (ap (λ (o : Option Home). is_none o) away))) in
     let part : (p q : Bool) → (p || q) ≡ false → (p ≡ false) × (q ≡ false) = λ p q k. (not_so p (λ yes. both_ways (p || q) k (or_left p q yes)), not_so q (λ yes. both_ways (p || q) k (or_right p q yes))) in
     record {
@@ -231,91 +231,91 @@ no_place s es items x away e h = not_so (is_eligible es x.copy x.homes e && has_
     some_room d None some k = both_ways false refl some
     some_room d (Some u) some k = none-some (home_at d u) (sym k)
 
-pub no_space_means : (s : Shape) (r : Status) (items : List Item) (f i : ℕ) → next s r items ≡ no_space f i → IsOutOfSpace s r items f i
+pub no_space_means : (s : Shape) (r : Status) (items : List Item) (f i : ℕ) → next s r items ≡ lacks_space f i → IsOutOfSpace s r items f i
 no_space_means s r items f i e =
     let es = r.entries in
     let all = all_copies items in
-    let none = no_moves s r items (no_space f i) (no_move (λ m k. cc)) e in
-    let a = clear (next_lost es items all) (option_or (next_no_space s es items all) (next_balancing s es items all)) (no_space f i) (other es all) none.rest in
-    let said = found (next_no_space s es items all) (next_balancing s es items all) (balancing_never s es items all (no_space f i) (no_move (λ m k. cc))) a.1 in
-    let p = said_by _ all (no_space f i) said in
+    let none = no_moves s r items (lacks_space f i) (no_move (λ m k. cc)) e in
+    let a = clear (next_lost es items all) (option_or (next_no_space s es items all) (next_balancing s es items all)) (lacks_space f i) (other es all) none.rest in
+    let said = found (next_no_space s es items all) (next_balancing s es items all) (balancing_never s es items all (lacks_space f i) (no_move (λ m k. cc))) a.1 in
+    let p = said_by _ all (lacks_space f i) said in
     let x : Copy = p.0 in
-    let w = when_said ((wants_fill es x || wants_shift es x) && is_none (new_home s es items x)) _ (no_space f i) p.2 in
+    let w = when_said ((wants_fill es x || wants_shift es x) && is_none (new_home s es items x)) _ (lacks_space f i) p.2 in
     let parts = and_parts (wants_fill es x || wants_shift es x) (is_none (new_home s es items x)) w.0 in
     let usable = usable_if es items all a.0 in
-    let same = numbers x.file x.index (same_Some (no_space x.file x.index) (no_space f i) w.1) in
+    let same = numbers x.file x.index (same_Some (lacks_space x.file x.index) (lacks_space f i) w.1) in
     record {
       copy = x;
       among = p.1;
       file = same.0;
       index = same.1;
       due = parts.0;
-      no_place = no_place s es items x (homeless s r items (no_space f i) none x p.1 (usable x p.1) parts.0);
+      no_place = no_place s es items x (homeless s r items (lacks_space f i) none x p.1 (usable x p.1) parts.0);
       usable = usable;
-      others = λ y h wants. no_place s es items y (homeless s r items (no_space f i) none y h (usable y h) wants);
+      others = λ y h wants. no_place s es items y (homeless s r items (lacks_space f i) none y h (usable y h) wants);
     }
   where
-    differ : (g j : ℕ) → lost g j ≡ no_space f i → ⊥
+    differ : (g j : ℕ) → lost_extent g j ≡ lacks_space f i → ⊥
     differ g j k = cc
 
-    numbers : (g j : ℕ) → no_space g j ≡ no_space f i → (g ≡ f) × (j ≡ i)
+    numbers : (g j : ℕ) → lacks_space g j ≡ lacks_space f i → (g ≡ f) × (j ≡ i)
     numbers g j k = (cc, cc)
 
-    other : (es : List Entry) (all : List Copy) → IsNever (next_lost es items all) (no_space f i)
-    other es all k = let p = said_by _ all (no_space f i) k in differ p.0.file p.0.index (same_Some _ (no_space f i) (when_said (not (has_source es items all p.0)) _ (no_space f i) p.2).1)
+    other : (es : List Entry) (all : List Copy) → IsNever (next_lost es items all) (lacks_space f i)
+    other es all k = let p = said_by _ all (lacks_space f i) k in differ p.0.file p.0.index (same_Some _ (lacks_space f i) (when_said (not (has_source es items all p.0)) _ (lacks_space f i) p.2).1)
 
-    found : (o rest : Option Next) → IsNever rest (no_space f i) → unwrap_or (option_or o rest) done ≡ no_space f i → o ≡ Some (no_space f i)
+    found : (o rest : Option Next) → IsNever rest (lacks_space f i) → unwrap_or (option_or o rest) done ≡ lacks_space f i → o ≡ Some (lacks_space f i)
     found (Some n) rest never k = ap (λ (j : Next). Some j) k
     found None None never k = absurd cc
     found None (Some n) never k = absurd (never (ap (λ (j : Next). Some j) k))
 
 -- ---- lost
 
-pub lost_means : (s : Shape) (r : Status) (items : List Item) (f i : ℕ) → next s r items ≡ lost f i → IsLost r items f i
+pub lost_means : (s : Shape) (r : Status) (items : List Item) (f i : ℕ) → next s r items ≡ lost_extent f i → IsLost r items f i
 lost_means s r items f i e =
     let es = r.entries in
     let all = all_copies items in
-    let none = no_moves s r items (lost f i) (no_move (λ m k. cc)) e in
+    let none = no_moves s r items (lost_extent f i) (no_move (λ m k. cc)) e in
     let said = found (next_lost es items all) (option_or (next_no_space s es items all) (next_balancing s es items all)) (other es all) none.rest in
-    let p = said_by _ all (lost f i) said in
+    let p = said_by _ all (lost_extent f i) said in
     let x : Copy = p.0 in
-    let w = when_said (not (has_source es items all x)) _ (lost f i) p.2 in
-    let same = numbers x.file x.index (same_Some (lost x.file x.index) (lost f i) w.1) in
+    let w = when_said (not (has_source es items all x)) _ (lost_extent f i) p.2 in
+    let same = numbers x.file x.index (same_Some (lost_extent x.file x.index) (lost_extent f i) w.1) in
     record { copy = x; among = p.1; file = same.0; index = same.1; unusable = not-true (has_source es items all x) w.0 }
   where
-    differ : (g j : ℕ) → no_space g j ≡ lost f i → ⊥
+    differ : (g j : ℕ) → lacks_space g j ≡ lost_extent f i → ⊥
     differ g j k = cc
 
-    numbers : (g j : ℕ) → lost g j ≡ lost f i → (g ≡ f) × (j ≡ i)
+    numbers : (g j : ℕ) → lost_extent g j ≡ lost_extent f i → (g ≡ f) × (j ≡ i)
     numbers g j k = (cc, cc)
 
-    space : (es : List Entry) (all : List Copy) → IsNever (next_no_space s es items all) (lost f i)
-    space es all k = let p = said_by _ all (lost f i) k in differ p.0.file p.0.index (same_Some _ (lost f i) (when_said ((wants_fill es p.0 || wants_shift es p.0) && is_none (new_home s es items p.0)) _ (lost f i) p.2).1)
+    space : (es : List Entry) (all : List Copy) → IsNever (next_no_space s es items all) (lost_extent f i)
+    space es all k = let p = said_by _ all (lost_extent f i) k in differ p.0.file p.0.index (same_Some _ (lost_extent f i) (when_said ((wants_fill es p.0 || wants_shift es p.0) && is_none (new_home s es items p.0)) _ (lost_extent f i) p.2).1)
 
-    either : (o rest : Option Next) → IsNever o (lost f i) → IsNever rest (lost f i) → IsNever (option_or o rest) (lost f i)
+    either : (o rest : Option Next) → IsNever o (lost_extent f i) → IsNever rest (lost_extent f i) → IsNever (option_or o rest) (lost_extent f i)
     either (Some n) rest a b k = a k
     either None rest a b k = b k
 
-    other : (es : List Entry) (all : List Copy) → IsNever (option_or (next_no_space s es items all) (next_balancing s es items all)) (lost f i)
-    other es all = either (next_no_space s es items all) (next_balancing s es items all) (space es all) (balancing_never s es items all (lost f i) (no_move (λ m k. cc)))
+    other : (es : List Entry) (all : List Copy) → IsNever (option_or (next_no_space s es items all) (next_balancing s es items all)) (lost_extent f i)
+    other es all = either (next_no_space s es items all) (next_balancing s es items all) (space es all) (balancing_never s es items all (lost_extent f i) (no_move (λ m k. cc)))
 
-    found : (o rest : Option Next) → IsNever rest (lost f i) → unwrap_or (option_or o rest) done ≡ lost f i → o ≡ Some (lost f i)
+    found : (o rest : Option Next) → IsNever rest (lost_extent f i) → unwrap_or (option_or o rest) done ≡ lost_extent f i → o ≡ Some (lost_extent f i)
     found (Some n) rest never k = ap (λ (j : Next). Some j) k
     found None None never k = absurd cc
     found None (Some n) never k = absurd (never (ap (λ (j : Next). Some j) k))
 
 -- ---- full extents
 
-disk_from : (es : List Entry) (xs : List Copy) (e : Entry) → IsAmong (disks_of es xs) e → (x : Copy) × IsAmong xs x × (entry_at_home es (home x) ≡ Some e)
+disk_from : (es : List Entry) (xs : List Copy) (e : Entry) → IsAmong (disks_of_copies es xs) e → (x : Copy) × IsAmong xs x × (entry_at_home es (home x) ≡ Some e)
 disk_from es [] e h = absurd h
 disk_from es (x ∷ xs) e h = by (entry_at_home es (home x)) refl (disk_from es xs e) h
   where
-    by : (o : Option Entry) → entry_at_home es (home x) ≡ o → (IsAmong (disks_of es xs) e → (y : Copy) × IsAmong xs y × (entry_at_home es (home y) ≡ Some e)) → IsAmong (disks_of es (x ∷ xs)) e
+    by : (o : Option Entry) → entry_at_home es (home x) ≡ o → (IsAmong (disks_of_copies es xs) e → (y : Copy) × IsAmong xs y × (entry_at_home es (home y) ≡ Some e)) → IsAmong (disks_of_copies es (x ∷ xs)) e
         → (y : Copy) × IsAmong (x ∷ xs) y × (entry_at_home es (home y) ≡ Some e)
     by None is later k = let p = later (rw is at k) in (p.0, inr p.1, p.2)
     by (Some d) is later k = split (rw is at k)
       where
-        split : (e ≡ d) ⊎ IsAmong (disks_of es xs) e → (y : Copy) × IsAmong (x ∷ xs) y × (entry_at_home es (home y) ≡ Some e)
+        split : (e ≡ d) ⊎ IsAmong (disks_of_copies es xs) e → (y : Copy) × IsAmong (x ∷ xs) y × (entry_at_home es (home y) ≡ Some e)
         split (inl same) = (x, inl refl, is ∙ ap (λ (z : Entry). Some z) (sym same))
         split (inr there) = let p = later there in (p.0, inr p.1, p.2)
 
@@ -356,12 +356,12 @@ all_of t [] x all h = absurd h
 all_of t (y ∷ xs) x all (inl e) = ap t e ∙ (and_parts (t y) (list_all t xs) all).0
 all_of t (y ∷ xs) x all (inr h) = all_of t xs x (and_parts (t y) (list_all t xs) all).1 h
 
-pub full_bears : (es : List Entry) (items : List Item) (extent : List Copy) (groups : List ℕ) → is_full es items extent ≡ true → length groups < length extent
+pub full_bears : (es : List Entry) (items : List Item) (extent : List Copy) (groups : List ℕ) → has_full_redundancy es items extent ≡ true → length groups < length extent
     → (x : Copy) × IsAmong extent x × (is_whole_copy es items x ≡ true) × ((e : Entry) → entry_at_home es (home x) ≡ Some e → is_among groups e.failgroup ≡ false)
 full_bears es items extent groups full lt =
-    let a = and_parts (list_all (is_whole_copy es items) extent) (length (groups_of (disks_of es extent)) == length extent) full in
-    let count = eqb-true (length (groups_of (disks_of es extent))) (length extent) a.1 in
-    let g = one_outside (groups_of (disks_of es extent)) groups (groups_distinct (disks_of es extent)) (omega arith) in
-    let e = group_from (disks_of es extent) g.0 g.1 in
+    let a = and_parts (list_all (is_whole_copy es items) extent) (length (distinct_failgroups (disks_of_copies es extent)) == length extent) full in
+    let count = eqb-true (length (distinct_failgroups (disks_of_copies es extent))) (length extent) a.1 in
+    let g = one_outside (distinct_failgroups (disks_of_copies es extent)) groups (groups_distinct (disks_of_copies es extent)) (omega arith) in
+    let e = group_from (disks_of_copies es extent) g.0 g.1 in
     let x = disk_from es extent e.0 e.1 in
     (x.0, x.1, all_of (is_whole_copy es items) extent x.0 a.0 x.1, λ d is. ap (λ (f : Entry). is_among groups f.failgroup) (same_Some d e.0 (sym is ∙ x.2)) ∙ ap (is_among groups) e.2 ∙ g.2)

@@ -16,9 +16,9 @@ use Rattle.asm_placement.specs.TableDisks.{directory_target, status_target}
 use Rattle.asm_placement.specs.Space.{used_units, is_above, is_below}
 use Rattle.asm_placement.specs.Choices.{holds_copy, replacement}
 use Rattle.asm_placement.specs.Copies.{Copy, home, units, all_copies, entry_at_home, is_on, is_marked, has_source, has_other_source, wants_fill, wants_shift, is_doubled}
-use Rattle.asm_placement.specs.Rebalancing.{Move, recopy, fill, shift, directory, tables, Next, move, done, no_space, lost, next_recopy, new_home, next_fill, next_shift, next_directory, next_tables, next_lost, next_no_space, above_or_none, balancing, next_balancing, next}
+use Rattle.asm_placement.specs.Rebalancing.{Move, recopy, fill, shift, directory, tables, Next, move, done, lacks_space, lost_extent, next_recopy, new_home, next_fill, next_shift, next_directory, next_tables, next_lost, next_no_space, above_or_none, balancing, next_balancing, next}
 use Rattle.asm_placement.specs.Moves.{with_current, with_home, record_after, items_after}
-use Rattle.asm_placement.specs.Work.{count, is_marked_online, is_absent, copies_to_do, elsewhere, unevenness, Work, work, IsLess, keys_differ, is_regular, AreRecords}
+use Rattle.asm_placement.specs.Work.{count, is_marked_online, is_absent, copies_to_do, elsewhere, unevenness, Work, work, IsLess, keys_differ, is_regular, AreGroupRecords}
 use Rattle.asm_placement.proofs.Starts.{units_some}
 use Rattle.asm_placement.proofs.Counting.{count_map_le, count_map_lt, count_lt, said_by, when_said, mapped}
 use Rattle.asm_placement.proofs.Chosen.{IsChoice, choice, entry_found, entry_among, holds_at}
@@ -105,7 +105,7 @@ copies_fewer es items x h is due =
     (λ leaving. omega (arith, a, b, c, fewer es items x h is (is_on leaves es) (is_on leaves es) (mode_lowers leaves es x h is.new away) leaving)) present) due
 
 -- the home that was chosen
-replaced_by : (r : Status) (items : List Item) (x : Copy) (h : Home) (test : Entry → Bool) → AreRecords r items → IsAmong (all_copies items) x → IsChoice r.entries x.copy x.homes test h → IsReplaced r.entries items x h
+replaced_by : (r : Status) (items : List Item) (x : Copy) (h : Home) (test : Entry → Bool) → AreGroupRecords r items → IsAmong (all_copies items) x → IsChoice r.entries x.copy x.homes test h → IsReplaced r.entries items x h
 replaced_by r items x h test records among c =
     let of = copy_of items x records.allowed among in
     let up = numbers_ascend r records.status in
@@ -124,7 +124,7 @@ replaced_by r items x h test records among c =
 
 -- ---- filling and shifting
 
-lowered_by : (s : Shape) (r : Status) (items : List Item) (x : Copy) (h : Home) → AreRecords r items → IsAmong (all_copies items) x → new_home s r.entries items x ≡ Some h → IsDue r.entries x
+lowered_by : (s : Shape) (r : Status) (items : List Item) (x : Copy) (h : Home) → AreGroupRecords r items → IsAmong (all_copies items) x → new_home s r.entries items x ≡ Some h → IsDue r.entries x
     → IsLess (work s r (after x h items)) (work s r items)
 unfolding replacement
 lowered_by s r items x h records among new due =
@@ -151,7 +151,7 @@ Falls s r items m = IsLess (work s (record_after m r) (items_after m items)) (wo
 move_is : (a b : Move) → move a ≡ move b → a ≡ b
 move_is a b e = cc
 
-fill_falls : (s : Shape) (r : Status) (items : List Item) (m : Move) → AreRecords r items → next_fill s r.entries items (all_copies items) ≡ Some (move m) → Falls s r items m
+fill_falls : (s : Shape) (r : Status) (items : List Item) (m : Move) → AreGroupRecords r items → next_fill s r.entries items (all_copies items) ≡ Some (move m) → Falls s r items m
 fill_falls s r items m records e =
     let p = said_by _ (all_copies items) (move m) e in
     let x : Copy = p.0 in
@@ -160,7 +160,7 @@ fill_falls s r items m records e =
     subst (λ (k : Move). Falls s r items k) (move_is (fill x.file x.index x.copy h.0) m h.2)
     (lowered_by s r items x h.0 records p.1 h.1 (fill_due r.entries x (and_parts (wants_fill r.entries x) (has_source r.entries items (all_copies items) x) w.0).0))
 
-shift_falls : (s : Shape) (r : Status) (items : List Item) (m : Move) → AreRecords r items → next_shift s r.entries items (all_copies items) ≡ Some (move m) → Falls s r items m
+shift_falls : (s : Shape) (r : Status) (items : List Item) (m : Move) → AreGroupRecords r items → next_shift s r.entries items (all_copies items) ≡ Some (move m) → Falls s r items m
 shift_falls s r items m records e =
     let p = said_by _ (all_copies items) (move m) e in
     let x : Copy = p.0 in
@@ -224,7 +224,7 @@ record IsSource (r : Status) (items : List Item) (x : Copy) (from : Entry) (old 
 part_of : (n a b d : ℕ) → a ≡ b → part n a d ≡ part n b d
 part_of n a b d e = ap (λ (k : ℕ). part n k d) e
 
-is_shift : (s : Shape) (r : Status) (items : List Item) (x : Copy) (h : Home) (from : Entry) (old : Home) → AreRecords r items → IsAmong (all_copies items) x → IsSource r items x from old
+is_shift : (s : Shape) (r : Status) (items : List Item) (x : Copy) (h : Home) (from : Entry) (old : Home) → AreGroupRecords r items → IsAmong (all_copies items) x → IsSource r items x from old
     → is_online from.mode ≡ true → is_above s items r.entries (units s x) from ≡ true → (c : IsChoice r.entries x.copy x.homes (is_below s items r.entries (units s x)) h)
     → IsShift s r.entries items (after x h items) (units s x) from c.disk
 is_shift s r items x h from old records among source online above c =
@@ -255,7 +255,7 @@ elsewhere_fewer : (es : List Entry) (items : List Item) (x : Copy) (h : Home) �
 unfolding elsewhere
 elsewhere_fewer es items x h is here = fewer es items x h is _ _ (mode_lowers (λ mode. not (is_online mode)) es x h is.new (ap not is.new.online)) here
 
-balanced_by : (s : Shape) (r : Status) (items : List Item) (x : Copy) (h : Home) (from : Entry) (old : Home) → AreRecords r items → IsAmong (all_copies items) x → IsSource r items x from old
+balanced_by : (s : Shape) (r : Status) (items : List Item) (x : Copy) (h : Home) (from : Entry) (old : Home) → AreGroupRecords r items → IsAmong (all_copies items) x → IsSource r items x from old
     → is_above s items r.entries (units s x) from ≡ true → IsChoice r.entries x.copy x.homes (is_below s items r.entries (units s x)) h → IsLess (work s r (after x h items)) (work s r items)
 balanced_by s r items x h from old records among source above c =
     let is = replaced_by r items x h (is_below s items r.entries (units s x)) records among c in
@@ -270,7 +270,7 @@ balanced_by s r items x h from old records among source above c =
     )
     by is false away = inl (elsewhere_fewer r.entries items x h is (ap (λ (o : Option Home). mode_is (λ mode. not (is_online mode)) (entry_at_home r.entries o)) source.home_is ∙ ap (mode_is (λ mode. not (is_online mode))) source.found ∙ ap not away))
 
-balancing_falls : (s : Shape) (r : Status) (items : List Item) (m : Move) → AreRecords r items → next_balancing s r.entries items (all_copies items) ≡ Some (move m) → Falls s r items m
+balancing_falls : (s : Shape) (r : Status) (items : List Item) (m : Move) → AreGroupRecords r items → next_balancing s r.entries items (all_copies items) ≡ Some (move m) → Falls s r items m
 unfolding balancing
 balancing_falls s r items m records e =
     let p = said_by _ (all_copies items) (move m) e in
@@ -295,7 +295,7 @@ directory_falls s r items m e =
     let d = mapped (λ d. move (directory d)) (directory_target s.kind r) (move m) e in
     subst (λ (k : Move). Falls s r items k) (move_is (directory d.0) m d.2) (inl (omega (arith, directory_lowers s r d.0 d.1)))
 
-tables_fall : (s : Shape) (r : Status) (items : List Item) (m : Move) → AreRecords r items → next_tables s r ≡ Some (move m) → Falls s r items m
+tables_fall : (s : Shape) (r : Status) (items : List Item) (m : Move) → AreGroupRecords r items → next_tables s r ≡ Some (move m) → Falls s r items m
 tables_fall s r items m records e =
     let d = mapped (λ d. move (tables d)) (status_target s.kind r) (move m) e in
     subst (λ (k : Move). Falls s r items k) (move_is (tables d.0) m d.2) (inl (omega (arith, tables_lower s r d.0 (numbers_ascend r records.status) d.1)))
@@ -315,9 +315,9 @@ lost_is_no_move m es items all e =
     let p = said_by _ all (move m) e in
     let x : Copy = p.0 in
     let w = when_said (not (has_source es items all x)) _ (move m) p.2 in
-    differ x.file x.index (same_Some (lost x.file x.index) (move m) w.1)
+    differ x.file x.index (same_Some (lost_extent x.file x.index) (move m) w.1)
   where
-    differ : (f i : ℕ) → lost f i ≡ move m → ⊥
+    differ : (f i : ℕ) → lost_extent f i ≡ move m → ⊥
     differ f i k = cc
 
 space_is_no_move : (m : Move) (s : Shape) (es : List Entry) (items : List Item) (all : List Copy) → next_no_space s es items all ≡ Some (move m) → ⊥
@@ -325,12 +325,12 @@ space_is_no_move m s es items all e =
     let p = said_by _ all (move m) e in
     let x : Copy = p.0 in
     let w = when_said ((wants_fill es x || wants_shift es x) && is_none (new_home s es items x)) _ (move m) p.2 in
-    differ x.file x.index (same_Some (no_space x.file x.index) (move m) w.1)
+    differ x.file x.index (same_Some (lacks_space x.file x.index) (move m) w.1)
   where
-    differ : (f i : ℕ) → no_space f i ≡ move m → ⊥
+    differ : (f i : ℕ) → lacks_space f i ≡ move m → ⊥
     differ f i k = cc
 
-pub work_falls : (s : Shape) (r : Status) (items : List Item) (m : Move) → AreRecords r items → next s r items ≡ move m → Falls s r items m
+pub work_falls : (s : Shape) (r : Status) (items : List Item) (m : Move) → AreGroupRecords r items → next s r items ≡ move m → Falls s r items m
 unfolding next
 work_falls s r items m records e =
     let es = r.entries in

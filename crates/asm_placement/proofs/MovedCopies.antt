@@ -8,7 +8,7 @@ use Rattle.std.proofs.lemmas.Nat.{div-add-mod', div-mul-add}
 use Rattle.asm_formats.specs.Items.{Item, file_item, chunk_item, marks_item, FileHead, Home, Homes, chunk_len, is_item, is_homes}
 use Rattle.asm_formats.specs.Among.{IsAmong}
 use Rattle.asm_placement.specs.Tables.{head_of, if_is}
-use Rattle.asm_placement.specs.Copies.{Copy, copies_at, has_home, copies_from, file_copies, item_copies, all_copies}
+use Rattle.asm_placement.specs.Copies.{Copy, copies_at, has_any_home, copies_from, file_copies, item_copies, all_copies}
 use Rattle.asm_placement.specs.Moves.{moved_item, unmarked_item, with_current, with_home}
 use Rattle.asm_placement.proofs.Membership.{among_split}
 
@@ -60,25 +60,25 @@ pub record FromPlace (f i : ℕ) (chunk : List Homes) (n : ℕ) (y : Copy) : Typ
   pub low : i ≤ y.index
   pub high : y.index < i + length chunk
   pub homes : y.homes ≡ get_or chunk (y.index - i) []
-  pub some : has_home y.homes ≡ true
+  pub some : has_any_home y.homes ≡ true
   pub copy : y.copy < n
 
 pub from_place : (f i n : ℕ) (homes : List Homes) (y : Copy) → IsAmong (copies_from f i n homes) y → FromPlace f i homes n y
 from_place f i n [] y h = absurd h
-from_place f i n (hs ∷ more) y h = by (from_place f (suc i) n more y) (has_home hs) refl h
+from_place f i n (hs ∷ more) y h = by (from_place f (suc i) n more y) (has_any_home hs) refl h
   where
     later : FromPlace f (suc i) more n y → FromPlace f i (hs ∷ more) n y
     later p =
         let e : y.index - i ≡ suc (y.index - suc i) = omega (arith, p.low) in
         record { file = p.file; low = omega (arith, p.low); high = omega (arith, p.high); homes = rw e p.homes; some = p.some; copy = p.copy }
 
-    by : (IsAmong (copies_from f (suc i) n more) y → FromPlace f (suc i) more n y) → (b : Bool) → has_home hs ≡ b
+    by : (IsAmong (copies_from f (suc i) n more) y → FromPlace f (suc i) more n y) → (b : Bool) → has_any_home hs ≡ b
         → IsAmong (if b then copies_at f i hs 0 n ++ copies_from f (suc i) n more else copies_from f (suc i) n more) y → FromPlace f i (hs ∷ more) n y
     by go true some k = ⊎_elim
         (λ here.
         let p = at_place f i hs 0 n y here in
         let e : y.index - i ≡ 0 = omega (arith, p.index) in
-        record { file = p.file; low = omega (arith, p.index); high = omega (arith, p.index); homes = rw e p.homes; some = ap has_home p.homes ∙ some; copy = omega (arith, p.copy) })
+        record { file = p.file; low = omega (arith, p.index); high = omega (arith, p.index); homes = rw e p.homes; some = ap has_any_home p.homes ∙ some; copy = omega (arith, p.copy) })
         (λ there. later (go there)) (among_split (copies_at f i hs 0 n) (copies_from f (suc i) n more) y k)
     by go false some k = later (go k)
 
@@ -104,18 +104,18 @@ at_moved : (f i copy : ℕ) (h : Home) (hs : Homes) (c n : ℕ) → copies_at f 
 at_moved f i copy h hs c zero = refl
 at_moved f i copy h hs c (suc n) = rw (eq-eqb f f refl, eq-eqb i i refl) (ap (λ (l : List Copy). record { file = f; index = i; copy = c; homes = set hs copy (Some h) } ∷ l) (at_moved f i copy h hs (suc c) n))
 
-home_stays : (hs : Homes) (copy : ℕ) (h : Home) → has_home hs ≡ true → has_home (set hs copy (Some h)) ≡ true
+home_stays : (hs : Homes) (copy : ℕ) (h : Home) → has_any_home hs ≡ true → has_any_home (set hs copy (Some h)) ≡ true
 home_stays [] copy h e = e
 home_stays (x ∷ hs) zero h e = refl
 home_stays (None ∷ hs) (suc copy) h e = home_stays hs copy h e
 home_stays (Some x ∷ hs) (suc copy) h e = refl
 
-from_moved : (f i copy : ℕ) (h : Home) (n i0 k : ℕ) (homes : List Homes) → i ≡ i0 + k → has_home (get_or homes k []) ≡ true
+from_moved : (f i copy : ℕ) (h : Home) (n i0 k : ℕ) (homes : List Homes) → i ≡ i0 + k → has_any_home (get_or homes k []) ≡ true
     → copies_from f i0 n (set homes k (set (get_or homes k []) copy (Some h))) ≡ map (moved f i copy h) (copies_from f i0 n homes)
 from_moved f i copy h n i0 k [] is some = absurd (false≢true some)
 from_moved f i copy h n i0 zero (hs ∷ more) is some =
     let at : i ≡ i0 = omega arith in
-    let new : has_home (set hs copy (Some h)) ≡ true = home_stays hs copy h some in
+    let new : has_any_home (set hs copy (Some h)) ≡ true = home_stays hs copy h some in
     let rest : map (moved f i copy h) (copies_from f (suc i0) n more) ≡ copies_from f (suc i0) n more =
     stay f i copy h (copies_from f (suc i0) n more) (λ y k. other_index f i y (λ e. omega (arith, (from_place f (suc i0) n more y k).low, e))) in
     let here : copies_at f i0 (set hs copy (Some h)) 0 n ≡ map (moved f i copy h) (copies_at f i0 hs 0 n) = subst (λ (j : ℕ). copies_at f j (set hs copy (Some h)) 0 n ≡ map (moved f i copy h) (copies_at f j hs 0 n)) at (at_moved f i copy h hs 0 n) in
@@ -124,8 +124,8 @@ from_moved f i copy h n i0 (suc k) (hs ∷ more) is some =
     let later = from_moved f i copy h n (suc i0) k more (omega arith) some in
     let here : map (moved f i copy h) (copies_at f i0 hs 0 n) ≡ copies_at f i0 hs 0 n =
     stay f i copy h (copies_at f i0 hs 0 n) (λ y j. other_index f i y (λ e. omega (arith, (at_place f i0 hs 0 n y j).index, e))) in
-    cond_both (has_home hs) (copies_at f i0 hs 0 n ++ copies_from f (suc i0) n more) (copies_from f (suc i0) n more)
-    (λ (l : List Copy). (if has_home hs then copies_at f i0 hs 0 n ++ copies_from f (suc i0) n (set more k (set (get_or more k []) copy (Some h))) else copies_from f (suc i0) n (set more k (set (get_or more k []) copy (Some h)))) ≡ map (moved f i copy h) l)
+    cond_both (has_any_home hs) (copies_at f i0 hs 0 n ++ copies_from f (suc i0) n more) (copies_from f (suc i0) n more)
+    (λ (l : List Copy). (if has_any_home hs then copies_at f i0 hs 0 n ++ copies_from f (suc i0) n (set more k (set (get_or more k []) copy (Some h))) else copies_from f (suc i0) n (set more k (set (get_or more k []) copy (Some h)))) ≡ map (moved f i copy h) l)
     (λ yes. rw (yes, map_append (moved f i copy h) (copies_at f i0 hs 0 n) (copies_from f (suc i0) n more), here, later) refl)
     (λ no. rw no later)
 
@@ -136,7 +136,7 @@ in_chunk c i low high = let e : i ≡ c * 256 + (i - c * 256) = omega arith in a
 
 -- a chunk of the extent has it
 abbrev pub HasExtent : ℕ → ℕ → List Item → Type 0
-HasExtent f i items = (homes : List Homes) → IsAmong items (chunk_item f (i / chunk_len) homes) → has_home (get_or homes (i % chunk_len) []) ≡ true
+HasExtent f i items = (homes : List Homes) → IsAmong items (chunk_item f (i / chunk_len) homes) → has_any_home (get_or homes (i % chunk_len) []) ≡ true
 
 chunk_size : (g c : ℕ) (homes : List Homes) → is_item (chunk_item g c homes) ≡ true → length homes ≡ 256
 unfolding is_item
@@ -146,7 +146,7 @@ chunk_size g c homes e =
     eqb-true (length homes) chunk_len (and_parts (length homes == chunk_len) (list_all is_homes homes) b.1).0
 
 chunk_moved : (look : ℕ → Option FileHead) (f i copy : ℕ) (h : Home) (g c : ℕ) (homes : List Homes) → is_item (chunk_item g c homes) ≡ true
-    → ((hs : List Homes) → chunk_item f (i / chunk_len) hs ≡ chunk_item g c homes → has_home (get_or hs (i % chunk_len) []) ≡ true)
+    → ((hs : List Homes) → chunk_item f (i / chunk_len) hs ≡ chunk_item g c homes → has_any_home (get_or hs (i % chunk_len) []) ≡ true)
     → item_copies look (moved_item f i copy h (chunk_item g c homes)) ≡ map (moved f i copy h) (item_copies look (chunk_item g c homes))
 chunk_moved look f i copy h g c homes ok has =
     cond_both ((g == f) && (c == i / chunk_len)) (chunk_item g c (set homes (i % chunk_len) (set (get_or homes (i % chunk_len) []) copy (Some h)))) (chunk_item g c homes)
@@ -160,7 +160,7 @@ chunk_moved look f i copy h g c homes ok has =
     subst (λ (d : ℕ). file_copies g (c * chunk_len) (set homes (i % chunk_len) (set (get_or homes (i % chunk_len) []) copy (Some h))) (look g) ≡ map (moved d i copy h) (file_copies g (c * chunk_len) homes (look g))) file (here (look g) index some))
     (λ no. elsewhere (look g) no)
   where
-    here : (head : Option FileHead) → i ≡ c * chunk_len + i % chunk_len → has_home (get_or homes (i % chunk_len) []) ≡ true
+    here : (head : Option FileHead) → i ≡ c * chunk_len + i % chunk_len → has_any_home (get_or homes (i % chunk_len) []) ≡ true
         → file_copies g (c * chunk_len) (set homes (i % chunk_len) (set (get_or homes (i % chunk_len) []) copy (Some h))) head ≡ map (moved g i copy h) (file_copies g (c * chunk_len) homes head)
     here None index some = refl
     here (Some head) index some = from_moved g i copy h head.copies (c * chunk_len) (i % chunk_len) homes index some

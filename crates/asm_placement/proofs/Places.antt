@@ -5,7 +5,7 @@ use Rattle.std.proofs.lemmas.Bool.{cases_lt, ltb-true, lt-ltb}
 use Rattle.std.proofs.lemmas.Nat.{div-add-mod'}
 use Rattle.asm_formats.specs.asm_group.declared.Stripe.{Stripe}
 use Rattle.asm_formats.specs.asm_group.declared.Stripe.TheVariants.{Coarse, Fine}
-use Rattle.asm_placement.specs.Layout.{extent_len, start, chunk_of, first_of_set, has_extent, extents_at_once, LiesAt, IsLayout}
+use Rattle.asm_placement.specs.Layout.{extent_len, start, chunk_of, first_of_set, has_extent_by_size, extents_at_once, LiesAt, IsLayout}
 use Rattle.asm_placement.proofs.Starts.{IsInOrder, one_place, in_first, in_second_left, in_third_left, start_far, start_le, start_past}
 use Rattle.asm_placement.proofs.Sets.{IsFine, one_fine_place, fine_from_order, in_its_set, set_start}
 use Rattle.asm_placement.proofs.Units.{IsUnit, layout_unit, layout_step}
@@ -89,7 +89,7 @@ bytes_of_whole stripe au step o i q n is p whole = (
 -- ---- the extents of a file
 
 -- the last byte of a file is in its last extent
-pub coarse_count : (au step size c r : ℕ) → 0 < size → IsInOrder au step (size - 1) c r → (i : ℕ) → (i < c + 1) ↔ IsTrue (has_extent Coarse au step size i)
+pub coarse_count : (au step size c r : ℕ) → 0 < size → IsInOrder au step (size - 1) c r → (i : ℕ) → (i < c + 1) ↔ IsTrue (has_extent_by_size Coarse au step size i)
 coarse_count au step size c r some last i = (
   λ lt. lt-ltb (start au step i) size (omega (arith, start_le au step i c (omega arith), last.byte)),
   λ is. elim (cases_lt i (c + 1)) [
@@ -98,7 +98,7 @@ coarse_count au step size c r some last i = (
   ],
 )
 
-pub fine_count : (au step size c r : ℕ) → 0 < size → IsInOrder au step (size - 1) c r → (i : ℕ) → (i < (c / 8 + 1) * 8) ↔ IsTrue (has_extent Fine au step size i)
+pub fine_count : (au step size c r : ℕ) → 0 < size → IsInOrder au step (size - 1) c r → (i : ℕ) → (i < (c / 8 + 1) * 8) ↔ IsTrue (has_extent_by_size Fine au step size i)
 fine_count au step size c r some last i = (
   λ lt. lt-ltb (start au step (8 * (i / 8))) size (omega (arith, start_le au step (8 * (i / 8)) c (omega arith), last.byte)),
   λ is. elim (cases_lt i ((c / 8 + 1) * 8)) [
@@ -108,7 +108,7 @@ fine_count au step size c r some last i = (
 )
 
 -- an empty file has no extents
-pub none_count : (stripe : Stripe) (au step i : ℕ) → (i < 0) ↔ IsTrue (has_extent stripe au step 0 i)
+pub none_count : (stripe : Stripe) (au step i : ℕ) → (i < 0) ↔ IsTrue (has_extent_by_size stripe au step 0 i)
 none_count stripe au step i = (λ lt. absurd (omega arith), λ is. absurd (omega (arith, ltb-true (start au step (first_of_set stripe i)) 0 is)))
 
 -- whole sets
@@ -124,7 +124,7 @@ first_le : (stripe : Stripe) (i : ℕ) → first_of_set stripe i ≤ i
 first_le Coarse i = omega arith
 first_le Fine i = omega arith
 
-pub whole_count : (stripe : Stripe) (au step size n : ℕ) → ((i : ℕ) → (i < n) ↔ IsTrue (has_extent stripe au step size i)) → (n % extents_at_once stripe ≡ 0) × (size ≤ start au step n)
+pub whole_count : (stripe : Stripe) (au step size n : ℕ) → ((i : ℕ) → (i < n) ↔ IsTrue (has_extent_by_size stripe au step size i)) → (n % extents_at_once stripe ≡ 0) × (size ≤ start au step n)
 whole_count stripe au step size n is =
     let first : ℕ = first_of_set stripe n in
     let out : n < n → ⊥ = λ lt. omega arith in

@@ -10,8 +10,8 @@ use Rattle.asm_formats.specs.Sets.{has_bit, elements}
 use Rattle.asm_formats.specs.Status.{Status, Entry, entry_of, ascends_from}
 use Rattle.asm_formats.specs.Among.{IsAmong}
 use Rattle.asm_placement.specs.Modes.{is_online, leaves, stays, is_target, mode_is}
-use Rattle.asm_placement.specs.DiskSets.{is_among, with_bit, numbers, groups_of, by_group}
-use Rattle.asm_placement.specs.TableDisks.{table_count, in_rounds, rounds, table_set, due_set, size_of, has_leaving, is_status_move_due, status_target, copies_due, staying, groups_with_copy, directory_target}
+use Rattle.asm_placement.specs.DiskSets.{is_among, with_bit, numbers, distinct_failgroups, by_group}
+use Rattle.asm_placement.specs.TableDisks.{table_count, in_rounds, rounds, table_set, due_set, size_of_set, has_leaving, is_status_move_due, status_target, copies_due, staying, groups_with_copy, directory_target}
 use Rattle.asm_placement.specs.Work.{tables_to_do}
 use Rattle.asm_placement.proofs.Membership.{among_split, among_filter, among_flat_map, map_among, filter_out, among_filtered}
 use Rattle.asm_placement.proofs.Bits.{with_bit_is, set_of_is, kept_is, left_out}
@@ -35,10 +35,10 @@ distinct_filter t [] d = d
 distinct_filter t (n ∷ ns) d = cond_both (t n) (n ∷ filter t ns) (filter t ns) (λ (l : List ℕ). Distinct l)
     (λ yes. (kept_is t ns n yes ∙ d.0, distinct_filter t ns d.1)) (λ no. distinct_filter t ns d.1)
 
-pub groups_distinct : (es : List Entry) → Distinct (groups_of es)
+pub groups_distinct : (es : List Entry) → Distinct (distinct_failgroups es)
 unfolding Distinct
 groups_distinct [] = tt
-groups_distinct (e ∷ es) = (left_out (λ g. not (g == e.failgroup)) (groups_of es) e.failgroup (ap not (eq-eqb e.failgroup e.failgroup refl)), distinct_filter (λ g. not (g == e.failgroup)) (groups_of es) (groups_distinct es))
+groups_distinct (e ∷ es) = (left_out (λ g. not (g == e.failgroup)) (distinct_failgroups es) e.failgroup (ap not (eq-eqb e.failgroup e.failgroup refl)), distinct_filter (λ g. not (g == e.failgroup)) (distinct_failgroups es) (groups_distinct es))
 
 filter_le : (t : ℕ → Bool) (ns : List ℕ) → length (filter t ns) ≤ length ns
 filter_le t [] = omega arith
@@ -64,12 +64,12 @@ fits (x ∷ xs) ys d h =
 
 -- ---- failure groups
 
-pub group_among : (es : List Entry) (e : Entry) → IsAmong es e → is_among (groups_of es) e.failgroup ≡ true
+pub group_among : (es : List Entry) (e : Entry) → IsAmong es e → is_among (distinct_failgroups es) e.failgroup ≡ true
 group_among [] e h = absurd h
 group_among (f ∷ es) e (inl is) = or_left (eqb f.failgroup e.failgroup) _ (eq-eqb f.failgroup e.failgroup (ap (λ (x : Entry). x.failgroup) (sym is)))
 group_among (f ∷ es) e (inr k) = elim (cases_eq f.failgroup e.failgroup) [
   | inl same ↦ or_left (eqb f.failgroup e.failgroup) _ (eq-eqb f.failgroup e.failgroup same)
-  | inr other ↦ or_right (eqb f.failgroup e.failgroup) _ (kept_is (λ g. not (g == f.failgroup)) (groups_of es) e.failgroup (ap not (ne_eqb e.failgroup f.failgroup (λ same. other (sym same)))) ∙ group_among es e k)
+  | inr other ↦ or_right (eqb f.failgroup e.failgroup) _ (kept_is (λ g. not (g == f.failgroup)) (distinct_failgroups es) e.failgroup (ap not (ne_eqb e.failgroup f.failgroup (λ same. other (sym same)))) ∙ group_among es e k)
 ]
 
 pub was_among : (t : ℕ → Bool) (ns : List ℕ) (n : ℕ) → is_among (filter t ns) n ≡ true → is_among ns n ≡ true
@@ -79,12 +79,12 @@ was_among t ns n h = by (t n) refl
     by true pass = sym (kept_is t ns n pass) ∙ h
     by false out = absurd (both_ways (is_among (filter t ns) n) (left_out t ns n out) h)
 
-pub group_from : (es : List Entry) (g : ℕ) → is_among (groups_of es) g ≡ true → (e : Entry) × IsAmong es e × (e.failgroup ≡ g)
+pub group_from : (es : List Entry) (g : ℕ) → is_among (distinct_failgroups es) g ≡ true → (e : Entry) × IsAmong es e × (e.failgroup ≡ g)
 group_from [] g h = absurd cc
 group_from (f ∷ es) g h = ⊎_elim
     (λ here. (f, inl refl, eqb-true f.failgroup g here))
-    (λ there. further (group_from es g (was_among (λ n. not (n == f.failgroup)) (groups_of es) g there)))
-    (or_cases (eqb f.failgroup g) (is_among (filter (λ n. not (n == f.failgroup)) (groups_of es)) g) h)
+    (λ there. further (group_from es g (was_among (λ n. not (n == f.failgroup)) (distinct_failgroups es) g there)))
+    (or_cases (eqb f.failgroup g) (is_among (filter (λ n. not (n == f.failgroup)) (distinct_failgroups es)) g) h)
   where
     further : (e : Entry) × IsAmong es e × (e.failgroup ≡ g) → (e : Entry) × IsAmong (f ∷ es) e × (e.failgroup ≡ g)
     further p = (p.0, inr p.1, p.2)
@@ -92,15 +92,15 @@ group_from (f ∷ es) g h = ⊎_elim
 -- ---- a further directory copy
 
 -- one more disk that stays, of a failure group that had none, is one more failure group
-one_group_more : (es : List Entry) (set : ℕ) (e : Entry) → IsAmong es e → stays e.mode ≡ true → is_among (groups_of (staying es set)) e.failgroup ≡ false
-    → length (groups_of (staying es set)) < length (groups_of (staying es (with_bit set e.number)))
+one_group_more : (es : List Entry) (set : ℕ) (e : Entry) → IsAmong es e → stays e.mode ≡ true → is_among (distinct_failgroups (staying es set)) e.failgroup ≡ false
+    → length (distinct_failgroups (staying es set)) < length (distinct_failgroups (staying es (with_bit set e.number)))
 unfolding Distinct
 one_group_more es set e among stay new =
     let more = with_bit set e.number in
     let inside : IsAmong (staying es more) e = among_filtered (λ (x : Entry). stays x.mode && has_bit more x.number) es e among
     (and_from (stays e.mode) (has_bit more e.number) stay (with_bit_is set e.number e.number ∙ or_left (eqb e.number e.number) _ (eq-eqb e.number e.number refl))) in
-    let le = fits (e.failgroup ∷ groups_of (staying es set)) (groups_of (staying es more)) (new, groups_distinct (staying es set)) (λ n k. ⊎_elim
-    (λ here. ap (is_among (groups_of (staying es more))) (sym (eqb-true e.failgroup n here)) ∙ group_among (staying es more) e inside)
+    let le = fits (e.failgroup ∷ distinct_failgroups (staying es set)) (distinct_failgroups (staying es more)) (new, groups_distinct (staying es set)) (λ n k. ⊎_elim
+    (λ here. ap (is_among (distinct_failgroups (staying es more))) (sym (eqb-true e.failgroup n here)) ∙ group_among (staying es more) e inside)
     (λ there.
     let p = group_from (staying es set) n there in
     let f : Entry = p.0 in
@@ -108,8 +108,8 @@ one_group_more es set e among stay new =
     let passed = and_parts (stays f.mode) (has_bit set f.number) (filter_out (λ (x : Entry). stays x.mode && has_bit set x.number) es f was) in
     let now : IsAmong (staying es more) f = among_filtered (λ (x : Entry). stays x.mode && has_bit more x.number) es f (among_filter (λ (x : Entry). stays x.mode && has_bit set x.number) es f was)
     (and_from (stays f.mode) (has_bit more f.number) passed.0 (with_bit_is set e.number f.number ∙ or_right (eqb e.number f.number) _ passed.1)) in
-    ap (is_among (groups_of (staying es more))) (sym p.2) ∙ group_among (staying es more) f now)
-    (or_cases (eqb e.failgroup n) (is_among (groups_of (staying es set)) n) k)) in
+    ap (is_among (distinct_failgroups (staying es more))) (sym p.2) ∙ group_among (staying es more) f now)
+    (or_cases (eqb e.failgroup n) (is_among (distinct_failgroups (staying es set)) n) k)) in
     omega arith
 
 find_among : (p : Entry → Bool) (es : List Entry) (e : Entry) → find p es ≡ Some e → IsAmong es e × (p e ≡ true)
@@ -132,7 +132,7 @@ directory_lowers s r d h =
     let f = find_among (λ (e : Entry). is_target e && not (is_among (groups_with_copy r) e.failgroup)) r.entries e m.1 in
     let parts = and_parts (is_target e) (not (is_among (groups_with_copy r) e.failgroup)) f.1 in
     let more = one_group_more r.entries r.directories e f.0 (target_stays e parts.0) (not-true (is_among (groups_with_copy r) e.failgroup) parts.1) in
-    let grown : length (groups_of (staying r.entries r.directories)) < length (groups_of (staying r.entries (with_bit r.directories d))) = subst (λ (n : ℕ). length (groups_of (staying r.entries r.directories)) < length (groups_of (staying r.entries (with_bit r.directories n)))) m.2 more in
+    let grown : length (distinct_failgroups (staying r.entries r.directories)) < length (distinct_failgroups (staying r.entries (with_bit r.directories d))) = subst (λ (n : ℕ). length (distinct_failgroups (staying r.entries r.directories)) < length (distinct_failgroups (staying r.entries (with_bit r.directories n)))) m.2 more in
     omega (arith, grown, ltb-true (length (groups_with_copy r)) (copies_due s.kind r.entries) p.0)
   where
     cut : (b : Bool) (o : Option ℕ) (n : ℕ) → (if b then o else None) ≡ Some n → (b ≡ true) × (o ≡ Some n)
@@ -165,7 +165,7 @@ rounds_from (suc k) groups e h = ⊎_elim
 
 group_disks : (es : List Entry) (g : List Entry) (e : Entry) → IsAmong (by_group es) g → IsAmong g e → IsAmong es e
 group_disks es g e h k =
-    let q = map_among (λ n. filter (λ (e : Entry). e.failgroup == n) es) (groups_of es) g h in
+    let q = map_among (λ n. filter (λ (e : Entry). e.failgroup == n) es) (distinct_failgroups es) g h in
     among_filter (λ (x : Entry). x.failgroup == q.0) es e (subst (λ (l : List Entry). IsAmong l e) q.2 k)
 
 round_disks : (es : List Entry) (e : Entry) → IsAmong (rounds es) e → IsAmong es e
@@ -211,7 +211,7 @@ none_leaves kind es up = not_so (has_leaving es (due_set kind es)) (λ h.
 -- once the tables stand on the due set, no move is due
 settled : (kind : GroupKind) (r : Status) → ascends_from 0 (numbers r.entries) ≡ true → is_status_move_due kind (record r { holders = due_set kind r.entries; next_holders = 0 }) ≡ false
 unfolding is_status_move_due
-settled kind r up = rw (none_leaves kind r.entries up, le-ltb (size_of (due_set kind r.entries)) (size_of (due_set kind r.entries)) (omega arith)) refl
+settled kind r up = rw (none_leaves kind r.entries up, le-ltb (size_of_set (due_set kind r.entries)) (size_of_set (due_set kind r.entries)) (omega arith)) refl
 
 one_at_most : (b : Bool) → cond b 1 0 ≤ 1
 one_at_most true = omega arith

@@ -6,7 +6,7 @@ use Rattle.std.proofs.lemmas.Bool.{cond_both, and_parts, not-true, eq-eqb, eqb-t
 use Rattle.std.proofs.lemmas.Option.{same_Some, none-some}
 use Rattle.std.proofs.lemmas.Nat.{div-add-mod'}
 use Rattle.asm_formats.specs.asm_group.Shape.{Shape}
-use Rattle.asm_formats.specs.Items.{Item, chunk_item, marks_item, Home, Homes, chunk_len, key, is_same_key}
+use Rattle.asm_formats.specs.Items.{Item, chunk_item, marks_item, Home, Homes, chunk_len, item_key, is_same_key}
 use Rattle.asm_formats.specs.Among.{IsAmong}
 use Rattle.asm_placement.specs.Layout.{units_of}
 use Rattle.asm_placement.specs.Placed.{Placed, placed_copies, placed_extents, placed}
@@ -59,14 +59,14 @@ extents_units step d f i (hs ∷ more) (suc k) c h old e =
 
 -- ---- the one chunk
 
-same_chunk : (f c g d : ℕ) (hs homes : List Homes) → ((g == f) && (d == c)) ≡ true → is_same_key (key (chunk_item f c hs)) (key (chunk_item g d homes)) ≡ true
+same_chunk : (f c g d : ℕ) (hs homes : List Homes) → ((g == f) && (d == c)) ≡ true → is_same_key (item_key (chunk_item f c hs)) (item_key (chunk_item g d homes)) ≡ true
 same_chunk f c g d hs homes e =
     let p = and_parts (g == f) (d == c) e in
     let file : g ≡ f = eqb-true g f p.0 in
     let chunk : d ≡ c = eqb-true d c p.1 in
     rw (eq-eqb f g (sym file), eq-eqb (c + 1) (d + 1) (ap (λ (n : ℕ). n + 1) (sym chunk))) refl
 
-same_chunk_back : (f c g d : ℕ) (hs homes : List Homes) → ((g == f) && (d == c)) ≡ true → is_same_key (key (chunk_item g d homes)) (key (chunk_item f c hs)) ≡ true
+same_chunk_back : (f c g d : ℕ) (hs homes : List Homes) → ((g == f) && (d == c)) ≡ true → is_same_key (item_key (chunk_item g d homes)) (item_key (chunk_item f c hs)) ≡ true
 same_chunk_back f c g d hs homes e =
     let p = and_parts (g == f) (d == c) e in
     rw (p.0, eq-eqb (d + 1) (c + 1) (ap (λ (n : ℕ). n + 1) (eqb-true d c p.1))) refl
@@ -75,13 +75,13 @@ not_so : (b : Bool) → (b ≡ true → ⊥) → b ≡ false
 not_so true h = absurd (h refl)
 not_so false h = refl
 
-others_stay : (f i copy : ℕ) (h : Home) (hs : List Homes) (items : List Item) → list_all (λ k. not (is_same_key (key (chunk_item f (i / 256) hs)) (key k))) items ≡ true → map (moved_item f i copy h) items ≡ items
+others_stay : (f i copy : ℕ) (h : Home) (hs : List Homes) (items : List Item) → list_all (λ k. not (is_same_key (item_key (chunk_item f (i / 256) hs)) (item_key k))) items ≡ true → map (moved_item f i copy h) items ≡ items
 others_stay f i copy h hs [] all = refl
 others_stay f i copy h hs (chunk_item g c homes ∷ items) all =
-    let parts = and_parts (not (is_same_key (key (chunk_item f (i / 256) hs)) (key (chunk_item g c homes)))) (list_all (λ k. not (is_same_key (key (chunk_item f (i / 256) hs)) (key k))) items) all in
-    let out : ((g == f) && (c == i / 256)) ≡ false = not_so ((g == f) && (c == i / 256)) (λ e. both_ways _ (not-true (is_same_key (key (chunk_item f (i / 256) hs)) (key (chunk_item g c homes))) parts.0) (same_chunk f (i / 256) g c hs homes e)) in
+    let parts = and_parts (not (is_same_key (item_key (chunk_item f (i / 256) hs)) (item_key (chunk_item g c homes)))) (list_all (λ k. not (is_same_key (item_key (chunk_item f (i / 256) hs)) (item_key k))) items) all in
+    let out : ((g == f) && (c == i / 256)) ≡ false = not_so ((g == f) && (c == i / 256)) (λ e. both_ways _ (not-true (is_same_key (item_key (chunk_item f (i / 256) hs)) (item_key (chunk_item g c homes))) parts.0) (same_chunk f (i / 256) g c hs homes e)) in
     rw out (ap (λ (l : List Item). chunk_item g c homes ∷ l) (others_stay f i copy h hs items parts.1))
-others_stay f i copy h hs (j ∷ items) all = ap (λ (l : List Item). j ∷ l) (others_stay f i copy h hs items (and_parts (not (is_same_key (key (chunk_item f (i / 256) hs)) (key j))) (list_all (λ k. not (is_same_key (key (chunk_item f (i / 256) hs)) (key k))) items) all).1)
+others_stay f i copy h hs (j ∷ items) all = ap (λ (l : List Item). j ∷ l) (others_stay f i copy h hs items (and_parts (not (is_same_key (item_key (chunk_item f (i / 256) hs)) (item_key j))) (list_all (λ k. not (is_same_key (item_key (chunk_item f (i / 256) hs)) (item_key k))) items) all).1)
 
 all_of : {A : Type 0} (t : A → Bool) (xs : List A) (x : A) → list_all t xs ≡ true → IsAmong xs x → t x ≡ true
 all_of t [] x all h = absurd h
@@ -92,7 +92,7 @@ all_of t (y ∷ xs) x all (inr h) = all_of t xs x (and_parts (t y) (list_all t x
 abbrev pub Shifts : ℕ → ℕ → ℕ → ℕ → Home → Home → Type 0
 Shifts old new n d from to = new + part n from.disk d ≡ old + part n to.disk d
 
-here_units : (step d f i copy : ℕ) (h old : Home) (homes : List Homes) (items : List Item) → list_all (λ k. not (is_same_key (key (chunk_item f (i / 256) homes)) (key k))) items ≡ true
+here_units : (step d f i copy : ℕ) (h old : Home) (homes : List Homes) (items : List Item) → list_all (λ k. not (is_same_key (item_key (chunk_item f (i / 256) homes)) (item_key k))) items ≡ true
     → get_or (get_or homes (i % 256) []) copy None ≡ Some old
     → Shifts (units_on d (placed step (chunk_item f (i / 256) homes ∷ items))) (units_on d (placed step (map (moved_item f i copy h) (chunk_item f (i / 256) homes ∷ items)))) (units_of step i) d old h
 unfolding placed
@@ -110,14 +110,14 @@ unfolding placed
 items_units step d f i copy h old homes [] differ among e = absurd among
 items_units step d f i copy h old homes (j ∷ items) differ (inl is) e =
     subst (λ (k : Item). Shifts (units_on d (placed step (k ∷ items))) (units_on d (placed step (map (moved_item f i copy h) (k ∷ items)))) (units_of step i) d old h) is
-    (here_units step d f i copy h old homes items (subst (λ (k : Item). list_all (λ l. not (is_same_key (key k) (key l))) items ≡ true) (sym is) (and_parts (list_all (λ k. not (is_same_key (key j) (key k))) items) (keys_differ items) differ).0) e)
+    (here_units step d f i copy h old homes items (subst (λ (k : Item). list_all (λ l. not (is_same_key (item_key k) (item_key l))) items ≡ true) (sym is) (and_parts (list_all (λ k. not (is_same_key (item_key j) (item_key k))) items) (keys_differ items) differ).0) e)
 items_units step d f i copy h old homes (chunk_item g c others ∷ items) differ (inr there) e =
-    let parts = and_parts (list_all (λ k. not (is_same_key (key (chunk_item g c others)) (key k))) items) (keys_differ items) differ in
-    let apart = all_of (λ k. not (is_same_key (key (chunk_item g c others)) (key k))) items (chunk_item f (i / 256) homes) parts.0 there in
-    let out : ((g == f) && (c == i / 256)) ≡ false = not_so ((g == f) && (c == i / 256)) (λ same. both_ways _ (not-true (is_same_key (key (chunk_item g c others)) (key (chunk_item f (i / 256) homes))) apart) (same_chunk_back f (i / 256) g c homes others same)) in
+    let parts = and_parts (list_all (λ k. not (is_same_key (item_key (chunk_item g c others)) (item_key k))) items) (keys_differ items) differ in
+    let apart = all_of (λ k. not (is_same_key (item_key (chunk_item g c others)) (item_key k))) items (chunk_item f (i / 256) homes) parts.0 there in
+    let out : ((g == f) && (c == i / 256)) ≡ false = not_so ((g == f) && (c == i / 256)) (λ same. both_ways _ (not-true (is_same_key (item_key (chunk_item g c others)) (item_key (chunk_item f (i / 256) homes))) apart) (same_chunk_back f (i / 256) g c homes others same)) in
     let later : Shifts (units_on d (placed step items)) (units_on d (placed step (map (moved_item f i copy h) items))) (units_of step i) d old h = items_units step d f i copy h old homes items parts.1 there e in
     rw out (omega (arith, later, units_append d (placed_extents step g (c * 256) others) (placed step items), units_append d (placed_extents step g (c * 256) others) (placed step (map (moved_item f i copy h) items))))
-items_units step d f i copy h old homes (j ∷ items) differ (inr there) e = items_units step d f i copy h old homes items (and_parts (list_all (λ k. not (is_same_key (key j) (key k))) items) (keys_differ items) differ).1 there e
+items_units step d f i copy h old homes (j ∷ items) differ (inr there) e = items_units step d f i copy h old homes items (and_parts (list_all (λ k. not (is_same_key (item_key j) (item_key k))) items) (keys_differ items) differ).1 there e
 
 placed_unmarked : (step f i copy : ℕ) (items : List Item) → placed step (map (unmarked_item f i copy) items) ≡ placed step items
 unfolding placed

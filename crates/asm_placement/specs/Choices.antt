@@ -7,7 +7,7 @@ use Rattle.asm_formats.specs.Sets.{has_bit}
 use Rattle.asm_formats.specs.Status.{Entry, entry_of}
 use Rattle.asm_formats.specs.Items.{Item, Home, Homes}
 use Rattle.asm_placement.specs.Modes.{stays, is_target}
-use Rattle.asm_placement.specs.DiskSets.{is_among, groups_of}
+use Rattle.asm_placement.specs.DiskSets.{is_among, distinct_failgroups}
 use Rattle.asm_placement.specs.Space.{lowest_run, has_room, tried_first}
 
 -- the home of a copy of n units on a disk: its lowest run
@@ -22,7 +22,7 @@ partners_with_room s items es n e = filter (λ (f : Entry). is_target f && has_b
 
 -- the disk may take the first of so many copies
 abbrev pub may_be_first : Shape → List Item → List Entry → ℕ → ℕ → Entry → Bool
-may_be_first s items es copies n e = is_target e && has_room s items n e && nat_le copies (length (groups_of (partners_with_room s items es n e)) + 1)
+may_be_first s items es copies n e = is_target e && has_room s items n e && nat_le copies (length (distinct_failgroups (partners_with_room s items es n e)) + 1)
 
 -- so many disks in turn, each the first in order of those whose failure group isn't taken yet
 abbrev pub in_turn : Shape → List Item → List Entry → List ℕ → ℕ → List Entry

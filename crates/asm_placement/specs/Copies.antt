@@ -9,7 +9,7 @@ use Rattle.asm_formats.specs.Items.{Item, chunk_item, FileHead, Home, Homes, chu
 use Rattle.asm_placement.specs.Layout.{units_of}
 use Rattle.asm_placement.specs.Tables.{head_of, is_stale}
 use Rattle.asm_placement.specs.Modes.{is_online, is_dropping, is_forced, serves, mode_is}
-use Rattle.asm_placement.specs.DiskSets.{groups_of}
+use Rattle.asm_placement.specs.DiskSets.{distinct_failgroups}
 use Rattle.asm_placement.specs.Choices.{staying_disk}
 
 -- a copy of an extent of a file: its number among the copies, and the homes of all
@@ -31,12 +31,12 @@ abbrev pub copies_at : ℕ → ℕ → Homes → ℕ → ℕ → List Copy
 copies_at f i homes copy zero = []
 copies_at f i homes copy (suc k) = record { file = f; index = i; copy = copy; homes = homes } ∷ copies_at f i homes (suc copy) k
 
-abbrev pub has_home : Homes → Bool
-has_home homes = list_any is_some homes
+abbrev pub has_any_home : Homes → Bool
+has_any_home homes = list_any is_some homes
 
 abbrev pub copies_from : ℕ → ℕ → ℕ → List Homes → List Copy
 copies_from f i count [] = []
-copies_from f i count (hs ∷ more) = if has_home hs then copies_at f i hs 0 count ++ copies_from f (suc i) count more else copies_from f (suc i) count more
+copies_from f i count (hs ∷ more) = if has_any_home hs then copies_at f i hs 0 count ++ copies_from f (suc i) count more else copies_from f (suc i) count more
 
 abbrev pub file_copies : ℕ → ℕ → List Homes → Option FileHead → List Copy
 file_copies f i homes None = []
@@ -105,14 +105,14 @@ wants_shift es x = is_on is_dropping es x || is_doubled es x
 abbrev pub is_whole_copy : List Entry → List Item → Copy → Bool
 is_whole_copy es items x = is_on is_online es x && is_unmarked items x
 
-abbrev pub disks_of : List Entry → List Copy → List Entry
-disks_of es [] = []
-disks_of es (x ∷ xs) = with_disk (entry_at_home es (home x)) (disks_of es xs)
+abbrev pub disks_of_copies : List Entry → List Copy → List Entry
+disks_of_copies es [] = []
+disks_of_copies es (x ∷ xs) = with_disk (entry_at_home es (home x)) (disks_of_copies es xs)
   where
     with_disk : Option Entry → List Entry → List Entry
     with_disk None rest = rest
     with_disk (Some e) rest = e ∷ rest
 
 -- the extent of these copies has as many current copies on Online disks as its redundancy says, in distinct failure groups
-abbrev pub is_full : List Entry → List Item → List Copy → Bool
-is_full es items extent = list_all (is_whole_copy es items) extent && (length (groups_of (disks_of es extent)) == length extent)
+abbrev pub has_full_redundancy : List Entry → List Item → List Copy → Bool
+has_full_redundancy es items extent = list_all (is_whole_copy es items) extent && (length (distinct_failgroups (disks_of_copies es extent)) == length extent)

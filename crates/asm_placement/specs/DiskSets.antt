@@ -20,10 +20,10 @@ abbrev pub numbers : List Entry → List ℕ
 numbers es = map (λ (e : Entry). e.number) es
 
 -- the disks' failure groups, each once, in the order of their first disks
-abbrev pub groups_of : List Entry → List ℕ
-groups_of [] = []
-groups_of (e ∷ es) = e.failgroup ∷ filter (λ g. not (g == e.failgroup)) (groups_of es)
+abbrev pub distinct_failgroups : List Entry → List ℕ
+distinct_failgroups [] = []
+distinct_failgroups (e ∷ es) = e.failgroup ∷ filter (λ g. not (g == e.failgroup)) (distinct_failgroups es)
 
 -- the disks of each failure group
 abbrev pub by_group : List Entry → List (List Entry)
-by_group es = map (λ g. filter (λ (e : Entry). e.failgroup == g) es) (groups_of es)
+by_group es = map (λ g. filter (λ (e : Entry). e.failgroup == g) es) (distinct_failgroups es)

@@ -9,8 +9,8 @@ use Rattle.asm_placement.specs.DiskSets.{is_among}
 use Rattle.asm_placement.specs.TableDisks.{directory_target, status_target}
 use Rattle.asm_placement.specs.Space.{has_room}
 use Rattle.asm_placement.specs.Choices.{is_eligible}
-use Rattle.asm_placement.specs.Copies.{Copy, home, units, all_copies, entry_at_home, is_on, is_marked, has_source, wants_fill, wants_shift, is_doubled, is_whole_copy, is_full}
-use Rattle.asm_placement.specs.Rebalancing.{done, no_space, lost, next, IsBalanced}
+use Rattle.asm_placement.specs.Copies.{Copy, home, units, all_copies, entry_at_home, is_on, is_marked, has_source, wants_fill, wants_shift, is_doubled, is_whole_copy, has_full_redundancy}
+use Rattle.asm_placement.specs.Rebalancing.{done, lacks_space, lost_extent, next, IsBalanced}
 use Rattle.asm_placement.specs.Work.{is_absent}
 
 -- Nothing is left to do: of all copies of files, by a status record and directories.
@@ -46,7 +46,7 @@ pub record IsOutOfSpace (s : Shape) (r : Status) (items : List Item) (f i : ℕ)
   pub others : (x : Copy) → IsAmong (all_copies items) x → (wants_fill r.entries x || wants_shift r.entries x) ≡ true → HasNoPlace s r.entries items x
 
 abbrev pub NoSpaceMeans : Type 0
-NoSpaceMeans = (s : Shape) (r : Status) (items : List Item) (f i : ℕ) → next s r items ≡ no_space f i → IsOutOfSpace s r items f i
+NoSpaceMeans = (s : Shape) (r : Status) (items : List Item) (f i : ℕ) → next s r items ≡ lacks_space f i → IsOutOfSpace s r items f i
 
 -- The extent has a copy, and none that is usable.
 pub record IsLost (r : Status) (items : List Item) (f i : ℕ) : Type 0 where
@@ -57,10 +57,10 @@ pub record IsLost (r : Status) (items : List Item) (f i : ℕ) : Type 0 where
   pub unusable : has_source r.entries items (all_copies items) copy ≡ false
 
 abbrev pub LostMeans : Type 0
-LostMeans = (s : Shape) (r : Status) (items : List Item) (f i : ℕ) → next s r items ≡ lost f i → IsLost r items f i
+LostMeans = (s : Shape) (r : Status) (items : List Item) (f i : ℕ) → next s r items ≡ lost_extent f i → IsLost r items f i
 
 -- While an extent is full, losing fewer failure groups than it has copies leaves it a current copy on an Online disk of another.
 abbrev pub FullBears : Type 0
 FullBears =
-    (es : List Entry) (items : List Item) (extent : List Copy) (groups : List ℕ) → is_full es items extent ≡ true → length groups < length extent
+    (es : List Entry) (items : List Item) (extent : List Copy) (groups : List ℕ) → has_full_redundancy es items extent ≡ true → length groups < length extent
     → (x : Copy) × IsAmong extent x × (is_whole_copy es items x ≡ true) × ((e : Entry) → entry_at_home es (home x) ≡ Some e → is_among groups e.failgroup ≡ false)

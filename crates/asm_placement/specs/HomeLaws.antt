@@ -15,8 +15,8 @@ abbrev pub all_differ : List ℕ → Bool
 all_differ [] = true
 all_differ (n ∷ ns) = not (is_among ns n) && all_differ ns
 
-abbrev pub failgroups : List Entry → List ℕ
-failgroups es = map (λ (e : Entry). e.failgroup) es
+abbrev pub failgroup_numbers : List Entry → List ℕ
+failgroup_numbers es = map (λ (e : Entry). e.failgroup) es
 
 -- so many homes, each on the lowest run of a disk of its own
 pub record AreHomes (s : Shape) (items : List Item) (es : List Entry) (copies n : ℕ) (homes : Homes) : Type 0 where
@@ -27,10 +27,10 @@ pub record AreHomes (s : Shape) (items : List Item) (es : List Entry) (copies n 
   pub there : (e : Entry) → IsAmong disks e → IsAmong es e
   pub targets : IsTrue (list_all is_target disks)
   pub room : IsTrue (list_all (has_room s items n) disks)
-  pub apart : IsTrue (all_differ (failgroups disks))
+  pub apart : IsTrue (all_differ (failgroup_numbers disks))
 
 -- what is chosen are such homes, where the entries have the partners of their table
-abbrev pub HomesAreApart : Type 0
-HomesAreApart =
+abbrev pub ChosenHomesAreApart : Type 0
+ChosenHomesAreApart =
     (s : Shape) (items : List Item) (es : List Entry) (copies n : ℕ) (homes : Homes) → IsTrue (ascends_from 0 (numbers es)) → HasPartners es → 0 < copies
     → homes_for s items es copies n ≡ Some homes → AreHomes s items es copies n homes

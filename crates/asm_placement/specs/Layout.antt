@@ -44,8 +44,8 @@ pub record LiesAt (stripe : Stripe) (au step o i q : ℕ) : Type 0 where
   pub byte : o ≡ file_byte stripe au step i q
 
 -- a file of so many bytes has extent i
-abbrev pub has_extent : Stripe → ℕ → ℕ → ℕ → ℕ → Bool
-has_extent stripe au step size i = nat_lt (start au step (first_of_set stripe i)) size
+abbrev pub has_extent_by_size : Stripe → ℕ → ℕ → ℕ → ℕ → Bool
+has_extent_by_size stripe au step size i = nat_lt (start au step (first_of_set stripe i)) size
 
 -- a unit size and a step that a group may have
 pub record IsLayout (au step : ℕ) : Type 0 where

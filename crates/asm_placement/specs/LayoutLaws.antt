@@ -1,7 +1,7 @@
 -- What holds of every layout.
 use Rattle.std.specs.Prelude.{◌≡◌, ℕ, ◌%◌, ◌<◌, ◌≤◌, ◌↔◌, IsTrue}
 use Rattle.asm_formats.specs.asm_group.declared.Stripe.{Stripe}
-use Rattle.asm_placement.specs.Layout.{start, extents_at_once, LiesAt, has_extent, IsLayout}
+use Rattle.asm_placement.specs.Layout.{start, extents_at_once, LiesAt, has_extent_by_size, IsLayout}
 
 -- a byte lies at one place only
 abbrev pub LayoutIsOneToOne : Type 0
@@ -20,5 +20,5 @@ LayoutFillsSets =
 -- the extents that a file has by its size are whole sets, and have room for its bytes
 abbrev pub ExtentsHoldTheFile : Type 0
 ExtentsHoldTheFile =
-    (stripe : Stripe) (au step size n : ℕ) → IsLayout au step → ((i : ℕ) → (i < n) ↔ IsTrue (has_extent stripe au step size i))
+    (stripe : Stripe) (au step size n : ℕ) → IsLayout au step → ((i : ℕ) → (i < n) ↔ IsTrue (has_extent_by_size stripe au step size i))
     → (n % extents_at_once stripe ≡ 0) × (size ≤ start au step n)

@@ -1,7 +1,7 @@
 -- Worked values of layouts.
 use Rattle.std.specs.Prelude.{◌≡◌, ◌*◌, true, false}
 use Rattle.asm_formats.specs.asm_group.declared.Stripe.TheVariants.{Coarse, Fine}
-use Rattle.asm_placement.specs.Layout.{units_of, start, LiesAt, has_extent}
+use Rattle.asm_placement.specs.Layout.{units_of, start, LiesAt, has_extent_by_size}
 
 -- extents of 1, 4 and 16 units, with a step of 20,000
 pub record UnitsRow : Type 0 where
@@ -24,9 +24,9 @@ pub record FineRow : Type 0 where
 -- 17 extents in 56 units hold 229,376 bytes and no more; a fine file of that size has whole sets
 pub record ExtentsRow : Type 0 where
   pub units : start 4096 8 17 ≡ 56 * 4096
-  pub last : has_extent Coarse 4096 8 229376 16 ≡ true
-  pub no_more : has_extent Coarse 4096 8 229376 17 ≡ false
-  pub last_of_longer : has_extent Coarse 4096 8 229888 17 ≡ true
-  pub no_more_of_longer : has_extent Coarse 4096 8 229888 18 ≡ false
-  pub last_of_fine : has_extent Fine 4096 8 229376 23 ≡ true
-  pub no_more_of_fine : has_extent Fine 4096 8 229376 24 ≡ false
+  pub last : has_extent_by_size Coarse 4096 8 229376 16 ≡ true
+  pub no_more : has_extent_by_size Coarse 4096 8 229376 17 ≡ false
+  pub last_of_longer : has_extent_by_size Coarse 4096 8 229888 17 ≡ true
+  pub no_more_of_longer : has_extent_by_size Coarse 4096 8 229888 18 ≡ false
+  pub last_of_fine : has_extent_by_size Fine 4096 8 229376 23 ≡ true
+  pub no_more_of_fine : has_extent_by_size Fine 4096 8 229376 24 ≡ false

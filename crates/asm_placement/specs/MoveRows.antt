@@ -12,7 +12,7 @@ use Rattle.asm_formats.specs.Items.{Item, file_item, chunk_item, Home, Homes}
 use Rattle.asm_placement.specs.Partners.{partners, are_partners, with_partners}
 use Rattle.asm_placement.specs.TableDisks.{table_set, directory_set}
 use Rattle.asm_placement.specs.Choices.{homes_for}
-use Rattle.asm_placement.specs.Rebalancing.{Move, Next, move, done, no_space, shift, directory, tables, next}
+use Rattle.asm_placement.specs.Rebalancing.{Move, Next, move, done, lacks_space, shift, directory, tables, next}
 use Rattle.asm_placement.specs.Moves.{record_after, items_after}
 
 -- a NORMAL group with units of 1 MB: 9 units are reserved
@@ -69,24 +69,24 @@ pub record PartnersRow : Type 0 where
 abbrev pub on : ℕ → ℕ → Option Home
 on d u = Some (record { disk = d; unit = u })
 
-abbrev pub both : ℕ → ℕ → ℕ → ℕ → Homes
-both d u e v = on d u ∷ on e v ∷ None ∷ []
+abbrev pub homes_on_two : ℕ → ℕ → ℕ → ℕ → Homes
+homes_on_two d u e v = on d u ∷ on e v ∷ None ∷ []
 
-abbrev pub file_of : ℕ → ℕ → List Homes → List Item
-file_of f copies homes = file_item f (record { copies = copies; stripe = Coarse; type_name = []; size = 0; incarnation = 1; system = 1; alias = 0 }) ∷ chunk_item f 0 homes ∷ []
+abbrev pub file_items : ℕ → ℕ → List Homes → List Item
+file_items f copies homes = file_item f (record { copies = copies; stripe = Coarse; type_name = []; size = 0; incarnation = 1; system = 1; alias = 0 }) ∷ chunk_item f 0 homes ∷ []
 
 -- extents of a first mirrored file lie on disks 0 and 1 and on disks 2 and 3 in turn
 pub record HomesRow : Type 0 where
-  pub first : homes_for usual (file_of 256 2 []) four 2 1 ≡ Some (on 0 9 ∷ on 1 9 ∷ [])
-  pub second : homes_for usual (file_of 256 2 (both 0 9 1 9 ∷ [])) four 2 1 ≡ Some (on 2 9 ∷ on 3 9 ∷ [])
-  pub third : homes_for usual (file_of 256 2 (both 0 9 1 9 ∷ both 2 9 3 9 ∷ [])) four 2 1 ≡ Some (on 0 10 ∷ on 1 10 ∷ [])
-  pub one_copy : homes_for usual (file_of 256 1 []) four 1 1 ≡ Some (on 0 9 ∷ [])
-  pub five_copies : homes_for usual (file_of 256 2 []) four 5 1 ≡ None
+  pub first : homes_for usual (file_items 256 2 []) four 2 1 ≡ Some (on 0 9 ∷ on 1 9 ∷ [])
+  pub second : homes_for usual (file_items 256 2 (homes_on_two 0 9 1 9 ∷ [])) four 2 1 ≡ Some (on 2 9 ∷ on 3 9 ∷ [])
+  pub third : homes_for usual (file_items 256 2 (homes_on_two 0 9 1 9 ∷ homes_on_two 2 9 3 9 ∷ [])) four 2 1 ≡ Some (on 0 10 ∷ on 1 10 ∷ [])
+  pub one_copy : homes_for usual (file_items 256 1 []) four 1 1 ≡ Some (on 0 9 ∷ [])
+  pub five_copies : homes_for usual (file_items 256 2 []) four 5 1 ≡ None
 
 -- so many extents from unit u on, on disks 0 and 1 and on disks 2 and 3 in turn
 abbrev pub alternating : ℕ → ℕ → List Homes
 alternating u zero = []
-alternating u (suc n) = both 0 u 1 u ∷ both 2 u 3 u ∷ alternating (u + 1) n
+alternating u (suc n) = homes_on_two 0 u 1 u ∷ homes_on_two 2 u 3 u ∷ alternating (u + 1) n
 
 abbrev pub status_with : List Entry → Status
 status_with entries = record { id = 1; epoch = 1; turn = 1; gone = false; births = 9; holders = 7; next_holders = 0; directories = 7; entries = entries }
@@ -99,41 +99,41 @@ pub record Ending : Type 0 where
   pub status : Status
   pub items : List Item
 
-abbrev pub one_more : Ending → Ending
-one_more e = record e { moves = e.moves + 1 }
+abbrev pub with_one_move_more : Ending → Ending
+with_one_move_more e = record e { moves = e.moves + 1 }
 
 abbrev pub rebalanced : ℕ → Shape → Status → List Item → Ending
 rebalanced zero s r items = record { moves = 0; end = next s r items; status = r; items = items }
 rebalanced (suc most) s r items = by (λ m. rebalanced most s (record_after m r) (items_after m items)) (next s r items)
   where
     by : (Move → Ending) → Next → Ending
-    by go (move m) = one_more (go m)
+    by go (move m) = with_one_move_more (go m)
     by go other = record { moves = 0; end = other; status = r; items = items }
 
-abbrev pub IsEnd : Ending → ℕ → Next → Type 0
-IsEnd e moves end = (e.moves ≡ moves) × (e.end ≡ end)
+abbrev pub IsEndAfter : Ending → ℕ → Next → Type 0
+IsEndAfter e moves end = (e.moves ≡ moves) × (e.end ≡ end)
 
 -- A file of four extents. Disk 3 is dropped: two copies go, to disks 0 and 1.
 pub record DropRow : Type 0 where
-  pub first : next usual (status_with (four_with 64 3 Dropping)) (file_of 256 2 (alternating 9 2)) ≡ move (shift 256 1 1 (record { disk = 0; unit = 11 }))
-  pub second : next usual (status_with (four_with 64 3 Dropping)) (file_of 256 2 (both 0 9 1 9 ∷ both 2 9 0 11 ∷ both 0 10 1 10 ∷ both 2 10 3 10 ∷ [])) ≡ move (shift 256 3 1 (record { disk = 1; unit = 11 }))
-  pub all : IsEnd (rebalanced 9 usual (status_with (four_with 64 3 Dropping)) (file_of 256 2 (alternating 9 2))) 2 done
+  pub first : next usual (status_with (four_with 64 3 Dropping)) (file_items 256 2 (alternating 9 2)) ≡ move (shift 256 1 1 (record { disk = 0; unit = 11 }))
+  pub second : next usual (status_with (four_with 64 3 Dropping)) (file_items 256 2 (homes_on_two 0 9 1 9 ∷ homes_on_two 2 9 0 11 ∷ homes_on_two 0 10 1 10 ∷ homes_on_two 2 10 3 10 ∷ [])) ≡ move (shift 256 3 1 (record { disk = 1; unit = 11 }))
+  pub all : IsEndAfter (rebalanced 9 usual (status_with (four_with 64 3 Dropping)) (file_items 256 2 (alternating 9 2))) 2 done
 
 -- Disk 3 is dropped, one copy goes, and the disk is kept after all: one copy goes back to balance the disks.
 abbrev pub UndropRow : Type 0
 UndropRow =
-    let begun = rebalanced 1 usual (status_with (four_with 64 3 Dropping)) (file_of 256 2 (alternating 9 2)) in
-    IsEnd (rebalanced 9 usual (status_with four) begun.items) 1 done
+    let begun = rebalanced 1 usual (status_with (four_with 64 3 Dropping)) (file_items 256 2 (alternating 9 2)) in
+    IsEndAfter (rebalanced 9 usual (status_with four) begun.items) 1 done
 
 -- A fifth disk comes, and takes one copy.
 abbrev pub AddRow : Type 0
-AddRow = IsEnd (rebalanced 9 usual (status_with (with_partners (singles 5))) (file_of 256 2 (alternating 9 2))) 1 done
+AddRow = IsEndAfter (rebalanced 9 usual (status_with (with_partners (singles 5))) (file_items 256 2 (alternating 9 2))) 1 done
 
 -- Disk 0 is dropped, with a table and a directory copy: disk 3 takes the directory copy, and the tables move to disks 1, 2 and 3.
 pub record TablesRow : Type 0 where
   pub directory_first : next usual (status_with (four_with 64 0 Dropping)) [] ≡ move (directory 3)
   pub then_tables : next usual (record (status_with (four_with 64 0 Dropping)) { directories = 15 }) [] ≡ move (tables 14)
-  pub all : IsEnd (rebalanced 9 usual (status_with (four_with 64 0 Dropping)) []) 2 done
+  pub all : IsEndAfter (rebalanced 9 usual (status_with (four_with 64 0 Dropping)) []) 2 done
   -- next holders that stand come first, whatever is due
   pub next_holders_first : next usual (record (status_with four) { next_holders = 14 }) [] ≡ move (tables 14)
   -- a group that began with two disks has one holder, until it has three disks
@@ -142,39 +142,39 @@ pub record TablesRow : Type 0 where
 -- Four disks with 16 user units, all but two of each used. Disk 3 is dropped: four copies go, and there is no space for extent 9.
 -- Once the second file is removed, three copies go, and two more to balance the disks.
 abbrev pub full_files : List Item
-full_files = file_of 256 2 (alternating 9 7) ++ file_of 257 2 (alternating 16 7)
+full_files = file_items 256 2 (alternating 9 7) ++ file_items 257 2 (alternating 16 7)
 
 pub record FullDisksRow : Type 0 where
-  pub stopped : IsEnd (rebalanced 20 usual (status_with (four_with 25 3 Dropping)) full_files) 4 (no_space 256 9)
-  pub ended : IsEnd (rebalanced 20 usual (status_with (four_with 25 3 Dropping)) (take 2 (rebalanced 20 usual (status_with (four_with 25 3 Dropping)) full_files).items)) 5 done
+  pub stopped : IsEndAfter (rebalanced 20 usual (status_with (four_with 25 3 Dropping)) full_files) 4 (lacks_space 256 9)
+  pub ended : IsEndAfter (rebalanced 20 usual (status_with (four_with 25 3 Dropping)) (take 2 (rebalanced 20 usual (status_with (four_with 25 3 Dropping)) full_files).items)) 5 done
 
 -- ---- a usual day: eight disks in four failure groups, disk 7 in a mode
 
 abbrev pub eight_with : Mode → List Entry
 eight_with mode = with_partners (map (λ d. disk_entry d (d / 2) false 64 (if d == 7 then mode else Online)) (range_with_len 0 8))
 
-abbrev pub three : Homes → Homes
-three homes = take 3 (homes ++ replicate 3 None)
+abbrev pub three_homes_of : Homes → Homes
+three_homes_of homes = take 3 (homes ++ replicate 3 None)
 
-abbrev pub with_extent : ℕ → Homes → List Item → List Item
-with_extent f homes [] = []
-with_extent f homes (chunk_item g c hs ∷ items) = if f == g then chunk_item g c (hs ++ (homes ∷ [])) ∷ items else chunk_item g c hs ∷ with_extent f homes items
-with_extent f homes (i ∷ items) = i ∷ with_extent f homes items
+abbrev pub items_with_extent : ℕ → Homes → List Item → List Item
+items_with_extent f homes [] = []
+items_with_extent f homes (chunk_item g c hs ∷ items) = if f == g then chunk_item g c (hs ++ (homes ∷ [])) ∷ items else chunk_item g c hs ∷ items_with_extent f homes items
+items_with_extent f homes (i ∷ items) = i ∷ items_with_extent f homes items
 
 -- so many extents of a file, each with the homes that are chosen for it
 abbrev pub extended : List Entry → ℕ → ℕ → ℕ → List Item → List Item
 extended entries f copies zero items = items
-extended entries f copies (suc n) items = extended entries f copies n (with_extent f (three (unwrap_or (homes_for usual items entries copies 1) [])) items)
+extended entries f copies (suc n) items = extended entries f copies n (items_with_extent f (three_homes_of (unwrap_or (homes_for usual items entries copies 1) [])) items)
 
-abbrev pub with_file : List Entry → ℕ → ℕ → ℕ → List Item → List Item
-with_file entries f copies n items = extended entries f copies n (items ++ file_of f copies [])
+abbrev pub items_with_file : List Entry → ℕ → ℕ → ℕ → List Item → List Item
+items_with_file entries f copies n items = extended entries f copies n (items ++ file_items f copies [])
 
 -- 20 extents, 8 of three copies, and twice 8
 abbrev pub usual_files : List Item
-usual_files = with_file (eight_with Online) 259 2 8 (with_file (eight_with Online) 258 2 8 (with_file (eight_with Online) 257 3 8 (with_file (eight_with Online) 256 2 20 [])))
+usual_files = items_with_file (eight_with Online) 259 2 8 (items_with_file (eight_with Online) 258 2 8 (items_with_file (eight_with Online) 257 3 8 (items_with_file (eight_with Online) 256 2 20 [])))
 
 -- Tables and directory copies are on disks 0, 2 and 4. Disk 7 is lost: twelve copies are filled elsewhere, and one is shifted to balance the disks.
 pub record UsualDayRow : Type 0 where
   pub holders : table_set Normal (eight_with Online) ≡ 21
   pub directories : directory_set Normal (eight_with Online) ≡ 21
-  pub all : IsEnd (rebalanced 20 usual (record (status_with (eight_with Forced)) { holders = 21; directories = 21 }) usual_files) 13 done
+  pub all : IsEndAfter (rebalanced 20 usual (record (status_with (eight_with Forced)) { holders = 21; directories = 21 }) usual_files) 13 done

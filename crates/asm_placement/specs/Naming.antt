@@ -4,8 +4,8 @@ use Rattle.asm_formats.specs.asm_group.declared.NodeKind.{NodeKind}
 use Rattle.asm_formats.specs.asm_group.declared.NodeKind.TheVariants.{Directory, System, Alias}
 use Rattle.asm_formats.specs.Items.{DiskInfo, FileHead, Node, Pending, is_directory_kind}
 
-abbrev pub is_directory : NodeKind → Bool
-is_directory kind = is_directory_kind kind
+abbrev pub is_kind_directory : NodeKind → Bool
+is_kind_directory kind = is_directory_kind kind
 
 abbrev pub kind_eq : NodeKind → NodeKind → Bool
 kind_eq Directory Directory = true

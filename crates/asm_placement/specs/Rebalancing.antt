@@ -25,20 +25,20 @@ pub data Move : Type 0 where
 pub data Next : Type 0 where
   move : Move → Next
   done : Next
-  no_space : (f i : ℕ) → Next
-  lost : (f i : ℕ) → Next
+  lacks_space : (f i : ℕ) → Next
+  lost_extent : (f i : ℕ) → Next
 
 -- what the first copy that says something says
 abbrev pub first_of : {A : Type 0} → (Copy → Option A) → List Copy → Option A
 first_of says [] = None
 first_of says (x ∷ xs) = option_or (says x) (first_of says xs)
 
-abbrev pub when : {A : Type 0} → Bool → Option A → Option A
-when b o = if b then o else None
+abbrev pub option_when : {A : Type 0} → Bool → Option A → Option A
+option_when b o = if b then o else None
 
 -- 1. a marked copy on an Online disk, with a usable copy elsewhere
 abbrev pub next_recopy : List Entry → List Item → List Copy → Option Next
-next_recopy es items all = first_of (λ x. when (is_marked items x && is_on is_online es x && has_other_source es items all x) (Some (move (recopy x.file x.index x.copy)))) all
+next_recopy es items all = first_of (λ x. option_when (is_marked items x && is_on is_online es x && has_other_source es items all x) (Some (move (recopy x.file x.index x.copy)))) all
 
 -- a new home for the copy
 abbrev pub new_home : Shape → List Entry → List Item → Copy → Option Home
@@ -46,11 +46,11 @@ new_home s es items x = replacement s es items (units s x) x.copy x.homes
 
 -- 2. an absent copy or one on a Forced disk, with a usable copy and a disk that can take it
 abbrev pub next_fill : Shape → List Entry → List Item → List Copy → Option Next
-next_fill s es items all = first_of (λ x. when (wants_fill es x && has_source es items all x) (option_map (λ h. move (fill x.file x.index x.copy h)) (new_home s es items x))) all
+next_fill s es items all = first_of (λ x. option_when (wants_fill es x && has_source es items all x) (option_map (λ h. move (fill x.file x.index x.copy h)) (new_home s es items x))) all
 
 -- 3. in the same way, a copy on a Dropping disk or a doubled copy
 abbrev pub next_shift : Shape → List Entry → List Item → List Copy → Option Next
-next_shift s es items all = first_of (λ x. when (wants_shift es x && has_source es items all x) (option_map (λ h. move (shift x.file x.index x.copy h)) (new_home s es items x))) all
+next_shift s es items all = first_of (λ x. option_when (wants_shift es x && has_source es items all x) (option_map (λ h. move (shift x.file x.index x.copy h)) (new_home s es items x))) all
 
 -- 4. a directory copy
 abbrev pub next_directory : Shape → Status → Option Next
@@ -62,17 +62,17 @@ next_tables s r = option_map (λ to. move (tables to)) (status_target s.kind r)
 
 -- 6. an extent without a usable copy
 abbrev pub next_lost : List Entry → List Item → List Copy → Option Next
-next_lost es items all = first_of (λ x. when (not (has_source es items all x)) (Some (lost x.file x.index))) all
+next_lost es items all = first_of (λ x. option_when (not (has_source es items all x)) (Some (lost_extent x.file x.index))) all
 
 -- 7. an extent whose copy no disk can take
 abbrev pub next_no_space : Shape → List Entry → List Item → List Copy → Option Next
-next_no_space s es items all = first_of (λ x. when ((wants_fill es x || wants_shift es x) && is_none (new_home s es items x)) (Some (no_space x.file x.index))) all
+next_no_space s es items all = first_of (λ x. option_when ((wants_fill es x || wants_shift es x) && is_none (new_home s es items x)) (Some (lacks_space x.file x.index))) all
 
 -- the home to which a copy shifts to balance the disks: from a disk above its share to one below
 abbrev pub above_or_none : Shape → List Entry → List Item → Copy → Option Entry → Option Home
 above_or_none s es items x None = None
 above_or_none s es items x (Some e) =
-    when (is_above s items es (units s x) e) (replacement_on (is_below s items es (units s x)) s es items (units s x) x.copy x.homes)
+    option_when (is_above s items es (units s x) e) (replacement_on (is_below s items es (units s x)) s es items (units s x) x.copy x.homes)
 
 unfoldable pub balancing : Shape → List Entry → List Item → Copy → Option Home
 balancing s es items x = above_or_none s es items x (entry_at_home es (home x))

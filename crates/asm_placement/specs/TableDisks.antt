@@ -7,7 +7,7 @@ use Rattle.asm_formats.specs.asm_group.declared.GroupKind.TheVariants.{External,
 use Rattle.asm_formats.specs.Sets.{has_bit, elements}
 use Rattle.asm_formats.specs.Status.{Status, Entry, entry_of}
 use Rattle.asm_placement.specs.Modes.{is_online, leaves, stays, is_target, mode_is}
-use Rattle.asm_placement.specs.DiskSets.{is_among, set_of, numbers, groups_of, by_group}
+use Rattle.asm_placement.specs.DiskSets.{is_among, set_of, numbers, distinct_failgroups, by_group}
 
 -- ---- status tables
 
@@ -34,8 +34,8 @@ table_set kind es = set_of (numbers (take (table_count kind (length es)) (rounds
 abbrev pub due_set : GroupKind → List Entry → ℕ
 due_set kind es = table_set kind (filter (λ (e : Entry). is_online e.mode) es)
 
-abbrev pub size_of : ℕ → ℕ
-size_of set = length (elements set)
+abbrev pub size_of_set : ℕ → ℕ
+size_of_set set = length (elements set)
 
 -- a disk of the set leaves the group
 abbrev pub has_leaving : List Entry → ℕ → Bool
@@ -45,7 +45,7 @@ has_leaving es set = list_any (λ d. mode_is leaves (entry_of es d)) (elements s
 unfoldable pub is_status_move_due : GroupKind → Status → Bool
 is_status_move_due kind r =
     let due = due_set kind r.entries in
-    (has_leaving r.entries r.holders || nat_lt (size_of r.holders) (size_of due)) && nat_lt 0 (size_of due)
+    (has_leaving r.entries r.holders || nat_lt (size_of_set r.holders) (size_of_set due)) && nat_lt 0 (size_of_set due)
 
 -- to where the tables move: to the next holders where there are some, else to the due set where a move is due
 abbrev pub status_target : GroupKind → Status → Option ℕ
@@ -69,7 +69,7 @@ targets es = filter is_target es
 
 -- how many directory copies are due: at most one for each failure group with a disk that may take one
 abbrev pub copies_due : GroupKind → List Entry → ℕ
-copies_due kind es = min (copy_count kind) (length (groups_of (targets es)))
+copies_due kind es = min (copy_count kind) (length (distinct_failgroups (targets es)))
 
 -- the disks of a set that stay
 abbrev pub staying : List Entry → ℕ → List Entry
@@ -77,7 +77,7 @@ staying es set = filter (λ (e : Entry). stays e.mode && has_bit set e.number) e
 
 -- failure groups that have a directory copy on a disk that stays
 abbrev pub groups_with_copy : Status → List ℕ
-groups_with_copy r = groups_of (staying r.entries r.directories)
+groups_with_copy r = distinct_failgroups (staying r.entries r.directories)
 
 -- the least disk that takes a further directory copy, where one is due
 unfoldable pub directory_target : GroupKind → Status → Option ℕ

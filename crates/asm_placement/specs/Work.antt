@@ -4,7 +4,7 @@ use Rattle.std.specs.List.{list_all}
 use Rattle.std.specs.Option.{is_none}
 use Rattle.asm_formats.specs.asm_group.Shape.{Shape}
 use Rattle.asm_formats.specs.Status.{Status, Entry, is_status}
-use Rattle.asm_formats.specs.Items.{Item, is_item, key, is_same_key}
+use Rattle.asm_formats.specs.Items.{Item, is_item, item_key, is_same_key}
 use Rattle.asm_placement.specs.Modes.{is_online, leaves}
 use Rattle.asm_placement.specs.TableDisks.{targets, copies_due, groups_with_copy, is_status_move_due}
 use Rattle.asm_placement.specs.Space.{used_units, share, total}
@@ -63,7 +63,7 @@ IsLess a b = (a.to_do < b.to_do) ⊎ ((a.to_do ≡ b.to_do) × ((a.elsewhere < b
 -- no two items have one key
 abbrev pub keys_differ : List Item → Bool
 keys_differ [] = true
-keys_differ (i ∷ items) = list_all (λ j. not (is_same_key (key i) (key j))) items && keys_differ items
+keys_differ (i ∷ items) = list_all (λ j. not (is_same_key (item_key i) (item_key j))) items && keys_differ items
 
 -- the disk, where it has an entry, is regular
 abbrev pub is_regular : Option Entry → Bool
@@ -71,7 +71,7 @@ is_regular None = true
 is_regular (Some e) = not e.quorum
 
 -- A status record and the items of a directory content, no copy of which lies on a quorum disk.
-pub record AreRecords (r : Status) (items : List Item) : Type 0 where
+pub record AreGroupRecords (r : Status) (items : List Item) : Type 0 where
   pub status : IsTrue (is_status r)
   pub allowed : IsTrue (list_all is_item items)
   pub keys : IsTrue (keys_differ items)
@@ -80,5 +80,5 @@ pub record AreRecords (r : Status) (items : List Item) : Type 0 where
 -- each move lowers the work
 abbrev pub WorkFalls : Type 0
 WorkFalls =
-    (s : Shape) (r : Status) (items : List Item) (m : Move) → AreRecords r items → next s r items ≡ move m
+    (s : Shape) (r : Status) (items : List Item) (m : Move) → AreGroupRecords r items → next s r items ≡ move m
     → IsLess (work s (record_after m r) (items_after m items)) (work s r items)

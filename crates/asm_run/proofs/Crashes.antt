@@ -12,7 +12,7 @@ use Rattle.asm_world.proofs.Histories.{split, end_append, moments, mounted_are_t
 use Rattle.asm_world.specs.Below.{Found}
 use Rattle.asm_world.specs.Between.{groups_between}
 use Rattle.asm_world.specs.Reply.{Reply}
-use Rattle.asm_world.specs.Run.{State, Entry, Move, Answers, IsMove, IsRun, IsHeldNow, end_of}
+use Rattle.asm_world.specs.Run.{State, PrintedMove, SessionMove, Answers, IsMove, IsRun, IsHeldNow, end_of}
 use Rattle.asm_world.specs.RunLaws.{Grows, IsQuiet}
 use Rattle.asm_world.specs.World.{World, SessionEntry, groups_of, has_mounted}
 use Rattle.serving.specs.group_mount.Mounting.{Allows}
@@ -55,21 +55,21 @@ starts-stands n known bay w sound none s = record {
 }
 
 -- the moves from a reply on, up to the next command, and its answer
-to_next : (paths : List Bytes) (leaves : ℕ → Image → Type 0) (first : State Counts) (before quiet others : List (Entry Counts)) (answer : Entry Counts) (found : Found) (text : Bytes) (reply : Reply)
+to_next : (paths : List Bytes) (leaves : ℕ → Image → Type 0) (first : State Counts) (before quiet others : List (PrintedMove Counts)) (answer : PrintedMove Counts) (found : Found) (text : Bytes) (reply : Reply)
     → IsRun (held_outside paths leaves) first (before ++ (quiet ++ answer ∷ others)) → IsQuiet quiet → answer.move ≡ Answers found text reply
     → (m : ℕ) (image : Image) (id : ℕ) → (end_of first before).calls ≤ m → m < answer.after.calls → leaves m image
     → Allows id (groups_between (end_of (end_of first before) quiet).world (meaning text) answer.after.world id) image
 to_next paths leaves first before quiet others answer found text reply run q is m image id from to left =
     let later = (split (held_outside paths leaves) first before (quiet ++ answer ∷ others) run).1 in
     let parts = split (held_outside paths leaves) (end_of first before) quiet (answer ∷ others) later in
-    let P : Move → Type 0 = λ move. IsMove (held_outside paths leaves) (end_of (end_of first before) quiet) move answer.after in
+    let P : SessionMove → Type 0 = λ move. IsMove (held_outside paths leaves) (end_of (end_of first before) quiet) move answer.after in
     between (held_outside paths leaves) (end_of first before) answer.after quiet found text reply (allows-more paths leaves) parts.0 q (subst P is parts.1.0) m image id from to left
 
 same-groups : (v w : World) (id : ℕ) → v.groups ≡ w.groups → groups_of v id ≡ groups_of w id
 same-groups v w id e = rw e refl
 
 -- the moves behind the last command, to the moment that lasts
-to_end : (paths : List Bytes) (leaves : ℕ → Image → Type 0) (first : State Counts) (before quiet : List (Entry Counts))
+to_end : (paths : List Bytes) (leaves : ℕ → Image → Type 0) (first : State Counts) (before quiet : List (PrintedMove Counts))
     → IsRun (held_outside paths leaves) first (before ++ quiet) → IsQuiet quiet → IsHeldNow (held_outside paths leaves) (end_of first (before ++ quiet))
     → (m : ℕ) (image : Image) (id : ℕ) → (end_of first before).calls ≤ m → m ≤ (end_of first (before ++ quiet)).calls → leaves m image
     → Allows id (groups_of (end_of first before).world id) image
@@ -89,29 +89,29 @@ to_end paths leaves first before quiet run q now m image id from to left =
           (subst R reaches now image id (subst L same left))
     ]
 
-are-held : (paths : List Bytes) (leaves : ℕ → Image → Type 0) (first : State Counts) (history : List (Entry Counts)) → IsRun (held_outside paths leaves) first history
+are-held : (paths : List Bytes) (leaves : ℕ → Image → Type 0) (first : State Counts) (history : List (PrintedMove Counts)) → IsRun (held_outside paths leaves) first history
     → AreHeld paths leaves first history
 are-held paths leaves first history run =
-    let R : List (Entry Counts) → Type 0 = λ es. IsRun (held_outside paths leaves) first es in
+    let R : List (PrintedMove Counts) → Type 0 = λ es. IsRun (held_outside paths leaves) first es in
     record {
       to_next = λ before quiet others answer found text reply cut q is m image id from to left.
           to_next paths leaves first before quiet others answer found text reply (subst R cut run) q is m image id from to left;
       moments = λ before rest cut m image from to left.
-          let T : List (Entry Counts) → Type 0 = λ es. m < (end_of first es).calls in
+          let T : List (PrintedMove Counts) → Type 0 = λ es. m < (end_of first es).calls in
           moments (held_outside paths leaves) first before rest m image (subst R cut run) from (subst T cut to) left;
       there = λ before rest e cut m image id from to left was is.
           mounted_are_there (held_outside paths leaves) first before rest e m image (subst R cut run) from to left id was is;
     }
 
-pub held-before : (paths : List Bytes) (new : BayState) (first : State Counts) (history : List (Entry Counts)) (known : ℕ → Bool) (roster : Roster) (w : World)
-    → Holding known paths first history roster new w → (before rest : List (Entry Counts)) → history ≡ before ++ rest → AllFrom (IsProvedApartIn known) first before
+pub held-before : (paths : List Bytes) (new : BayState) (first : State Counts) (history : List (PrintedMove Counts)) (known : ℕ → Bool) (roster : Roster) (w : World)
+    → Holding known paths first history roster new w → (before rest : List (PrintedMove Counts)) → history ≡ before ++ rest → AllFrom (IsProvedApartIn known) first before
     → AreHeld paths new.leaves first before
 held-before paths new first history known roster w h before rest cut all =
-    let R : List (Entry Counts) → Type 0 = λ es. IsRunFrom (held_outside paths new.leaves) (IsProvedApartIn known) first es in
+    let R : List (PrintedMove Counts) → Type 0 = λ es. IsRunFrom (held_outside paths new.leaves) (IsProvedApartIn known) first es in
     let front = (joins (held_outside paths new.leaves) (IsProvedApartIn known) first before rest).1 (subst R cut h.held) in
     are-held paths new.leaves first before ((is_run (held_outside paths new.leaves) (IsProvedApartIn known) first before all).0 front.0)
 
-pub crash-safe : (paths : List Bytes) (new : BayState) (first end : State Counts) (history : List (Entry Counts)) (known : ℕ → Bool) (roster : Roster)
+pub crash-safe : (paths : List Bytes) (new : BayState) (first end : State Counts) (history : List (PrintedMove Counts)) (known : ℕ → Bool) (roster : Roster)
     → end_of first history ≡ end → end.calls ≡ new.calls → AllFrom (IsProvedApartIn known) first history → Holding known paths first history roster new end.world → IsCrashSafe paths new.leaves first history
 crash-safe paths new first end history known roster ends calls all h =
     let run = (is_run (held_outside paths new.leaves) (IsProvedApartIn known) first history all).0 h.held in
@@ -121,12 +121,12 @@ crash-safe paths new first end history known roster ends calls all h =
     let L : ℕ → Type 0 = λ n. new.leaves n image in
     let G : State Counts → Type 0 = λ s. Allows id (groups_of s.world id) image in
     subst G (sym ends) (stands.allows image id (subst L calls (subst N ends left))) in
-    let R : List (Entry Counts) → Type 0 = λ es. IsRun (held_outside paths new.leaves) first es in
-    let H : List (Entry Counts) → Type 0 = λ es. IsHeldNow (held_outside paths new.leaves) (end_of first es) in
+    let R : List (PrintedMove Counts) → Type 0 = λ es. IsRun (held_outside paths new.leaves) first es in
+    let H : List (PrintedMove Counts) → Type 0 = λ es. IsHeldNow (held_outside paths new.leaves) (end_of first es) in
     record {
       held = are-held paths new.leaves first history run;
       to_end = λ before quiet cut q m image id from to left.
-          let T : List (Entry Counts) → Type 0 = λ es. m ≤ (end_of first es).calls in
+          let T : List (PrintedMove Counts) → Type 0 = λ es. m ≤ (end_of first es).calls in
           to_end paths new.leaves first before quiet (subst R cut run) q (subst H cut now) m image id from (subst T cut to) left;
       there_now = λ image id left is.
           let N : State Counts → Type 0 = λ s. new.leaves s.calls image in

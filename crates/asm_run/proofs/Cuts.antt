@@ -6,11 +6,11 @@ use Rattle.std.specs.Fmt.{decimal, digits, digit_glyph, digits_onto}
 use Rattle.std.specs.List.{list_any}
 use Rattle.std.specs.Prelude.{⊤, nat_lt}
 use Rattle.asm_group.specs.Names.{Bytes}
-use Rattle.asm_world.specs.Generator.{after_choices, create_file, create_group, create_image, fill, fills, from_zero, generated, generated_script, megabytes, next_choice, quoted, with_commas}
+use Rattle.asm_world.specs.Generator.{after_choices, create_file, create_group, create_image, fill_command, fills, from_zero, generated, generated_script, megabytes, next_choice, quoted, with_commas}
 use Rattle.asm_world.specs.Text.{ended, hex, hex_digit}
 use Rattle.script.specs.Script as script
 use Rattle.asm_grammar.specs.FirstWord.{opens_statement}
-use Rattle.script.specs.Script.{Place, between, line, statement, place_at, onto, onto_at, cut, commands_of}
+use Rattle.script.specs.Script.{ScriptPlace, between, line, in_statement, place_of_first_byte, onto, onto_at, cut, commands_of}
 use Rattle.script.specs.Scanning.{onto_all}
 use Rattle.script.proofs.Cutting.{on_test, quote-begins, quote-goes_on, statement-goes_on}
 
@@ -63,7 +63,7 @@ hex-lacks n = or-both _ _ (hex-not_feed (n / 16)) (or-both _ _ (hex-not_feed (n 
 abbrev IsCut : Bytes → Type 0
 IsCut text = (rest : List ℕ) → cut true between (text ++ 10 ∷ rest) ≡ text ∷ cut true between rest
 
-begins : (b : ℕ) (bs : List ℕ) (place : Place) → place_at (b ∷ bs) ≡ place → cut true between (b ∷ bs) ≡ onto_at place b (cut true place bs)
+begins : (b : ℕ) (bs : List ℕ) (place : ScriptPlace) → place_of_first_byte (b ∷ bs) ≡ place → cut true between (b ∷ bs) ≡ onto_at place b (cut true place bs)
 unfolding cut
 begins b bs place is = ap (λ p. onto_at p b (cut true p bs)) is
 
@@ -72,7 +72,7 @@ unfolding cut
 line-cut [] rest lacks = refl
 line-cut (b ∷ bs) rest lacks = rw (or-left (b == 10) _ lacks) (ap (onto b) (line-cut bs rest (or-right (b == 10) _ lacks)))
 
-verb-cut : (text : Bytes) → ((rest : List ℕ) → place_at (text ++ 10 ∷ rest) ≡ line) → Lacks 10 text → IsCut text
+verb-cut : (text : Bytes) → ((rest : List ℕ) → place_of_first_byte (text ++ 10 ∷ rest) ≡ line) → Lacks 10 text → IsCut text
 verb-cut [] at lacks rest = absurd (let e : between ≡ line = at rest in cc)
 verb-cut (b ∷ bs) at lacks rest = begins b (bs ++ 10 ∷ rest) line (at rest) ∙ ap (onto b) (line-cut bs rest (or-right (b == 10) _ lacks))
 
@@ -80,7 +80,7 @@ verb-cut (b ∷ bs) at lacks rest = begins b (bs ++ 10 ∷ rest) line (at rest) 
 
 -- it stands in a statement, and ends outside of quotes
 abbrev IsFront : List ℕ → Type 0
-IsFront text = (rest : List ℕ) → cut true statement (text ++ rest) ≡ onto_all text (cut true statement rest)
+IsFront text = (rest : List ℕ) → cut true in_statement (text ++ rest) ≡ onto_all text (cut true in_statement rest)
 
 onto-append : (s t : List ℕ) (commands : List Bytes) → onto_all (s ++ t) commands ≡ onto_all s (onto_all t commands)
 unfolding onto_all
@@ -97,7 +97,7 @@ unfolding onto_all
 front-none rest = refl
 
 front-append : (s t : List ℕ) → IsFront s → IsFront t → IsFront (s ++ t)
-front-append s t p q rest = ap (cut true statement) (append_assoc s t rest) ∙ p (t ++ rest) ∙ ap (onto_all s) (q rest) ∙ sym (onto-append s t (cut true statement rest))
+front-append s t p q rest = ap (cut true in_statement) (append_assoc s t rest) ∙ p (t ++ rest) ∙ ap (onto_all s) (q rest) ∙ sym (onto-append s t (cut true in_statement rest))
 
 front-plain : (text : List ℕ) → Lacks 39 text → Lacks 59 text → IsFront text
 unfolding onto_all
@@ -105,7 +105,7 @@ front-plain [] quote mark rest = refl
 front-plain (b ∷ bs) quote mark rest =
     statement-goes_on b bs (or-left (b == 39) _ quote) (or-left (b == 59) _ mark) true rest ∙ ap (onto b) (front-plain bs (or-right (b == 39) _ quote) (or-right (b == 59) _ mark) rest)
 
-inside : (text rest : List ℕ) → Lacks 39 text → cut true script.quoted (text ++ 39 ∷ rest) ≡ onto_all text (onto 39 (cut true statement rest))
+inside : (text rest : List ℕ) → Lacks 39 text → cut true script.in_quotes (text ++ 39 ∷ rest) ≡ onto_all text (onto 39 (cut true in_statement rest))
 unfolding cut onto_all
 inside [] rest lacks = refl
 inside (b ∷ bs) rest lacks = quote-goes_on b bs (or-left (b == 39) _ lacks) true (39 ∷ rest) ∙ ap (onto b) (inside bs rest (or-right (b == 39) _ lacks))
@@ -114,9 +114,9 @@ front-quoted : (path : Bytes) → Lacks 39 path → IsFront (quoted path)
 unfolding onto_all
 front-quoted path lacks rest =
     quote-begins (path ++ 39 ∷ []) true rest
-    ∙ ap (onto 39) (ap (cut true script.quoted) (append_assoc path (39 ∷ []) rest) ∙ inside path rest lacks ∙ sym (onto-append path (39 ∷ []) (cut true statement rest)))
+    ∙ ap (onto 39) (ap (cut true script.in_quotes) (append_assoc path (39 ∷ []) rest) ∙ inside path rest lacks ∙ sym (onto-append path (39 ∷ []) (cut true in_statement rest)))
 
-ends : (text rest : List ℕ) → IsFront text → cut true statement (text ++ 59 ∷ rest) ≡ (text ++ 59 ∷ []) ∷ cut true between rest
+ends : (text rest : List ℕ) → IsFront text → cut true in_statement (text ++ 59 ∷ rest) ≡ (text ++ 59 ∷ []) ∷ cut true between rest
 unfolding cut
 ends text rest front = front (59 ∷ rest) ∙ onto-first text (59 ∷ []) (cut true between rest)
 
@@ -124,10 +124,10 @@ feed-skips : (rest : List ℕ) → cut true between (10 ∷ rest) ≡ cut true b
 unfolding cut
 feed-skips rest = refl
 
-statement-cut : (b : ℕ) (bs : List ℕ) → IsFront bs → ((rest : List ℕ) → place_at (b ∷ (bs ++ 59 ∷ []) ++ rest) ≡ statement) → IsCut (b ∷ (bs ++ 59 ∷ []))
+statement-cut : (b : ℕ) (bs : List ℕ) → IsFront bs → ((rest : List ℕ) → place_of_first_byte (b ∷ (bs ++ 59 ∷ []) ++ rest) ≡ in_statement) → IsCut (b ∷ (bs ++ 59 ∷ []))
 statement-cut b bs front at rest =
-    begins b ((bs ++ 59 ∷ []) ++ 10 ∷ rest) statement (at (10 ∷ rest))
-    ∙ ap (onto b) (ap (cut true statement) (append_assoc bs (59 ∷ []) (10 ∷ rest)) ∙ ends bs (10 ∷ rest) front ∙ ap (λ commands. (bs ++ 59 ∷ []) ∷ commands) (feed-skips rest))
+    begins b ((bs ++ 59 ∷ []) ++ 10 ∷ rest) in_statement (at (10 ∷ rest))
+    ∙ ap (onto b) (ap (cut true in_statement) (append_assoc bs (59 ∷ []) (10 ∷ rest)) ∙ ends bs (10 ∷ rest) front ∙ ap (λ commands. (bs ++ 59 ∷ []) ∷ commands) (feed-skips rest))
 
 -- ---- the commands
 
@@ -177,7 +177,7 @@ filling-cut k at byte = verb-cut (filling k at byte) (λ rest. refl)
     (lacks-append 10 (codes "dbfill +DATA/gen/DATAFILE/f" ++ decimal k) (codes ".")
     (lacks-append 10 (codes "dbfill +DATA/gen/DATAFILE/f") (decimal k) refl (decimal-lacks k)) refl) (decimal-lacks (256 + k))) refl) (decimal-lacks (k + 1))) refl) (decimal-lacks at)) refl) (hex-lacks byte))
 
-fill-cut : (x : ℕ) → IsCut (fill x)
+fill-cut : (x : ℕ) → IsCut (fill_command x)
 unfolding filling
 fill-cut x = filling-cut (x / 8589934592 % 16) (x / 8192 % (megabytes (x / 8589934592 % 16) * 2048) * 512) (x / 1125899906842624 % 256)
 
@@ -227,7 +227,7 @@ files-cut (k ∷ ks) = cut-first (create_file k) (map create_file ks) (file-cut 
 
 fills-cut : (n x : ℕ) → AllCut (fills n x)
 fills-cut zero x = cut-none
-fills-cut (suc n) x = cut-first (fill x) (fills n (next_choice x)) (fill-cut x) (fills-cut n (next_choice x))
+fills-cut (suc n) x = cut-first (fill_command x) (fills n (next_choice x)) (fill-cut x) (fills-cut n (next_choice x))
 
 parts-cut : (images files early late : List Bytes) (group drop list : Bytes) → AllCut images → AllCut files → AllCut early → AllCut late → IsCut group → IsCut drop → IsCut list
     → AllCut (images ++ group ∷ files ++ early ++ drop ∷ late ++ list ∷ [])

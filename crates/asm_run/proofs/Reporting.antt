@@ -6,7 +6,7 @@ use Rattle.bay.proofs.Known.{Appends-none}
 use Rattle.bay.specs.State.{BayState, IsSound}
 use Rattle.asm_group.specs.Names.{Bytes}
 use Rattle.asm_world.specs.Generator.{generated, generated_script}
-use Rattle.asm_world.specs.Run.{State, Phase, Resting, Entry, IsGenerated, IsPrinted, IsPrintedToCut, answered, marks_of, has_refusal}
+use Rattle.asm_world.specs.Run.{State, Phase, Resting, PrintedMove, IsGenerated, IsPrinted, IsPrintedToCut, answered, marks_in_history, has_refusal}
 use Rattle.asm_world.proofs.Histories.{marks_rise_by}
 use Rattle.asm_world.specs.RunLaws.{RisesFrom}
 use Rattle.asm_world.specs.World.{World}
@@ -21,7 +21,7 @@ use Rattle.serving.specs.Acts.{scene}
 use Rattle.serving.specs.Manners.{AreTold}
 use Rattle.serving.specs.session.Quiet.{quiet}
 use Rattle.serving.specs.session.Sessions.{Roster, SessionView, roster, roster_of}
-use Rattle.serving.specs.Serves.{limit, IsFront, AreCommandsAnswered, Serves, is_whole}
+use Rattle.serving.specs.Serves.{limit, AreFirstCommands, AreCommandsAnswered, Serves, is_printed_whole}
 use Rattle.asm_run.specs.Headline.{first_state, status_number, GeneratedRun, RunOutcome, Transcript}
 use Rattle.asm_run.proofs.Counting.{count-generated}
 use Rattle.asm_run.proofs.Cuts.{commands-are}
@@ -30,11 +30,11 @@ use Rattle.asm_run.proofs.Crashes.{starts-stands, held-before, crash-safe}
 use Rattle.asm_run.proofs.Manners.{all-generated}
 use Rattle.asm_world.specs.Below.{GroupBelow}
 
-cut-from_printed : (h : List (Entry Counts)) → IsPrinted h → IsPrintedToCut h
+cut-from_printed : (h : List (PrintedMove Counts)) → IsPrinted h → IsPrintedToCut h
 cut-from_printed [] p = tt
 cut-from_printed (e ∷ h) p = inl (p.0, cut-from_printed h p.1)
 
-either-cut : (whole : Bool) (h : List (Entry Counts)) → MatchBool whole (IsPrinted h) (IsPrintedToCut h) → IsPrintedToCut h
+either-cut : (whole : Bool) (h : List (PrintedMove Counts)) → MatchBool whole (IsPrinted h) (IsPrintedToCut h) → IsPrintedToCut h
 either-cut true h p = cut-from_printed h p
 either-cut false h p = p
 
@@ -45,13 +45,13 @@ consumes-none (Some bytes) = refl
 -- ---- statuses
 
 front-at : (script script' : List ℕ) (commands commands' : List Bytes) (left : Option Bytes) → script ≡ script' → commands ≡ commands' →
-    IsFront script commands left → IsFront script' commands' left
+    AreFirstCommands script commands left → AreFirstCommands script' commands' left
 front-at script script' commands commands' left e f front =
-    let P : List ℕ → Type 0 = λ xs. IsFront xs commands left in
-    let Q : List (List ℕ) → Type 0 = λ cs. IsFront script' cs left in
+    let P : List ℕ → Type 0 = λ xs. AreFirstCommands xs commands left in
+    let Q : List (List ℕ) → Type 0 = λ cs. AreFirstCommands script' cs left in
     subst Q f (subst P e front)
 
-outcome-ok : (status : ℕ) (script : List ℕ) (history : List (Entry Counts)) (left : Option Bytes) (end : State Counts) → status ≤ 1 →
+outcome-ok : (status : ℕ) (script : List ℕ) (history : List (PrintedMove Counts)) (left : Option Bytes) (end : State Counts) → status ≤ 1 →
     length script ≤ limit → IsAtEnd left → answered history ≡ commands_of script → IsPrinted history → end.phase ≡ Resting →
     (status ≡ 0 → has_refusal history ≡ false) → (status ≡ 1 → has_refusal history ≡ true) → RunOutcome status script history left end
 outcome-ok status script history left end low short at_end all printed rest none some =
@@ -72,7 +72,7 @@ outcome-ok status script history left end low short at_end all printed rest none
       rests = λ _ _. rest;
     }
 
-outcome-fault : (script : List ℕ) (history : List (Entry Counts)) (left : Option Bytes) (end : State Counts) →
+outcome-fault : (script : List ℕ) (history : List (PrintedMove Counts)) (left : Option Bytes) (end : State Counts) →
     length script ≤ limit → answered history ≡ ended_commands script → IsPrinted history → end.phase ≡ Resting → RunOutcome 3 script history left end
 outcome-fault script history left end short all printed rest = record {
   usage = λ e. absurd (omega (arith, e));
@@ -90,7 +90,7 @@ outcome-fault script history left end short all printed rest = record {
   rests = λ _ _. rest;
 }
 
-outcome-long : (script : List ℕ) (history : List (Entry Counts)) (left : Option Bytes) (end : State Counts) →
+outcome-long : (script : List ℕ) (history : List (PrintedMove Counts)) (left : Option Bytes) (end : State Counts) →
     length script ≡ limit + 1 → answered history ≡ ended_commands (take limit script) → IsPrinted history → end.phase ≡ Resting → RunOutcome 6 script history left end
 outcome-long script history left end long all printed rest = record {
   usage = λ e. absurd (omega (arith, e));
@@ -108,8 +108,8 @@ outcome-long script history left end long all printed rest = record {
   rests = λ _ _. rest;
 }
 
-pub outcome-cut : (status : ℕ) (script : List ℕ) (history : List (Entry Counts)) (left : Option Bytes) (end : State Counts) → (status ≡ 4) ⊎ (status ≡ 5) →
-    length script ≤ limit → IsFront script (answered history) left → RunOutcome status script history left end
+pub outcome-cut : (status : ℕ) (script : List ℕ) (history : List (PrintedMove Counts)) (left : Option Bytes) (end : State Counts) → (status ≡ 4) ⊎ (status ≡ 5) →
+    length script ≤ limit → AreFirstCommands script (answered history) left → RunOutcome status script history left end
 outcome-cut status script history left end is short front =
     let big : 4 ≤ status = elim is [ inl e ↦ omega (arith, e) | inr e ↦ omega (arith, e) ] in
     let small : status ≤ 5 = elim is [ inl e ↦ omega (arith, e) | inr e ↦ omega (arith, e) ] in
@@ -129,9 +129,9 @@ outcome-cut status script history left end is short front =
       rests = λ f g. absurd (elim is [ inl e ↦ f e | inr e ↦ g e ]);
     }
 
-pub outcome-of : (served : Result (Unit {0}) Stop) (refused : Bool) (script : List ℕ) (commands : List Bytes) (history : List (Entry Counts)) (left : Option Bytes) (end : State Counts) →
-    AreCommandsAnswered served script commands left → answered history ≡ commands → MatchBool (is_whole served) (IsPrinted history) (IsPrintedToCut history) →
-    (is_whole served ≡ true → end.phase ≡ Resting) → refused ≡ has_refusal history → RunOutcome (status_number served refused) script history left end
+pub outcome-of : (served : Result (Unit {0}) Stop) (refused : Bool) (script : List ℕ) (commands : List Bytes) (history : List (PrintedMove Counts)) (left : Option Bytes) (end : State Counts) →
+    AreCommandsAnswered served script commands left → answered history ≡ commands → MatchBool (is_printed_whole served) (IsPrinted history) (IsPrintedToCut history) →
+    (is_printed_whole served ≡ true → end.phase ≡ Resting) → refused ≡ has_refusal history → RunOutcome (status_number served refused) script history left end
 outcome-of (Ok u) false script commands history left end a e printed rest refusal =
     outcome-ok 0 script history left end (omega arith) a.0 a.1 (e ∙ a.2) printed (rest refl) (λ _. sym refusal) (λ f. absurd (omega (arith, f)))
 outcome-of (Ok u) true script commands history left end a e printed rest refusal =
@@ -151,9 +151,9 @@ outcome-of (Err NoMemory) refused script commands history left end a e printed r
 pub first_roster : (session : SessionView) → session.groups ≡ [] → session.given ≡ 0 → roster_of session ≡ roster [] 0
 first_roster session none zero = ap (λ (groups : List MountedGroup). roster groups session.given) none ∙ ap (λ (given : ℕ). roster [] given) zero
 
-pub transcript-of : {C : Type 0} (gives : C → ℕ → C → Type 0) (paths : List Bytes) (Told : List (Entry Counts) → Type 0) (served : Result (Unit {0}) Stop) (status : ℕ) (marks : List ℕ) (left left' taken taken' : Option Bytes)
+pub transcript-of : {C : Type 0} (gives : C → ℕ → C → Type 0) (paths : List Bytes) (Told : List (PrintedMove Counts) → Type 0) (served : Result (Unit {0}) Stop) (status : ℕ) (marks : List ℕ) (left left' taken taken' : Option Bytes)
     (clock clock' : C) (old new : BayState) (before last : Roster) (time' : ℕ) (phase : Phase) (w w' : World) (below' : ℕ → GroupBelow) (marks' : List ℕ) (refused : Bool) (manner manner' : Manner) →
-    IsSound old → w.session ≡ [] → before ≡ roster [] 0 → status ≡ status_number served refused → marks ≡ marks' → (is_whole served ≡ true → phase ≡ Resting) → ((history : List (Entry Counts)) → AreTold manner history → Told history) →
+    IsSound old → w.session ≡ [] → before ≡ roster [] 0 → status ≡ status_number served refused → marks ≡ marks' → (is_printed_whole served ≡ true → phase ≡ Resting) → ((history : List (PrintedMove Counts)) → AreTold manner history → Told history) →
     Serves gives paths served left left' (scene w quiet Resting 0 before old taken clock [] false manner) (scene w' below' phase time' last new taken' clock' marks' refused manner') →
     Transcript gives paths Told status marks left left' taken taken' clock clock' old new w
 transcript-of gives paths Told served status marks left left' taken taken' clock clock' old new before last time' phase w w' below' marks' refused manner manner' sound none is_first is_status is_marks rest tells serves =
@@ -162,7 +162,7 @@ transcript-of gives paths Told served status marks left left' taken taken' clock
     let s = subst S is_first serves in
     let p = s.acts in
     let end : State Counts = record { world = w'; below = below'; phase = phase; time = time'; calls = new.calls; counts = counts_of new } in
-    let all : marks ≡ marks_of p.history = is_marks ∙ p.marks_grow in
+    let all : marks ≡ marks_in_history p.history = is_marks ∙ p.marks_grow in
     let P : List ℕ → Type 0 = λ ms. RisesFrom old.calls ms in
     let Q : ℕ → Type 0 = λ n. RunOutcome n s.taken p.history left' end in
     record {
@@ -172,7 +172,7 @@ transcript-of gives paths Told served status marks left left' taken taken' clock
       consumed = s.consumed;
       written = p.written;
       told = tells p.history p.told;
-      printed = either-cut (is_whole served) p.history p.printed;
+      printed = either-cut (is_printed_whole served) p.history p.printed;
       run = p.run;
       on_disks = λ known starts. (p.holds known (starts-stands (length paths) known old w sound none starts)).held;
       ends = p.ends;
@@ -190,7 +190,7 @@ transcript-of gives paths Told served status marks left left' taken taken' clock
     }
 
 -- nothing was read and nothing done, for the words or for want of memory
-pub transcript-none : {C : Type 0} (gives : C → ℕ → C → Type 0) (paths : List Bytes) (Told : List (Entry Counts) → Type 0) (status : ℕ) (marks : List ℕ) (left taken : Option Bytes) (clock : C) (bay : BayState) (w : World) →
+pub transcript-none : {C : Type 0} (gives : C → ℕ → C → Type 0) (paths : List Bytes) (Told : List (PrintedMove Counts) → Type 0) (status : ℕ) (marks : List ℕ) (left taken : Option Bytes) (clock : C) (bay : BayState) (w : World) →
     IsSound bay → w.session ≡ [] → (status ≡ 2) ⊎ (status ≡ 5) → marks ≡ [] → Told [] → Transcript gives paths Told status marks left left taken taken clock clock bay bay w
 unfolding cut
 transcript-none gives paths Told status marks left taken clock bay w sound first is none told =
@@ -241,7 +241,7 @@ transcript-none gives paths Told status marks left taken clock bay w sound first
 -- ---- the generator's script
 
 -- where the script was read to its end, all commands were answered
-answers-all : {C : Type 0} (gives : C → ℕ → C → Type 0) (number : ℕ) (paths : List Bytes) (Told : List (Entry Counts) → Type 0) (status : ℕ) (marks : List ℕ) (rest : Bytes) (taken taken' : Option Bytes) (clock clock' : C) (old new : BayState) (w : World)
+answers-all : {C : Type 0} (gives : C → ℕ → C → Type 0) (number : ℕ) (paths : List Bytes) (Told : List (PrintedMove Counts) → Type 0) (status : ℕ) (marks : List ℕ) (rest : Bytes) (taken taken' : Option Bytes) (clock clock' : C) (old new : BayState) (w : World)
     (t : Transcript gives paths Told status marks (Some (generated_script number paths)) (Some rest) taken taken' clock clock' old new w) → has_quote paths ≡ false → status ≤ 1 → answered t.history ≡ generated number paths
 answers-all gives number paths Told status marks rest taken taken' clock clock' old new w t unquoted small =
     let at_end : rest ≡ [] = t.outcome.to_end small in
@@ -250,11 +250,11 @@ answers-all gives number paths Told status marks rest taken taken' clock clock' 
 
 pub generated-of : {C : Type 0} (gives : C → ℕ → C → Type 0) (number : ℕ) (paths : List Bytes) (served : Result (Unit {0}) Stop) (status : ℕ) (marks : List ℕ) (text rest : Bytes) (taken taken' : Option Bytes)
     (clock clock' : C) (old new : BayState) (before last : Roster) (time' : ℕ) (phase : Phase) (w w' : World) (below' : ℕ → GroupBelow) (marks' : List ℕ) (refused : Bool) (manner' : Manner) →
-    IsSound old → w.session ≡ [] → before ≡ roster [] 0 → status ≡ status_number served refused → marks ≡ marks' → (is_whole served ≡ true → phase ≡ Resting) → length paths ≡ 4 → has_quote paths ≡ false → text ≡ generated_script number paths →
+    IsSound old → w.session ≡ [] → before ≡ roster [] 0 → status ≡ status_number served refused → marks ≡ marks' → (is_printed_whole served ≡ true → phase ≡ Resting) → length paths ≡ 4 → has_quote paths ≡ false → text ≡ generated_script number paths →
     Serves gives paths served (Some text) (Some rest) (scene w quiet Resting 0 before old taken clock [] false (InShort 1023)) (scene w' below' phase time' last new taken' clock' marks' refused manner') →
     GeneratedRun gives number paths status marks taken taken' clock clock' old new w
 generated-of gives number paths served status marks text rest taken taken' clock clock' old new before last time' phase w w' below' marks' refused manner' sound none is_first is_status is_marks rests four unquoted is s =
-    let Told : List (Entry Counts) → Type 0 = IsGenerated (length (generated number paths)) in
+    let Told : List (PrintedMove Counts) → Type 0 = IsGenerated (length (generated number paths)) in
     let T : Bytes → Type 0 = λ bytes. Transcript gives paths Told status marks (Some bytes) (Some rest) taken taken' clock clock' old new w in
     let all = subst T is (transcript-of gives paths Told served status marks (Some text) (Some rest) taken taken' clock clock' old new before last time' phase w w' below' marks' refused (InShort 1023) manner'
     sound none is_first is_status is_marks rests (λ history told. let G : ℕ → Type 0 = λ n. IsGenerated n history in subst G (sym (count-generated number paths four)) (all-generated 1023 history told)) s) in

@@ -2,7 +2,7 @@
 ghost use Rattle.std.specs.Prelude.{◌≡◌, ◌≢◌, ℕ, ◌≤◌, None, Some, List, Option, length, map};
 ghost use Rattle.std.specs.String.{string_bytes};
 ghost use Rattle.bay.specs.Counts.{Rose};
-ghost use Rattle.asm_world.specs.Run.{IsFull};
+ghost use Rattle.asm_world.specs.Run.{AreInFull};
 ghost use Rattle.asm_world.specs.World.{World};
 ghost use Rattle.command_line.specs.Command.{IsRead, images_in};
 ghost use Rattle.command_line.specs.Paths.{Text};
@@ -31,7 +31,7 @@ pub fn run<B: Bay, H: Host, S: Source, K: Sink, C: Clock>(
     clock: C,
 ) -> Report<B, H, K, C>
     ensures transcript { number_given (map string_bytes words.now) ≡ None → (w : World) → IsFirstWorld w
-        → Transcript C.gives (images_in (map string_bytes words.now)) IsFull result.status result.marks.items
+        → Transcript C.gives (images_in (map string_bytes words.now)) AreInFull result.status result.marks.items
         (S.left source.old) (S.left source.new) (K.taken sink) (K.taken result.sink) clock result.clock (B.state bay) (B.state result.bay) w }
     ensures generated { (number : ℕ) → number_given (map string_bytes words.now) ≡ Some number → (w : World) → IsFirstWorld w
         → GeneratedRun C.gives number (images_in (map string_bytes words.now)) result.status result.marks.items

@@ -2,29 +2,29 @@
 use Rattle.std.proofs.Common.{◌≡◌, ℕ, Bool, true, false, List, [], ◌∷◌, map, refl, sym, ap, ◌∙◌, Option, Some, None, inl, inr}
 use Rattle.std.specs.Option.{option_map}
 use Rattle.std.specs.Prelude.{codes}
-use Rattle.asm_grammar.specs.Syntax.{Syntax, Then, Maybe, Value}
+use Rattle.asm_grammar.specs.Syntax.{SyntaxRule, Then, Maybe, Value}
 use Rattle.asm_group.specs.Names.{Bytes}
 use Rattle.asm_world.specs.Grammar as g
-use Rattle.asm_world.specs.Meaning.{Says, statement_of, clause_of, add_of, drop_of, resize_of, some_disks_of, online_of, rename_of, modify_of, is_said, words_of, redundancy_of, stripe_of, after_of, behind, dropped_of, rebalance_of, group_word_of, disk_of, is_quorum, failgroup_of, failgroups_of, kind_of, attribute_of, attributes_of}
+use Rattle.asm_world.specs.Meaning.{Says, statement_of, clause_of, add_of, drop_of, resize_of, some_disks_of, online_of, rename_of, modify_of, is_said, words_of, redundancy_of, stripe_of, after_of, behind, dropped_of, rebalance_of, group_word_of, new_disk_of, is_quorum, failgroup_of, failgroups_of, kind_of, attribute_of, attributes_of}
 use Rattle.asm_world.specs.Statement as s
-use Rattle.asm_world.specs.Writing.{statement_value, statement_text, clause_value, after_value, words_value, redundancy_value, stripe_value, said, after_word, group_word_value, dropped_value, rebalance_value, maybe_rebalance, disk_value, quorum_value, failgroup_value, one_more, failgroup_values, first_and_others, failgroups_value, kind_value, attribute_value, attributes_value}
+use Rattle.asm_world.specs.Writing.{statement_value, statement_text, clause_value, after_value, words_value, redundancy_value, stripe_value, forced_value, after_word, group_word_value, dropped_value, rebalance_value, maybe_rebalance, new_disk_value, quorum_value, failgroup_value, one_more, failgroup_values, first_and_others, failgroups_value, kind_value, attribute_value, attributes_value}
 use Rattle.asm_world.proofs.Spelling.{SpellsIn, SpellsAll, spells_pieces, has_spells}
 use Rattle.asm_world.proofs.Statements.{written_is_said}
 
 -- there is a value, and each of its words has a spelling
-abbrev Spelt : (g : Syntax) → Option (Value g) → Type 0
+abbrev Spelt : (g : SyntaxRule) → Option (Value g) → Type 0
 Spelt g o = (w : Value g) × (o ≡ Some w) × SpellsIn g w
 
-said_forced : (b : Bool) → SpellsIn g.forced (said b)
+said_forced : (b : Bool) → SpellsIn g.forced (forced_value b)
 said_forced true = refl
 said_forced false = tt
 
-said_waiting : (b : Bool) → SpellsIn g.waiting (said b)
+said_waiting : (b : Bool) → SpellsIn g.waiting (forced_value b)
 said_waiting true = refl
 said_waiting false = tt
 
 -- a list behind its first member
-relisted : {A : Type 0} (item : Syntax) (make : A → Value item) (says : Value item → A) → ((v : Value item) → SpellsIn item v → SpellsIn item (make (says v)))
+relisted : {A : Type 0} (item : SyntaxRule) (make : A → Value item) (says : Value item → A) → ((v : Value item) → SpellsIn item v → SpellsIn item (make (says v)))
     → (vs : List (Unit {0} × Value item)) → SpellsAll (λ v. SpellsIn (Then g.comma item) v) vs → SpellsAll (λ v. SpellsIn (Then g.comma item) v) (map (λ o. (tt, o)) (map make (map (λ p. says p.1) vs)))
 relisted item make says h [] a = tt
 relisted item make says h (v ∷ vs) a = ((refl, h v.1 a.0.1), relisted item make says h vs a.1)
@@ -35,11 +35,11 @@ names_listed (v ∷ vs) a = ((refl, a.0.1), names_listed vs a.1)
 
 -- PARTS
 
-after_spells : (k : List ℕ) (item : Syntax) (o : Option (Unit {0} × Value item)) → SpellsIn (Maybe (Then (g.key k) item)) o → SpellsIn (Maybe (Then (g.key k) item)) (after_word (behind o))
+after_spells : (k : List ℕ) (item : SyntaxRule) (o : Option (Unit {0} × Value item)) → SpellsIn (Maybe (Then (g.key k) item)) o → SpellsIn (Maybe (Then (g.key k) item)) (after_word (behind o))
 after_spells k item None a = tt
 after_spells k item (Some v) a = a
 
-disk_spells : (v : Value g.disk) → SpellsIn g.disk v → SpellsIn g.disk (disk_value (disk_of v))
+disk_spells : (v : Value g.disk) → SpellsIn g.disk v → SpellsIn g.disk (new_disk_value (new_disk_of v))
 disk_spells (path, (name, (size, force))) a = (a.0, (after_spells (codes "NAME") g.name name a.1.0, (after_spells (codes "SIZE") g.size size a.1.1.0, said_forced (is_said force))))
 
 quorum_spells : (o : Option (Value g.group_word)) → SpellsIn (Maybe g.group_word) (quorum_value (is_quorum o))
@@ -49,7 +49,7 @@ quorum_spells (Some (inr w)) = tt
 
 failgroup_spells : (v : Value g.failgroup) → SpellsIn g.failgroup v → Spelt g.failgroup (failgroup_value (failgroup_of v) (failgroup_of v).disks)
 failgroup_spells (kind, (name, (word, (d, ds)))) a =
-    (_, refl, (quorum_spells kind, (after_spells (codes "FAILGROUP") g.name name a.1.0, (refl, (disk_spells d a.1.1.1.0, relisted g.disk disk_value disk_of disk_spells ds a.1.1.1.1)))))
+    (_, refl, (quorum_spells kind, (after_spells (codes "FAILGROUP") g.name name a.1.0, (refl, (disk_spells d a.1.1.1.0, relisted g.disk new_disk_value new_disk_of disk_spells ds a.1.1.1.1)))))
 
 failgroups_spell : (vs : List (Value g.failgroup)) → SpellsAll (λ v. SpellsIn g.failgroup v) vs
     → (ws : List (Value g.failgroup)) × (failgroup_values (map failgroup_of vs) ≡ Some ws) × SpellsAll (λ v. SpellsIn g.failgroup v) ws
@@ -112,7 +112,7 @@ abbrev IsSpelt : s.Clause → Type 0
 IsSpelt c = Spelt g.clause (clause_value c)
 
 -- a value made of another
-made_spelt : {A : Type 0} (h : Syntax) (make : A → Value h) (P : A → Type 0) (o : Option A) → (w : A) × (o ≡ Some w) × P w → ((w : A) → P w → SpellsIn h (make w)) → Spelt h (option_map make o)
+made_spelt : {A : Type 0} (h : SyntaxRule) (make : A → Value h) (P : A → Type 0) (o : Option A) → (w : A) × (o ≡ Some w) × P w → ((w : A) → P w → SpellsIn h (make w)) → Spelt h (option_map make o)
 made_spelt h make P o (w, e, a) k = (make w, ap (λ z. option_map make z) e, k w a)
 
 add_spells : (v : Value g.added) → SpellsIn g.added v → IsSpelt (add_of v)

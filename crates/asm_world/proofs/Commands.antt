@@ -5,7 +5,7 @@ use Rattle.std.specs.List.{list_all}
 use Rattle.std.proofs.lemmas.Bool.{eqb-true, cases_lt}
 use Rattle.asm_grammar.specs.Argument.{Exact}
 use Rattle.asm_grammar.specs.Bytes.{is_blank, is_space, is_filled, is_word, upper, run_of, after_run}
-use Rattle.asm_grammar.specs.Word.{Word, Key, Argument, End, same_bytes, fits}
+use Rattle.asm_grammar.specs.Word.{Word, Keyword, Argument, End, same_bytes, fits}
 use Rattle.asm_grammar.specs.Syntax.{Value}
 use Rattle.asm_grammar.specs.Reading.{whole, any_fits, first}
 use Rattle.asm_grammar.specs.Laws.{IsLongestFront, IsLongestLineFront}
@@ -95,7 +95,7 @@ run_begins (b ∷ text) c w e = elim (is_true_or_false (is_filled b)) [
   heads b text c w e = let q : b ≡ c = cc in ap (λ z. z ∷ text) q
 
 -- Where a lower case word stands, the keyword that stands there is that word.
-is_keyword : (c : ℕ) (w k text : List ℕ) → list_all is_word (c ∷ w) ≡ true → fits (Argument (Exact (c ∷ w))) text ≡ true → fits (Key k) text ≡ true
+is_keyword : (c : ℕ) (w k text : List ℕ) → list_all is_word (c ∷ w) ≡ true → fits (Argument (Exact (c ∷ w))) text ≡ true → fits (Keyword k) text ≡ true
     → same_bytes (map upper (c ∷ w)) k ≡ true
 is_keyword c w k text words there key =
     let a = after_run is_space text in
@@ -110,14 +110,14 @@ is_keyword c w k text words there key =
 
 -- the one is a lower case word, the other a keyword that isn't it
 abbrev differ : Word → Word → Bool
-differ (Argument (Exact (c ∷ w))) (Key k) = list_all is_word (c ∷ w) && not (same_bytes (map upper (c ∷ w)) k)
+differ (Argument (Exact (c ∷ w))) (Keyword k) = list_all is_word (c ∷ w) && not (same_bytes (map upper (c ∷ w)) k)
 differ word other = false
 
 abbrev all_differ : List Word → List Word → Bool
 all_differ words others = list_all (λ word. list_all (λ other. differ word other) others) words
 
 not_both : (word other : Word) (text : List ℕ) → differ word other ≡ true → fits word text ≡ true → fits other text ≡ true → ⊥
-not_both (Argument (Exact (c ∷ w))) (Key k) text d x y =
+not_both (Argument (Exact (c ∷ w))) (Keyword k) text d x y =
     let p = both (list_all is_word (c ∷ w)) (not (same_bytes (map upper (c ∷ w)) k)) d in
     let t : same_bytes (map upper (c ∷ w)) k ≡ true = is_keyword c w k text p.0 x y in
     let f : same_bytes (map upper (c ∷ w)) k ≡ false = not_true (same_bytes (map upper (c ∷ w)) k) p.1 in cc

@@ -17,7 +17,7 @@ use Rattle.asm_group.specs.Refusal.{Refusal}
 use Rattle.asm_group.specs.Refusal as r
 use Rattle.asm_world.specs.Edits as e
 use Rattle.asm_world.specs.Files as f
-use Rattle.asm_world.specs.EditLaws.{OthersStay}
+use Rattle.asm_world.specs.EditLaws.{OtherPathsStay}
 use Rattle.asm_world.specs.Paths.{last_part}
 
 paths_total : IsTotalOrder (slice_cmp (slice_cmp nat_cmp))
@@ -39,49 +39,49 @@ pub ok_is : {A : Type 0} (o : Option Refusal) (x h : A) → e.unless_refused o x
 ok_is None x h k = (refl, cc)
 ok_is (Some cause) x h k = cc
 
-node_there : (g : Group) (path : Path) (node : TreeNode) → e.entry_at (e.with_node g path node) path ≡ Some (record { name = last_part path; node = node })
+node_there : (g : Group) (path : Path) (node : TreeNode) → e.group_entry_at (e.group_with_node g path node) path ≡ Some (record { name = last_part path; node = node })
 node_there g path node = maps.get-insert paths_total g.tree (folded_path path) _ (folded_path path) ∙ rw (self_key (folded_path path)) refl
 
-node_others : (g : Group) (path : Path) (node : TreeNode) → OthersStay g (e.with_node g path node) path
+node_others : (g : Group) (path : Path) (node : TreeNode) → OtherPathsStay g (e.group_with_node g path node) path
 node_others g path node other n = maps.get-insert paths_total g.tree (folded_path path) _ (folded_path other) ∙ rw (same_key (folded_path other) (folded_path path) n) refl
 
-node_gone : (g : Group) (path : Path) → e.entry_at (e.without_node g path) path ≡ None
+node_gone : (g : Group) (path : Path) → e.group_entry_at (e.group_without_node g path) path ≡ None
 node_gone g path = maps.get-remove paths_total g.tree (folded_path path) (folded_path path) ∙ rw (self_key (folded_path path)) refl
 
-gone_others : (g : Group) (path : Path) → OthersStay g (e.without_node g path) path
+gone_others : (g : Group) (path : Path) → OtherPathsStay g (e.group_without_node g path) path
 gone_others g path other n = maps.get-remove paths_total g.tree (folded_path path) (folded_path other) ∙ rw (same_key (folded_path other) (folded_path path) n) refl
 
-pub make : (g h : Group) (path : Path) → e.edited g (e.MakeDir path) ≡ Ok h → (e.is_dir h path ≡ true) × OthersStay g h path × (h.files ≡ g.files)
+pub make : (g h : Group) (path : Path) → e.edited_group g (e.MakeDir path) ≡ Ok h → (e.group_has_dir h path ≡ true) × OtherPathsStay g h path × (h.files ≡ g.files)
 make g h path k =
-    let q : e.with_node g path Dir ≡ h = (ok_is (e.first_cause (e.edit_causes g (e.MakeDir path))) (e.with_node g path Dir) h k).1 in
-    let P : Group → Type 0 = λ x. (e.is_dir x path ≡ true) × OthersStay g x path × (x.files ≡ g.files) in
-    subst P q (or_right (e.is_root path) (e.is_dir_entry (e.entry_at (e.with_node g path Dir) path)) (ap e.is_dir_entry (node_there g path Dir)), node_others g path Dir, refl)
+    let q : e.group_with_node g path Dir ≡ h = (ok_is (e.first_cause (e.group_edit_causes g (e.MakeDir path))) (e.group_with_node g path Dir) h k).1 in
+    let P : Group → Type 0 = λ x. (e.group_has_dir x path ≡ true) × OtherPathsStay g x path × (x.files ≡ g.files) in
+    subst P q (or_right (e.is_root path) (e.is_dir_entry (e.group_entry_at (e.group_with_node g path Dir) path)) (ap e.is_dir_entry (node_there g path Dir)), node_others g path Dir, refl)
 
-pub drop_dir : (g h : Group) (path : Path) → e.edited g (e.DropDir path) ≡ Ok h → (e.entry_at h path ≡ None) × OthersStay g h path × (h.files ≡ g.files)
+pub drop_dir : (g h : Group) (path : Path) → e.edited_group g (e.DropDir path) ≡ Ok h → (e.group_entry_at h path ≡ None) × OtherPathsStay g h path × (h.files ≡ g.files)
 drop_dir g h path k =
-    let q : e.without_node g path ≡ h = (ok_is (e.first_cause (e.edit_causes g (e.DropDir path))) (e.without_node g path) h k).1 in
-    let P : Group → Type 0 = λ x. (e.entry_at x path ≡ None) × OthersStay g x path × (x.files ≡ g.files) in
+    let q : e.group_without_node g path ≡ h = (ok_is (e.first_cause (e.group_edit_causes g (e.DropDir path))) (e.group_without_node g path) h k).1 in
+    let P : Group → Type 0 = λ x. (e.group_entry_at x path ≡ None) × OtherPathsStay g x path × (x.files ≡ g.files) in
     subst P q (node_gone g path, gone_others g path, refl)
 
-pub drop_alias : (g h : Group) (path : Path) → e.edited g (e.DropAlias path) ≡ Ok h → (e.entry_at h path ≡ None) × OthersStay g h path × (h.files ≡ g.files)
+pub drop_alias : (g h : Group) (path : Path) → e.edited_group g (e.DropAliasEntry path) ≡ Ok h → (e.group_entry_at h path ≡ None) × OtherPathsStay g h path × (h.files ≡ g.files)
 drop_alias g h path k =
-    let q : e.without_node g path ≡ h = (ok_is (e.first_cause (e.edit_causes g (e.DropAlias path))) (e.without_node g path) h k).1 in
-    let P : Group → Type 0 = λ x. (e.entry_at x path ≡ None) × OthersStay g x path × (x.files ≡ g.files) in
+    let q : e.group_without_node g path ≡ h = (ok_is (e.first_cause (e.group_edit_causes g (e.DropAliasEntry path))) (e.group_without_node g path) h k).1 in
+    let P : Group → Type 0 = λ x. (e.group_entry_at x path ≡ None) × OtherPathsStay g x path × (x.files ≡ g.files) in
     subst P q (node_gone g path, gone_others g path, refl)
 
 aliased : (g : Group) (alias path : Path) (o : Option ℕ) → is_some o ≡ true
-    → (e.file_at (e.with_alias g alias o) alias ≡ o) × OthersStay g (e.with_alias g alias o) alias × ((e.with_alias g alias o).files ≡ g.files)
+    → (e.group_file_at (e.group_with_alias g alias o) alias ≡ o) × OtherPathsStay g (e.group_with_alias g alias o) alias × ((e.group_with_alias g alias o).files ≡ g.files)
 aliased g alias path None k = cc
 aliased g alias path (Some n) k = (ap e.file_of_entry (node_there g alias (Alias n)), node_others g alias (Alias n), refl)
 
-named : (g : Group) (alias path : Path) → e.first_cause (e.edit_causes g (e.AddAlias alias path)) ≡ None → is_some (e.file_at g path) ≡ true
-named g alias path k = elim (is_true_or_false (is_some (e.file_at g path))) [ inl x ↦ x | inr x ↦ absurd (let f = rw x at k in cc) ]
+named : (g : Group) (alias path : Path) → e.first_cause (e.group_edit_causes g (e.AddAliasEntry alias path)) ≡ None → is_some (e.group_file_at g path) ≡ true
+named g alias path k = elim (is_true_or_false (is_some (e.group_file_at g path))) [ inl x ↦ x | inr x ↦ absurd (let f = rw x at k in cc) ]
 
-pub add_alias : (g h : Group) (alias path : Path) → e.edited g (e.AddAlias alias path) ≡ Ok h → (e.file_at h alias ≡ e.file_at g path) × OthersStay g h alias × (h.files ≡ g.files)
+pub add_alias : (g h : Group) (alias path : Path) → e.edited_group g (e.AddAliasEntry alias path) ≡ Ok h → (e.group_file_at h alias ≡ e.group_file_at g path) × OtherPathsStay g h alias × (h.files ≡ g.files)
 add_alias g h alias path k =
-    let t = ok_is (e.first_cause (e.edit_causes g (e.AddAlias alias path))) (e.with_alias g alias (e.file_at g path)) h k in
-    let P : Group → Type 0 = λ x. (e.file_at x alias ≡ e.file_at g path) × OthersStay g x alias × (x.files ≡ g.files) in
-    subst P t.1 (aliased g alias path (e.file_at g path) (named g alias path t.0))
+    let t = ok_is (e.first_cause (e.group_edit_causes g (e.AddAliasEntry alias path))) (e.group_with_alias g alias (e.group_file_at g path)) h k in
+    let P : Group → Type 0 = λ x. (e.group_file_at x alias ≡ e.group_file_at g path) × OtherPathsStay g x alias × (x.files ≡ g.files) in
+    subst P t.1 (aliased g alias path (e.group_file_at g path) (named g alias path t.0))
 
 -- WRITES
 
@@ -105,7 +105,7 @@ files_stay g (Some m) (Some y) change n x =
 abbrev with_change : (List Cell → List Cell) → File → File
 with_change change x = record x { cells = change x.cells }
 
-stored : (g : Group) (path : Path) (change : List Cell → List Cell) (o : Option ℕ) (file : Option File) → e.file_at g path ≡ o → f.file_of g o ≡ file
+stored : (g : Group) (path : Path) (change : List Cell → List Cell) (o : Option ℕ) (file : Option File) → e.group_file_at g path ≡ o → f.file_of g o ≡ file
     → f.named_file (f.with_cells_of g o file change) path ≡ option_map (with_change change) file
 stored g path change None None a b = ap (λ o. f.file_of g o) a ∙ b
 stored g path change None (Some x) a b = cc
@@ -132,22 +132,22 @@ fits_file true b at n size x y z k = cc
 fits_file false true at n size x y z k = cc
 fits_file false false at n size x y z k = elim (is_true_or_false (nat_le (at + n) size)) [ inl h ↦ leb-true (at + n) size h | inr h ↦ absurd (let w = rw h at k in cc) ]
 
-was_written : (g h : Group) (path : Path) (at : ℕ) (cells : List Cell) (now : File) → f.written g path at cells ≡ Ok h → f.named_file h path ≡ Some now → Written g path at cells now
+was_written : (g h : Group) (path : Path) (at : ℕ) (cells : List Cell) (now : File) → f.group_after_write g path at cells ≡ Ok h → f.named_file h path ≡ Some now → Written g path at cells now
 was_written g h path at cells now k there =
     let t = ok_is (e.first_cause (f.span_causes g path at (length cells))) (f.with_cells_at g path (λ old. f.with_cells old at cells)) h k in
     let u : f.named_file (f.with_cells_at g path (λ old. f.with_cells old at cells)) path ≡ Some now = ap (λ x. f.named_file x path) t.1 ∙ there in
-    let v = stored g path (λ old. f.with_cells old at cells) (e.file_at g path) (f.named_file g path) refl refl in
-    from_old g path at cells now (f.named_file g path) refl (fits_file (not (e.is_file g path)) (not (f.is_sectors g at) || not (f.is_sectors g (length cells))) at (length cells) (f.size_of_file (f.named_file g path)) r.NoName r.NotSectors r.OutOfFile t.0) (sym v ∙ u)
+    let v = stored g path (λ old. f.with_cells old at cells) (e.group_file_at g path) (f.named_file g path) refl refl in
+    from_old g path at cells now (f.named_file g path) refl (fits_file (not (e.group_has_file g path)) (not (f.is_sectors g at) || not (f.is_sectors g (length cells))) at (length cells) (f.size_of_file (f.named_file g path)) r.NoName r.NotSectors r.OutOfFile t.0) (sym v ∙ u)
 
-pub names : (g h : Group) (path : Path) (at : ℕ) (cells : List Cell) → f.written g path at cells ≡ Ok h → h.tree ≡ g.tree
+pub names : (g h : Group) (path : Path) (at : ℕ) (cells : List Cell) → f.group_after_write g path at cells ≡ Ok h → h.tree ≡ g.tree
 names g h path at cells k =
     let t = ok_is (e.first_cause (f.span_causes g path at (length cells))) (f.with_cells_at g path (λ old. f.with_cells old at cells)) h k in
-    ap (λ (x : Group). x.tree) (sym t.1) ∙ tree_stays g (e.file_at g path) (f.named_file g path) (λ old. f.with_cells old at cells)
+    ap (λ (x : Group). x.tree) (sym t.1) ∙ tree_stays g (e.group_file_at g path) (f.named_file g path) (λ old. f.with_cells old at cells)
 
-pub others : (g h : Group) (path : Path) (at : ℕ) (cells : List Cell) → f.written g path at cells ≡ Ok h → (n : ℕ) → e.file_at g path ≢ Some n → maps.get h.files n ≡ maps.get g.files n
+pub others : (g h : Group) (path : Path) (at : ℕ) (cells : List Cell) → f.group_after_write g path at cells ≡ Ok h → (n : ℕ) → e.group_file_at g path ≢ Some n → maps.get h.files n ≡ maps.get g.files n
 others g h path at cells k n x =
     let t = ok_is (e.first_cause (f.span_causes g path at (length cells))) (f.with_cells_at g path (λ old. f.with_cells old at cells)) h k in
-    ap (λ (y : Group). maps.get y.files n) (sym t.1) ∙ files_stay g (e.file_at g path) (f.named_file g path) (λ old. f.with_cells old at cells) n x
+    ap (λ (y : Group). maps.get y.files n) (sym t.1) ∙ files_stay g (e.group_file_at g path) (f.named_file g path) (λ old. f.with_cells old at cells) n x
 
 -- CELLS
 
@@ -160,7 +160,7 @@ taken_again at xs zs h = subst (λ n. take n (take at xs ++ zs) ≡ take at xs) 
 further_behind : (at n : ℕ) (xs zs : List Cell) → at ≤ length xs → drop (at + n) (take at xs ++ zs) ≡ drop n zs
 further_behind at n xs zs h = subst (λ k. drop (k + n) (take at xs ++ zs) ≡ drop n zs) (length-take-le at xs h) (drop-append-add (take at xs) zs n)
 
-pub read : (g h : Group) (path : Path) (at : ℕ) (cells : List Cell) (now : File) → f.written g path at cells ≡ Ok h → f.named_file h path ≡ Some now → take (length cells) (drop at now.cells) ≡ cells
+pub read : (g h : Group) (path : Path) (at : ℕ) (cells : List Cell) (now : File) → f.group_after_write g path at cells ≡ Ok h → f.named_file h path ≡ Some now → take (length cells) (drop at now.cells) ≡ cells
 read g h path at cells now k there =
     let w = was_written g h path at cells now k there in
     let within : at ≤ length w.old.cells = let q = w.within in omega arith in
@@ -169,20 +169,20 @@ read g h path at cells now k there =
 same_old : (g : Group) (path : Path) (old other : File) → f.named_file g path ≡ Some old → f.named_file g path ≡ Some other → other ≡ old
 same_old g path old other a b = let q : Some other ≡ Some old = sym b ∙ a in cc
 
-pub before : (g h : Group) (path : Path) (at : ℕ) (cells : List Cell) (old now : File) → f.written g path at cells ≡ Ok h → f.named_file g path ≡ Some old → f.named_file h path ≡ Some now → take at now.cells ≡ take at old.cells
+pub before : (g h : Group) (path : Path) (at : ℕ) (cells : List Cell) (old now : File) → f.group_after_write g path at cells ≡ Ok h → f.named_file g path ≡ Some old → f.named_file h path ≡ Some now → take at now.cells ≡ take at old.cells
 before g h path at cells old now k was there =
     let w = was_written g h path at cells now k there in
     let within : at ≤ length w.old.cells = let q = w.within in omega arith in
     ap (λ xs. take at xs) w.is ∙ (taken_again at w.old.cells _ within ∙ ap (λ (x : File). take at x.cells) (same_old g path old w.old was w.there))
 
-pub after : (g h : Group) (path : Path) (at : ℕ) (cells : List Cell) (old now : File) → f.written g path at cells ≡ Ok h → f.named_file g path ≡ Some old → f.named_file h path ≡ Some now
+pub after : (g h : Group) (path : Path) (at : ℕ) (cells : List Cell) (old now : File) → f.group_after_write g path at cells ≡ Ok h → f.named_file g path ≡ Some old → f.named_file h path ≡ Some now
     → drop (at + length cells) now.cells ≡ drop (at + length cells) old.cells
 after g h path at cells old now k was there =
     let w = was_written g h path at cells now k there in
     let within : at ≤ length w.old.cells = let q = w.within in omega arith in
     ap (λ xs. drop (at + length cells) xs) w.is ∙ (further_behind at (length cells) w.old.cells _ within ∙ (drop-append_seam cells _ ∙ ap (λ (x : File). drop (at + length cells) x.cells) (same_old g path old w.old was w.there)))
 
-pub size : (g h : Group) (path : Path) (at : ℕ) (cells : List Cell) (old now : File) → f.written g path at cells ≡ Ok h → f.named_file g path ≡ Some old → f.named_file h path ≡ Some now → length now.cells ≡ length old.cells
+pub size : (g h : Group) (path : Path) (at : ℕ) (cells : List Cell) (old now : File) → f.group_after_write g path at cells ≡ Ok h → f.named_file g path ≡ Some old → f.named_file h path ≡ Some now → length now.cells ≡ length old.cells
 size g h path at cells old now k was there =
     let w = was_written g h path at cells now k there in
     let q = w.within in

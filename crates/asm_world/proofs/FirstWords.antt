@@ -7,8 +7,8 @@ use Rattle.std.proofs.lemmas.Bool.{eqb-true, cases_lt}
 use Rattle.std.proofs.lemmas.List.Sums.{take_while-cons}
 use Rattle.std.proofs.lemmas.Slice.Eq.{bytes_eq-Decides}
 use Rattle.asm_grammar.specs.Bytes.{is_blank, is_word, is_lower, upper, run_of, after_run, common}
-use Rattle.asm_grammar.specs.Word.{Word, Key, End, same_bytes, when, with_rest, fit, near}
-use Rattle.asm_grammar.specs.Syntax.{Syntax, One, Then, Either, Maybe, Value}
+use Rattle.asm_grammar.specs.Word.{Word, Keyword, End, same_bytes, when, with_rest, fit, near}
+use Rattle.asm_grammar.specs.Syntax.{SyntaxRule, One, Then, Either, Maybe, Value}
 use Rattle.asm_grammar.specs.Reading.{Failed, mapped, parse, finish, whole, any_fits, first, leads, miss}
 use Rattle.asm_grammar.specs.Laws.{IsLongestFront, IsLongestLineFront}
 use Rattle.asm_grammar.proofs.Lines.{longest_line}
@@ -155,25 +155,25 @@ statements_alone text h =
 -- A VERB IS NO STATEMENT
 
 -- what stands before and behind a keyword, for any grammar
-skipped : (a b : Syntax) (text : List ℕ) (left : ℕ) → leads a text ≡ false → parse (Either a b) text left ≡ mapped (λ w. inr w) (parse b text (miss (first a) text left))
+skipped : (a b : SyntaxRule) (text : List ℕ) (left : ℕ) → leads a text ≡ false → parse (Either a b) text left ≡ mapped (λ w. inr w) (parse b text (miss (first a) text left))
 skipped a b text left h = rw h refl
 
-chosen : (a b : Syntax) (text : List ℕ) (left : ℕ) → leads a text ≡ true → parse (Either a b) text left ≡ mapped (λ w. inl w) (parse a text left)
+chosen : (a b : SyntaxRule) (text : List ℕ) (left : ℕ) → leads a text ≡ true → parse (Either a b) text left ≡ mapped (λ w. inl w) (parse a text left)
 chosen a b text left h = rw h refl
 
-key_taken : (k : List ℕ) (b : Syntax) (text rest : List ℕ) (left : ℕ) → fit (Key k) text ≡ Some (tt, rest) → parse (Then (One (Key k)) b) text left ≡ mapped (λ w. (tt, w)) (parse b rest left)
+key_taken : (k : List ℕ) (b : SyntaxRule) (text rest : List ℕ) (left : ℕ) → fit (Keyword k) text ≡ Some (tt, rest) → parse (Then (One (Keyword k)) b) text left ≡ mapped (λ w. (tt, w)) (parse b rest left)
 key_taken k b text rest left h = rw h refl
 
-key_missed : (k : List ℕ) (b : Syntax) (text : List ℕ) (left : ℕ) → fit (Key k) text ≡ None → parse (Then (One (Key k)) b) text left ≡ Failed (min left (length text - near (Key k) text))
+key_missed : (k : List ℕ) (b : SyntaxRule) (text : List ℕ) (left : ℕ) → fit (Keyword k) text ≡ None → parse (Then (One (Keyword k)) b) text left ≡ Failed (min left (length text - near (Keyword k) text))
 key_missed k b text left h = rw h refl
 
 -- three alternatives that begin with keywords, of which none stands there
-none_of_three : (i j k : List ℕ) (x y z : Syntax) (text : List ℕ) (left : ℕ) → fit (Key i) text ≡ None → fit (Key j) text ≡ None → fit (Key k) text ≡ None
-    → parse (Either (Then (One (Key i)) x) (Either (Then (One (Key j)) y) (Then (One (Key k)) z))) text left
-    ≡ Failed (min (min (min left (length text - near (Key i) text)) (length text - near (Key j) text)) (length text - near (Key k) text))
+none_of_three : (i j k : List ℕ) (x y z : SyntaxRule) (text : List ℕ) (left : ℕ) → fit (Keyword i) text ≡ None → fit (Keyword j) text ≡ None → fit (Keyword k) text ≡ None
+    → parse (Either (Then (One (Keyword i)) x) (Either (Then (One (Keyword j)) y) (Then (One (Keyword k)) z))) text left
+    ≡ Failed (min (min (min left (length text - near (Keyword i) text)) (length text - near (Keyword j) text)) (length text - near (Keyword k) text))
 none_of_three i j k x y z text left a b c =
-    skipped (Then (One (Key i)) x) (Either (Then (One (Key j)) y) (Then (One (Key k)) z)) text left (rw a refl)
-    ∙ (ap (λ o. mapped (λ w. inr w) o) (skipped (Then (One (Key j)) y) (Then (One (Key k)) z) text _ (rw b refl))
+    skipped (Then (One (Keyword i)) x) (Either (Then (One (Keyword j)) y) (Then (One (Keyword k)) z)) text left (rw a refl)
+    ∙ (ap (λ o. mapped (λ w. inr w) o) (skipped (Then (One (Keyword j)) y) (Then (One (Keyword k)) z) text _ (rw b refl))
     ∙ ap (λ o. mapped (λ w. inr w) (mapped (λ w. inr w) o)) (key_missed k z text _ c))
 
 common_short : (k text : List ℕ) → common k text ≤ length text
@@ -188,14 +188,14 @@ upper_short : (text : List ℕ) → length (map upper text) ≡ length text
 upper_short [] = refl
 upper_short (b ∷ text) = let h = upper_short text in omega arith
 
-near_key : (k text : List ℕ) → begins_blank text ≡ false → near (Key k) text ≡ common k (map upper text)
+near_key : (k text : List ℕ) → begins_blank text ≡ false → near (Keyword k) text ≡ common k (map upper text)
 near_key k [] h = let e : 0 + common k [] ≡ common k [] = omega arith in e
 near_key k (b ∷ text) h = rw h (omega arith)
 
-near_short : (k text : List ℕ) → begins_blank text ≡ false → near (Key k) text ≤ length text
+near_short : (k text : List ℕ) → begins_blank text ≡ false → near (Keyword k) text ≤ length text
 near_short k text h = let a = common_short k (map upper text) in let b = upper_short text in let e = near_key k text h in omega arith
 
-fit_is : (k text : List ℕ) → begins_blank text ≡ false → fit (Key k) text ≡ with_rest (after_run is_word text) (when {A = Unit {0}} (same_bytes (map upper (run_of is_word text)) k) tt)
+fit_is : (k text : List ℕ) → begins_blank text ≡ false → fit (Keyword k) text ≡ with_rest (after_run is_word text) (when {A = Unit {0}} (same_bytes (map upper (run_of is_word text)) k) tt)
 fit_is k [] h = refl
 fit_is k (b ∷ text) h = rw h refl
 
@@ -203,14 +203,14 @@ far_of_three : (len a b c : ℕ) → a ≤ len → b ≤ len → c ≤ len → l
 far_of_three len a b c h i j = omega arith
 
 -- none of the keywords stands there
-missed : (text : Bytes) → begins_blank text ≡ false → fit (Key (codes "CREATE")) text ≡ None → fit (Key (codes "DROP")) text ≡ None → fit (Key (codes "ALTER")) text ≡ None
+missed : (text : Bytes) → begins_blank text ≡ false → fit (Keyword (codes "CREATE")) text ≡ None → fit (Keyword (codes "DROP")) text ≡ None → fit (Keyword (codes "ALTER")) text ≡ None
     → whole g.statement g.semicolon text ≡ Err (keyword_front text)
 missed text h a b c =
-    let front : length text - min (min (min (length text) (length text - near (Key (codes "CREATE")) text)) (length text - near (Key (codes "DROP")) text)) (length text - near (Key (codes "ALTER")) text) ≡ keyword_front text =
-    far_of_three (length text) (near (Key (codes "CREATE")) text) (near (Key (codes "DROP")) text) (near (Key (codes "ALTER")) text)
+    let front : length text - min (min (min (length text) (length text - near (Keyword (codes "CREATE")) text)) (length text - near (Keyword (codes "DROP")) text)) (length text - near (Keyword (codes "ALTER")) text) ≡ keyword_front text =
+    far_of_three (length text) (near (Keyword (codes "CREATE")) text) (near (Keyword (codes "DROP")) text) (near (Keyword (codes "ALTER")) text)
     (near_short (codes "CREATE") text h) (near_short (codes "DROP") text h) (near_short (codes "ALTER") text h)
-    ∙ ap (λ n. max n (max (near (Key (codes "DROP")) text) (near (Key (codes "ALTER")) text))) (near_key (codes "CREATE") text h)
-    ∙ ap (λ n. max (common (codes "CREATE") (map upper text)) (max n (near (Key (codes "ALTER")) text))) (near_key (codes "DROP") text h)
+    ∙ ap (λ n. max n (max (near (Keyword (codes "DROP")) text) (near (Keyword (codes "ALTER")) text))) (near_key (codes "CREATE") text h)
+    ∙ ap (λ n. max (common (codes "CREATE") (map upper text)) (max n (near (Keyword (codes "ALTER")) text))) (near_key (codes "DROP") text h)
     ∙ ap (λ n. max (common (codes "CREATE") (map upper text)) (max (common (codes "DROP") (map upper text)) n)) (near_key (codes "ALTER") text h) in
     ap (λ o. finish g.semicolon (length text) o) (none_of_three (codes "CREATE") (codes "DROP") (codes "ALTER")
     (Either g.create_disk g.create_group) g.drop_group (Then (g.key (codes "DISKGROUP")) (Then g.name g.clause)) text (length text) a b c)
@@ -297,12 +297,12 @@ not_d b h = elim (is_true_or_false (68 == upper b)) [
 ]
 
 -- behind such a keyword no word of D or d begins
-nothing_near : (k rest : List ℕ) → GoesOn rest → begins_blank rest ≡ false × (near (Key (68 ∷ k)) rest ≡ 0) × (fit (Key (68 ∷ k)) rest ≡ None)
+nothing_near : (k rest : List ℕ) → GoesOn rest → begins_blank rest ≡ false × (near (Keyword (68 ∷ k)) rest ≡ 0) × (fit (Keyword (68 ∷ k)) rest ≡ None)
 nothing_near k rest goes = subst P (sym goes.is) (here goes.byte goes.others (first_blank goes.byte goes.first) goes.no_word) where
   P : List ℕ → Type 0
-  P r = begins_blank r ≡ false × (near (Key (68 ∷ k)) r ≡ 0) × (fit (Key (68 ∷ k)) r ≡ None)
+  P r = begins_blank r ≡ false × (near (Keyword (68 ∷ k)) r ≡ 0) × (fit (Keyword (68 ∷ k)) r ≡ None)
 
-  here : (b : ℕ) (others : List ℕ) → is_blank b ≡ false → is_word b ≡ false → begins_blank (b ∷ others) ≡ false × (near (Key (68 ∷ k)) (b ∷ others) ≡ 0) × (fit (Key (68 ∷ k)) (b ∷ others) ≡ None)
+  here : (b : ℕ) (others : List ℕ) → is_blank b ≡ false → is_word b ≡ false → begins_blank (b ∷ others) ≡ false × (near (Keyword (68 ∷ k)) (b ∷ others) ≡ 0) × (fit (Keyword (68 ∷ k)) (b ∷ others) ≡ None)
   here b others x y = (x, near_key (68 ∷ k) (b ∷ others) x ∙ rw (not_d b y) refl, fit_is (68 ∷ k) (b ∷ others) x ∙ rw y refl)
 
 run_and_rest : (text : List ℕ) → length text ≡ length (run_of is_word text) + length (after_run is_word text)
@@ -319,51 +319,51 @@ run_length : (text k : List ℕ) → map upper (run_of is_word text) ≡ k → l
 run_length text k e = sym (upper_short (run_of is_word text)) ∙ ap (λ z. length z) e
 
 -- whether a keyword stands there, where the run of a name's bytes is another
-fit_at : (j k text : List ℕ) → begins_blank text ≡ false → map upper (run_of is_word text) ≡ k → fit (Key j) text ≡ with_rest (after_run is_word text) (when {A = Unit {0}} (same_bytes k j) tt)
+fit_at : (j k text : List ℕ) → begins_blank text ≡ false → map upper (run_of is_word text) ≡ k → fit (Keyword j) text ≡ with_rest (after_run is_word text) (when {A = Unit {0}} (same_bytes k j) tt)
 fit_at j k text h e = fit_is j text h ∙ ap (λ z. with_rest (after_run is_word text) (when {A = Unit {0}} (same_bytes z j) tt)) e
 
-near_at : (j k text : List ℕ) → begins_blank text ≡ false → map upper (run_of is_word text) ≡ k → near (Key j) text ≡ common j (k ++ map upper (after_run is_word text))
+near_at : (j k text : List ℕ) → begins_blank text ≡ false → map upper (run_of is_word text) ≡ k → near (Keyword j) text ≡ common j (k ++ map upper (after_run is_word text))
 near_at j k text h e = near_key j text h ∙ ap (λ z. common j z) (uppers_are text k e)
 
 -- CREATE, and then neither DISK nor DISKGROUP
-after_create : (x y b : Syntax) (text : List ℕ) (left : ℕ) (rest : List ℕ) → fit (Key (codes "CREATE")) text ≡ Some (tt, rest) → GoesOn rest → length rest ≤ left
-    → (last : Word) (len : ℕ) → finish last len (parse (Either (Then (One (Key (codes "CREATE"))) (Either (Then (One (Key (codes "DISK"))) x) (Then (One (Key (codes "DISKGROUP"))) y))) b) text left) ≡ Err (len - length rest)
+after_create : (x y b : SyntaxRule) (text : List ℕ) (left : ℕ) (rest : List ℕ) → fit (Keyword (codes "CREATE")) text ≡ Some (tt, rest) → GoesOn rest → length rest ≤ left
+    → (last : Word) (len : ℕ) → finish last len (parse (Either (Then (One (Keyword (codes "CREATE"))) (Either (Then (One (Keyword (codes "DISK"))) x) (Then (One (Keyword (codes "DISKGROUP"))) y))) b) text left) ≡ Err (len - length rest)
 after_create x y b text left rest e goes h last len =
     let disk = nothing_near (codes "ISK") rest goes in
     let group = nothing_near (codes "ISKGROUP") rest goes in
-    let inner : parse (Either (Then (One (Key (codes "DISK"))) x) (Then (One (Key (codes "DISKGROUP"))) y)) rest left ≡ Failed (min (min left (length rest - near (Key (codes "DISK")) rest)) (length rest - near (Key (codes "DISKGROUP")) rest)) =
-    skipped (Then (One (Key (codes "DISK"))) x) (Then (One (Key (codes "DISKGROUP"))) y) rest left (rw disk.2 refl) ∙ ap (λ o. mapped (λ w. inr w) o) (key_missed (codes "DISKGROUP") y rest _ group.2) in
-    let size : min (min left (length rest - near (Key (codes "DISK")) rest)) (length rest - near (Key (codes "DISKGROUP")) rest) ≡ length rest = let p = disk.1 in let q = group.1 in omega arith in
-    ap (λ o. finish last len o) (chosen (Then (One (Key (codes "CREATE"))) (Either (Then (One (Key (codes "DISK"))) x) (Then (One (Key (codes "DISKGROUP"))) y))) b text left (rw e refl)
-    ∙ ap (λ o. mapped (λ w. inl w) o) (key_taken (codes "CREATE") (Either (Then (One (Key (codes "DISK"))) x) (Then (One (Key (codes "DISKGROUP"))) y)) text rest left e ∙ ap (λ o. mapped (λ w. (tt, w)) o) inner))
+    let inner : parse (Either (Then (One (Keyword (codes "DISK"))) x) (Then (One (Keyword (codes "DISKGROUP"))) y)) rest left ≡ Failed (min (min left (length rest - near (Keyword (codes "DISK")) rest)) (length rest - near (Keyword (codes "DISKGROUP")) rest)) =
+    skipped (Then (One (Keyword (codes "DISK"))) x) (Then (One (Keyword (codes "DISKGROUP"))) y) rest left (rw disk.2 refl) ∙ ap (λ o. mapped (λ w. inr w) o) (key_missed (codes "DISKGROUP") y rest _ group.2) in
+    let size : min (min left (length rest - near (Keyword (codes "DISK")) rest)) (length rest - near (Keyword (codes "DISKGROUP")) rest) ≡ length rest = let p = disk.1 in let q = group.1 in omega arith in
+    ap (λ o. finish last len o) (chosen (Then (One (Keyword (codes "CREATE"))) (Either (Then (One (Keyword (codes "DISK"))) x) (Then (One (Keyword (codes "DISKGROUP"))) y))) b text left (rw e refl)
+    ∙ ap (λ o. mapped (λ w. inl w) o) (key_taken (codes "CREATE") (Either (Then (One (Keyword (codes "DISK"))) x) (Then (One (Keyword (codes "DISKGROUP"))) y)) text rest left e ∙ ap (λ o. mapped (λ w. (tt, w)) o) inner))
     ∙ ap (λ n. Err (len - n)) size
 
 -- DROP, and then not DISKGROUP
-after_drop : (a x b : Syntax) (text : List ℕ) (left : ℕ) (rest : List ℕ) → fit (Key (codes "CREATE")) text ≡ None → fit (Key (codes "DROP")) text ≡ Some (tt, rest) → GoesOn rest
-    → length rest ≤ min left (length text - near (Key (codes "CREATE")) text) → (last : Word) (len : ℕ)
-    → finish last len (parse (Either (Then (One (Key (codes "CREATE"))) a) (Either (Then (One (Key (codes "DROP"))) (Then (One (Key (codes "DISKGROUP"))) x)) b)) text left) ≡ Err (len - length rest)
+after_drop : (a x b : SyntaxRule) (text : List ℕ) (left : ℕ) (rest : List ℕ) → fit (Keyword (codes "CREATE")) text ≡ None → fit (Keyword (codes "DROP")) text ≡ Some (tt, rest) → GoesOn rest
+    → length rest ≤ min left (length text - near (Keyword (codes "CREATE")) text) → (last : Word) (len : ℕ)
+    → finish last len (parse (Either (Then (One (Keyword (codes "CREATE"))) a) (Either (Then (One (Keyword (codes "DROP"))) (Then (One (Keyword (codes "DISKGROUP"))) x)) b)) text left) ≡ Err (len - length rest)
 after_drop a x b text left rest n e goes h last len =
     let group = nothing_near (codes "ISKGROUP") rest goes in
-    let left1 = min left (length text - near (Key (codes "CREATE")) text) in
-    let size : min left1 (length rest - near (Key (codes "DISKGROUP")) rest) ≡ length rest = let q = group.1 in omega arith in
-    ap (λ o. finish last len o) (skipped (Then (One (Key (codes "CREATE"))) a) (Either (Then (One (Key (codes "DROP"))) (Then (One (Key (codes "DISKGROUP"))) x)) b) text left (rw n refl)
-    ∙ ap (λ o. mapped (λ w. inr w) o) (chosen (Then (One (Key (codes "DROP"))) (Then (One (Key (codes "DISKGROUP"))) x)) b text left1 (rw e refl)
-    ∙ ap (λ o. mapped (λ w. inl w) o) (key_taken (codes "DROP") (Then (One (Key (codes "DISKGROUP"))) x) text rest left1 e ∙ ap (λ o. mapped (λ w. (tt, w)) o) (key_missed (codes "DISKGROUP") x rest left1 group.2))))
+    let left1 = min left (length text - near (Keyword (codes "CREATE")) text) in
+    let size : min left1 (length rest - near (Keyword (codes "DISKGROUP")) rest) ≡ length rest = let q = group.1 in omega arith in
+    ap (λ o. finish last len o) (skipped (Then (One (Keyword (codes "CREATE"))) a) (Either (Then (One (Keyword (codes "DROP"))) (Then (One (Keyword (codes "DISKGROUP"))) x)) b) text left (rw n refl)
+    ∙ ap (λ o. mapped (λ w. inr w) o) (chosen (Then (One (Keyword (codes "DROP"))) (Then (One (Keyword (codes "DISKGROUP"))) x)) b text left1 (rw e refl)
+    ∙ ap (λ o. mapped (λ w. inl w) o) (key_taken (codes "DROP") (Then (One (Keyword (codes "DISKGROUP"))) x) text rest left1 e ∙ ap (λ o. mapped (λ w. (tt, w)) o) (key_missed (codes "DISKGROUP") x rest left1 group.2))))
     ∙ ap (λ n. Err (len - n)) size
 
 -- ALTER, and then not DISKGROUP
-after_alter : (a b x : Syntax) (text : List ℕ) (left : ℕ) (rest : List ℕ) → fit (Key (codes "CREATE")) text ≡ None → fit (Key (codes "DROP")) text ≡ None
-    → fit (Key (codes "ALTER")) text ≡ Some (tt, rest) → GoesOn rest
-    → length rest ≤ min (min left (length text - near (Key (codes "CREATE")) text)) (length text - near (Key (codes "DROP")) text) → (last : Word) (len : ℕ)
-    → finish last len (parse (Either (Then (One (Key (codes "CREATE"))) a) (Either (Then (One (Key (codes "DROP"))) b) (Then (One (Key (codes "ALTER"))) (Then (One (Key (codes "DISKGROUP"))) x)))) text left) ≡ Err (len - length rest)
+after_alter : (a b x : SyntaxRule) (text : List ℕ) (left : ℕ) (rest : List ℕ) → fit (Keyword (codes "CREATE")) text ≡ None → fit (Keyword (codes "DROP")) text ≡ None
+    → fit (Keyword (codes "ALTER")) text ≡ Some (tt, rest) → GoesOn rest
+    → length rest ≤ min (min left (length text - near (Keyword (codes "CREATE")) text)) (length text - near (Keyword (codes "DROP")) text) → (last : Word) (len : ℕ)
+    → finish last len (parse (Either (Then (One (Keyword (codes "CREATE"))) a) (Either (Then (One (Keyword (codes "DROP"))) b) (Then (One (Keyword (codes "ALTER"))) (Then (One (Keyword (codes "DISKGROUP"))) x)))) text left) ≡ Err (len - length rest)
 after_alter a b x text left rest n m e goes h last len =
     let group = nothing_near (codes "ISKGROUP") rest goes in
-    let left1 = min left (length text - near (Key (codes "CREATE")) text) in
-    let left2 = min left1 (length text - near (Key (codes "DROP")) text) in
-    let size : min left2 (length rest - near (Key (codes "DISKGROUP")) rest) ≡ length rest = let q = group.1 in omega arith in
-    ap (λ o. finish last len o) (skipped (Then (One (Key (codes "CREATE"))) a) (Either (Then (One (Key (codes "DROP"))) b) (Then (One (Key (codes "ALTER"))) (Then (One (Key (codes "DISKGROUP"))) x))) text left (rw n refl)
-    ∙ ap (λ o. mapped (λ w. inr w) o) (skipped (Then (One (Key (codes "DROP"))) b) (Then (One (Key (codes "ALTER"))) (Then (One (Key (codes "DISKGROUP"))) x)) text left1 (rw m refl)
-    ∙ ap (λ o. mapped (λ w. inr w) o) (key_taken (codes "ALTER") (Then (One (Key (codes "DISKGROUP"))) x) text rest left2 e ∙ ap (λ o. mapped (λ w. (tt, w)) o) (key_missed (codes "DISKGROUP") x rest left2 group.2))))
+    let left1 = min left (length text - near (Keyword (codes "CREATE")) text) in
+    let left2 = min left1 (length text - near (Keyword (codes "DROP")) text) in
+    let size : min left2 (length rest - near (Keyword (codes "DISKGROUP")) rest) ≡ length rest = let q = group.1 in omega arith in
+    ap (λ o. finish last len o) (skipped (Then (One (Keyword (codes "CREATE"))) a) (Either (Then (One (Keyword (codes "DROP"))) b) (Then (One (Keyword (codes "ALTER"))) (Then (One (Keyword (codes "DISKGROUP"))) x))) text left (rw n refl)
+    ∙ ap (λ o. mapped (λ w. inr w) o) (skipped (Then (One (Keyword (codes "DROP"))) b) (Then (One (Keyword (codes "ALTER"))) (Then (One (Keyword (codes "DISKGROUP"))) x)) text left1 (rw m refl)
+    ∙ ap (λ o. mapped (λ w. inr w) o) (key_taken (codes "ALTER") (Then (One (Keyword (codes "DISKGROUP"))) x) text rest left2 e ∙ ap (λ o. mapped (λ w. (tt, w)) o) (key_missed (codes "DISKGROUP") x rest left2 group.2))))
     ∙ ap (λ n. Err (len - n)) size
 
 -- where the front of the keywords ends
@@ -379,13 +379,13 @@ front_at text k n e size h =
     m ∙ front
 
 -- the rows behind DISK, DISKGROUP and again DISKGROUP
-abbrev disk_rest : Syntax
+abbrev disk_rest : SyntaxRule
 disk_rest = Then g.path (Then (g.key (codes "SIZE")) g.size)
 
-abbrev group_rest : Syntax
+abbrev group_rest : SyntaxRule
 group_rest = Then g.name (Then (Maybe (Then g.kind (g.key (codes "REDUNDANCY")))) (Then g.failgroups (Maybe (Then (g.key (codes "ATTRIBUTE")) (g.listed g.attribute)))))
 
-abbrev end_rest : Syntax
+abbrev end_rest : SyntaxRule
 end_rest = Then g.name (Maybe (Then (Either (g.key (codes "INCLUDING")) (g.key (codes "EXCLUDING"))) (g.key (codes "CONTENTS"))))
 
 front_by : (text : Bytes) → begins_blank text ≡ false → (is_keyword (take_while is_first_word_byte text) (codes "CREATE") ≡ true → ⊥)
@@ -413,7 +413,7 @@ front_by text h no_create no_alter no_drop =
     dropped : map upper (run_of is_word text) ≡ codes "DROP" → whole g.statement g.semicolon text ≡ Err (keyword_front text)
     dropped e =
         let s = run_and_rest text in
-        let n : near (Key (codes "CREATE")) text ≡ 0 = near_at (codes "CREATE") (codes "DROP") text h e in
+        let n : near (Keyword (codes "CREATE")) text ≡ 0 = near_at (codes "CREATE") (codes "DROP") text h e in
         after_drop (Either g.create_disk g.create_group) end_rest (Then (g.key (codes "ALTER")) (Then (g.key (codes "DISKGROUP")) (Then g.name g.clause))) text (length text) (after_run is_word text)
         (fit_at (codes "CREATE") (codes "DROP") text h e) (fit_at (codes "DROP") (codes "DROP") text h e) (keyword_goes_on text (codes "DROP") e no_drop) (omega arith) g.semicolon (length text)
         ∙ ap (λ n. Err n) (front_at text (codes "DROP") 4 e refl (λ t. refl))
@@ -421,8 +421,8 @@ front_by text h no_create no_alter no_drop =
     altered : map upper (run_of is_word text) ≡ codes "ALTER" → whole g.statement g.semicolon text ≡ Err (keyword_front text)
     altered e =
         let s = run_and_rest text in
-        let n : near (Key (codes "CREATE")) text ≡ 0 = near_at (codes "CREATE") (codes "ALTER") text h e in
-        let m : near (Key (codes "DROP")) text ≡ 0 = near_at (codes "DROP") (codes "ALTER") text h e in
+        let n : near (Keyword (codes "CREATE")) text ≡ 0 = near_at (codes "CREATE") (codes "ALTER") text h e in
+        let m : near (Keyword (codes "DROP")) text ≡ 0 = near_at (codes "DROP") (codes "ALTER") text h e in
         after_alter (Either g.create_disk g.create_group) g.drop_group (Then g.name g.clause) text (length text) (after_run is_word text)
         (fit_at (codes "CREATE") (codes "ALTER") text h e) (fit_at (codes "DROP") (codes "ALTER") text h e) (fit_at (codes "ALTER") (codes "ALTER") text h e) (keyword_goes_on text (codes "ALTER") e no_alter) (omega arith) g.semicolon (length text)
         ∙ ap (λ n. Err n) (front_at text (codes "ALTER") 5 e refl (λ t. refl))

@@ -8,8 +8,8 @@ use Rattle.asm_group.specs.Names.{Bytes}
 use Rattle.asm_group.specs.Refusal as r
 use Rattle.asm_world.specs.Language.{command_of}
 use Rattle.asm_world.specs.Reply.{Event, Moved, Rebalanced, OutOfSpace, LostExtent, MovesLeft, Finished, MoveFault, MoveEnds}
-use Rattle.asm_world.specs.Run.{State, Phase, Resting, Expiring, Slicing, Stopped, Slice, Expiry, DueSlice, Move, Starts, Expires, Answers, Slices, Rests, Stops, Does, IsMove, IsExpiry, IsDueSlice, next_expiry, next_slice}
-use Rattle.asm_world.specs.RunRows.{untold, Never, RunRows, WaitsAreOwed, IncarnationRows, at_rest, started, dropped, answered, resynced, moved, all_moved, standing_at, answers, expires, resyncs, moves, moves_logs, data_name, logs_name}
+use Rattle.asm_world.specs.Run.{State, Phase, Resting, Expiring, Slicing, Stopped, Slice, Expiry, DueSlice, SessionMove, Starts, Expires, Answers, Slices, Rests, Stops, Does, IsMove, IsExpiry, IsDueSlice, next_expiry, next_slice}
+use Rattle.asm_world.specs.RunRows.{untold_outside, Never, RunRows, WaitsAreOwed, IncarnationRows, at_rest, started, dropped, answered, resynced, moved, all_moved, standing_at, answers, expires, resyncs, moves, moves_logs, data_name, logs_name}
 use Rattle.asm_world.specs.Text.{event_line}
 use Rattle.asm_world.specs.Causes.{session_causes}
 use Rattle.asm_world.specs.Waits.{EndsBy, printed_name}
@@ -40,7 +40,7 @@ none-some x e = absurd cc
 
 -- ---- moves that come
 
-pub one_move : (s : State (Unit {0})) (move : Move) (t : State (Unit {0})) → s.calls ≤ t.calls → Does command_of s move t → IsMove untold s move t
+pub one_move : (s : State (Unit {0})) (move : SessionMove) (t : State (Unit {0})) → s.calls ≤ t.calls → Does command_of s move t → IsMove untold_outside s move t
 one_move s move t calls does = record {
   does = does;
   caused = tt;
@@ -85,7 +85,7 @@ other_bytes : (x y : Bytes) → bytes_eq x x ≡ true → bytes_eq x y ≡ false
 other_bytes x y is isn't same = false≢true (sym isn't ∙ ap (λ (z : Bytes). bytes_eq x z) (sym same) ∙ is)
 
 -- nothing comes after the end
-pub nothing_after : (move : Move) → Never (standing_at None 7 Stopped) move
+pub nothing_after : (move : SessionMove) → Never (standing_at None 7 Stopped) move
 nothing_after (Starts time) t d = let e : 3 ≡ 0 = ap kind_of d.before in absurd (omega (arith, e))
 nothing_after (Expires event) t d = let e : 3 ≡ 1 = ap kind_of d.before in absurd (omega (arith, e))
 nothing_after (Answers found text reply) t d = let e : 3 ≡ 1 = ap kind_of d.before in absurd (omega (arith, e))

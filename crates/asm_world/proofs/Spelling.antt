@@ -3,9 +3,9 @@ use Rattle.std.proofs.Common.{◌≡◌, ℕ, ◌+◌, ◌-◌, ◌*◌, ◌^◌
 use Rattle.std.specs.Prelude.{◌==◌}
 use Rattle.std.proofs.lemmas.Bool.{ltb-true}
 use Rattle.std.specs.List.{list_all, flat_map}
-use Rattle.asm_grammar.specs.Bytes.{is_blank, is_word, is_digit, run_of, after_run}
-use Rattle.asm_grammar.specs.Word.{Word, Key, Mark, Name, Number, Size, Minutes, Quoted, Argument, End, Meaning, when, below, gap, fit_here, number_of, digits_of, digits_after, size_of, size_after, minutes_in, begins_word, in_minutes, is_name, to_quote, behind}
-use Rattle.asm_grammar.specs.Syntax.{Syntax, One, Then, Either, Maybe, Many, Value, Has, HasAll}
+use Rattle.asm_grammar.specs.Bytes.{is_blank, is_word, is_digit_byte, run_of, after_run}
+use Rattle.asm_grammar.specs.Word.{Word, Keyword, Mark, Name, Number, Size, Minutes, Quoted, Argument, End, Meaning, when, below, gap, fit_here, number_of_text, digits_of, digits_after, size_of_text, size_after, minutes_in, begins_word, in_minutes, is_name_word, to_quote, with_byte_before}
+use Rattle.asm_grammar.specs.Syntax.{SyntaxRule, One, Then, Either, Maybe, Many, Value, Has, HasAll}
 use Rattle.asm_grammar.specs.Writing.{Piece, pieces, is_capital, Spells, AllSpell}
 use Rattle.asm_grammar.proofs.Consumes.{taken, when_true, some_pair}
 use Rattle.asm_grammar.proofs.Tests.{both, both_true, is_true_or_false}
@@ -15,7 +15,7 @@ abbrev pub SpellsAll : {A : Type 0} → (A → Type 0) → List A → Type 0
 SpellsAll P [] = Unit {0}
 SpellsAll P (v ∷ vs) = P v × SpellsAll P vs
 
-abbrev pub SpellsIn : (g : Syntax) → Value g → Type 0
+abbrev pub SpellsIn : (g : SyntaxRule) → Value g → Type 0
 SpellsIn (One w) v = Spells w v
 SpellsIn (Then a b) (v, w) = SpellsIn a v × SpellsIn b w
 SpellsIn (Either a b) (inl v) = SpellsIn a v
@@ -32,7 +32,7 @@ all_flat : {A : Type 0} (f : A → List Piece) (P : A → Type 0) → ((v : A) �
 all_flat f P h [] a = tt
 all_flat f P h (v ∷ vs) a = all_append (f v) (flat_map f vs) (h v a.0) (all_flat f P h vs a.1)
 
-pub spells_pieces : (g : Syntax) (v : Value g) → SpellsIn g v → AllSpell (pieces g v)
+pub spells_pieces : (g : SyntaxRule) (v : Value g) → SpellsIn g v → AllSpell (pieces g v)
 spells_pieces (One w) v a = (a, tt)
 spells_pieces (Then x y) (v, w) a = all_append (pieces x v) (pieces y w) (spells_pieces x v a.0) (spells_pieces y w a.1)
 spells_pieces (Either x y) (inl v) a = spells_pieces x v a
@@ -45,13 +45,13 @@ spells_pieces (Many x) vs a = all_flat (λ v. pieces x v) (λ v. SpellsIn x v) (
 
 -- words of statements, and marks that are no blanks and begin no word
 abbrev pub word_ok : Word → Bool
-word_ok (Key k) = not (length k == 0) && list_all is_capital k
+word_ok (Keyword k) = not (length k == 0) && list_all is_capital k
 word_ok (Mark m) = not (is_blank m) && not (is_word m)
 word_ok (Argument k) = false
 word_ok End = false
 word_ok other = true
 
-abbrev pub words_ok : Syntax → Bool
+abbrev pub words_ok : SyntaxRule → Bool
 words_ok (One w) = word_ok w
 words_ok (Then a b) = words_ok a && words_ok b
 words_ok (Either a b) = words_ok a && words_ok b
@@ -72,13 +72,13 @@ below_less limit (Some n) v e = elim (is_true_or_false (nat_lt n limit)) [
   | inr x ↦ absurd (let f = rw x at e in cc)
 ]
 
-number_less : (run : List ℕ) (v : ℕ) → number_of run ≡ Some v → v < 2 ^ 64
+number_less : (run : List ℕ) (v : ℕ) → number_of_text run ≡ Some v → v < 2 ^ 64
 number_less [] v e = cc
 number_less (b ∷ run) v e = below_less (2 ^ 64) (digits_after 0 (b ∷ run)) v e
 
-size_less : (run : List ℕ) (v : ℕ) → size_of run ≡ Some v → v < 2 ^ 64
+size_less : (run : List ℕ) (v : ℕ) → size_of_text run ≡ Some v → v < 2 ^ 64
 size_less [] v e = cc
-size_less (b ∷ run) v e = elim (is_true_or_false (is_digit b)) [
+size_less (b ∷ run) v e = elim (is_true_or_false (is_digit_byte b)) [
   | inl x ↦ below_less (2 ^ 64) (size_after (0 * 10 + (b - 48)) run) v (rw x at e)
   | inr x ↦ absurd (let f = rw x at e in cc)
 ]
@@ -101,21 +101,21 @@ quote_none (b ∷ text) v rest e = elim (is_true_or_false (b == 39)) [
   nothing v rest text e = let q = some_pair e in subst (λ z. list_all (λ b. not (b == 39)) z ≡ true) q.0 refl
 
   further : (b : ℕ) (text : List ℕ) (o : Option (List ℕ × List ℕ)) (v rest : List ℕ) → (b == 39) ≡ false → ((u t : List ℕ) → o ≡ Some (u, t) → list_all (λ b. not (b == 39)) u ≡ true)
-      → behind b o ≡ Some (v, rest) → list_all (λ b. not (b == 39)) v ≡ true
+      → with_byte_before b o ≡ Some (v, rest) → list_all (λ b. not (b == 39)) v ≡ true
   further b text None v rest x h e = cc
   further b text (Some (u, t)) v rest x h e =
       let q = some_pair e in subst (λ z. list_all (λ b. not (b == 39)) z ≡ true) q.0 (rw x (h u t refl))
 
 fit_spells : (w : Word) (text : List ℕ) (v : Meaning w) (rest : List ℕ) → word_ok w ≡ true → fit_here w text ≡ Some (v, rest) → Spells w v
-fit_spells (Key k) text v rest ok e = ok
+fit_spells (Keyword k) text v rest ok e = ok
 fit_spells (Mark m) text v rest ok e = ok
 fit_spells Name text v rest ok e =
-    let t = taken (after_run is_word text) (when (is_name (run_of is_word text)) (run_of is_word text)) v rest e in
-    let w = when_true (is_name (run_of is_word text)) (run_of is_word text) v t.0 in
-    subst (λ z. (is_name z && list_all is_word z) ≡ true) w.1 (both_true (is_name (run_of is_word text)) (list_all is_word (run_of is_word text)) w.0 (run_all is_word text))
-fit_spells Number text v rest ok e = number_less (run_of is_word text) v (taken (after_run is_word text) (number_of (run_of is_word text)) v rest e).0
-fit_spells Size text v rest ok e = size_less (run_of is_word text) v (taken (after_run is_word text) (size_of (run_of is_word text)) v rest e).0
-fit_spells Minutes text v rest ok e = minutes_less (digits_of (run_of is_digit text)) (after_run is_blank (after_run is_digit text)) v rest e
+    let t = taken (after_run is_word text) (when (is_name_word (run_of is_word text)) (run_of is_word text)) v rest e in
+    let w = when_true (is_name_word (run_of is_word text)) (run_of is_word text) v t.0 in
+    subst (λ z. (is_name_word z && list_all is_word z) ≡ true) w.1 (both_true (is_name_word (run_of is_word text)) (list_all is_word (run_of is_word text)) w.0 (run_all is_word text))
+fit_spells Number text v rest ok e = number_less (run_of is_word text) v (taken (after_run is_word text) (number_of_text (run_of is_word text)) v rest e).0
+fit_spells Size text v rest ok e = size_less (run_of is_word text) v (taken (after_run is_word text) (size_of_text (run_of is_word text)) v rest e).0
+fit_spells Minutes text v rest ok e = minutes_less (digits_of (run_of is_digit_byte text)) (after_run is_blank (after_run is_digit_byte text)) v rest e
 fit_spells Quoted [] v rest ok e = cc
 fit_spells Quoted (b ∷ text) v rest ok e = elim (is_true_or_false (b == 39)) [ inl x ↦ quote_none text v rest (rw x at e) | inr x ↦ absurd (let f = rw x at e in cc) ]
 fit_spells (Argument k) text v rest ok e = cc
@@ -126,7 +126,7 @@ all_have : {A : Type 0} (has : A → List ℕ → List ℕ → Type 0) (P : A �
 all_have has P h [] text rest a = tt
 all_have has P h (v ∷ vs) text rest a = (h v text a.0 a.1, all_have has P h vs a.0 rest a.2)
 
-pub has_spells : (g : Syntax) → words_ok g ≡ true → (v : Value g) (text rest : List ℕ) → Has g v text rest → SpellsIn g v
+pub has_spells : (g : SyntaxRule) → words_ok g ≡ true → (v : Value g) (text rest : List ℕ) → Has g v text rest → SpellsIn g v
 has_spells (One w) ok v text rest h = fit_spells w (after_run (gap w) text) v rest ok h
 has_spells (Then a b) ok (v, w) text rest h = let p = both (words_ok a) (words_ok b) ok in (has_spells a p.0 v text h.0 h.1, has_spells b p.1 w h.0 rest h.2)
 has_spells (Either a b) ok (inl v) text rest h = has_spells a (both (words_ok a) (words_ok b) ok).0 v text rest h

@@ -14,9 +14,9 @@ use Rattle.asm_group.specs.declared.GroupKind.TheVariants as kind
 use Rattle.asm_group.specs.declared.Stripe.{Stripe}
 use Rattle.asm_group.specs.declared.Stripe.TheVariants as stripe
 use Rattle.asm_world.specs.Grammar as g
-use Rattle.asm_world.specs.Meaning.{Says, statement_of, clause_of, is_said, words_of, redundancy_of, stripe_of, after_of, behind, dropped_of, rebalance_of, group_word_of, disk_of, is_quorum, failgroup_of, failgroups_of, kind_of, attribute_of, attributes_of}
+use Rattle.asm_world.specs.Meaning.{Says, statement_of, clause_of, is_said, words_of, redundancy_of, stripe_of, after_of, behind, dropped_of, rebalance_of, group_word_of, new_disk_of, is_quorum, failgroup_of, failgroups_of, kind_of, attribute_of, attributes_of}
 use Rattle.asm_world.specs.Statement as s
-use Rattle.asm_world.specs.Writing.{statement_value, statement_text, clause_value, after_value, words_value, redundancy_value, stripe_value, said, after_word, group_word_value, dropped_value, rebalance_value, maybe_rebalance, disk_value, quorum_value, failgroup_value, one_more, failgroup_values, first_and_others, failgroups_value, kind_value, attribute_value, attributes_value}
+use Rattle.asm_world.specs.Writing.{statement_value, statement_text, clause_value, after_value, words_value, redundancy_value, stripe_value, forced_value, after_word, group_word_value, dropped_value, rebalance_value, maybe_rebalance, new_disk_value, quorum_value, failgroup_value, one_more, failgroup_values, first_and_others, failgroups_value, kind_value, attribute_value, attributes_value}
 
 pub one_statement : (text : List ℕ) (x y : s.Statement) → Says text x → Says text y → x ≡ y
 one_statement text x y a b =
@@ -28,7 +28,7 @@ refused text at e = longest_front g.statement 59 text at refl refl refl refl e
 
 -- VALUES SAY THEIR STATEMENTS
 
-said_is : (b : Bool) → is_said (said b) ≡ b
+said_is : (b : Bool) → is_said (forced_value b) ≡ b
 said_is true = refl
 said_is false = refl
 
@@ -46,7 +46,7 @@ dropped_is d = ap (λ b. record { name = d.name; force = b }) (said_is d.force)
 
 rebalance_is : (r : s.Rebalance) → rebalance_of (rebalance_value r) ≡ r
 rebalance_is r =
-    ap (λ p. record { power = p; wait = is_said (said r.wait) }) (behind_is r.power) ∙ ap (λ b. record { power = r.power; wait = b }) (said_is r.wait)
+    ap (λ p. record { power = p; wait = is_said (forced_value r.wait) }) (behind_is r.power) ∙ ap (λ b. record { power = r.power; wait = b }) (said_is r.wait)
 
 maybe_rebalance_is : (o : Option s.Rebalance) → option_map rebalance_of (maybe_rebalance o) ≡ o
 maybe_rebalance_is None = refl
@@ -98,10 +98,10 @@ made_of make means back says x (Some a) h k v e = from_some means (make a) v (sa
 
 -- FAILURE GROUPS
 
-disk_is : (d : s.NewDisk) → disk_of (disk_value d) ≡ d
+disk_is : (d : s.NewDisk) → new_disk_of (new_disk_value d) ≡ d
 disk_is d =
-    ap (λ n. record { path = d.path; name = n; size = behind (after_word d.size); force = is_said (said d.force) }) (behind_is d.name)
-    ∙ (ap (λ n. record { path = d.path; name = d.name; size = n; force = is_said (said d.force) }) (behind_is d.size)
+    ap (λ n. record { path = d.path; name = n; size = behind (after_word d.size); force = is_said (forced_value d.force) }) (behind_is d.name)
+    ∙ (ap (λ n. record { path = d.path; name = d.name; size = n; force = is_said (forced_value d.force) }) (behind_is d.size)
     ∙ ap (λ b. record { path = d.path; name = d.name; size = d.size; force = b }) (said_is d.force))
 
 quorum_is : (b : Bool) → is_quorum (quorum_value b) ≡ b
@@ -111,10 +111,10 @@ quorum_is false = refl
 failgroup_is : (f : s.NewFailgroup) (disks : List s.NewDisk) (v : Value g.failgroup) → failgroup_value f disks ≡ Some v → failgroup_of v ≡ record f { disks = disks }
 failgroup_is f [] v e = cc
 failgroup_is f (d ∷ disks) v e = from_some failgroup_of _ v (record f { disks = d ∷ disks }) e
-    (ap (λ b. record { quorum = b; name = behind (after_word f.name); disks = disk_of (disk_value d) ∷ map {A = Unit {0} × Value g.disk} (λ p. disk_of p.1) (map (λ o. (tt, o)) (map disk_value disks)) }) (quorum_is f.quorum)
-    ∙ (ap (λ n. record { quorum = f.quorum; name = n; disks = disk_of (disk_value d) ∷ map {A = Unit {0} × Value g.disk} (λ p. disk_of p.1) (map (λ o. (tt, o)) (map disk_value disks)) }) (behind_is f.name)
-    ∙ (ap (λ x. record { quorum = f.quorum; name = f.name; disks = x ∷ map {A = Unit {0} × Value g.disk} (λ p. disk_of p.1) (map (λ o. (tt, o)) (map disk_value disks)) }) (disk_is d)
-    ∙ ap (λ xs. record { quorum = f.quorum; name = f.name; disks = d ∷ xs }) (items_are disk_value disk_of disk_is disks))))
+    (ap (λ b. record { quorum = b; name = behind (after_word f.name); disks = new_disk_of (new_disk_value d) ∷ map {A = Unit {0} × Value g.disk} (λ p. new_disk_of p.1) (map (λ o. (tt, o)) (map new_disk_value disks)) }) (quorum_is f.quorum)
+    ∙ (ap (λ n. record { quorum = f.quorum; name = n; disks = new_disk_of (new_disk_value d) ∷ map {A = Unit {0} × Value g.disk} (λ p. new_disk_of p.1) (map (λ o. (tt, o)) (map new_disk_value disks)) }) (behind_is f.name)
+    ∙ (ap (λ x. record { quorum = f.quorum; name = f.name; disks = x ∷ map {A = Unit {0} × Value g.disk} (λ p. new_disk_of p.1) (map (λ o. (tt, o)) (map new_disk_value disks)) }) (disk_is d)
+    ∙ ap (λ xs. record { quorum = f.quorum; name = f.name; disks = d ∷ xs }) (items_are new_disk_value new_disk_of disk_is disks))))
 
 more_are : (f : s.NewFailgroup) (groups : List s.NewFailgroup) (o : Option (Value g.failgroup)) (others : Option (List (Value g.failgroup)))
     → ((v : Value g.failgroup) → o ≡ Some v → failgroup_of v ≡ f) → ((vs : List (Value g.failgroup)) → others ≡ Some vs → map failgroup_of vs ≡ groups)
@@ -159,7 +159,7 @@ clause_is (s.DropDisks (d ∷ ds) r) v e =
 clause_is (s.DropDisks [] r) v e = cc
 clause_is (s.DropFailgroup k n f r) v e =
     from_some clause_of _ v (s.DropFailgroup k n f r) e
-    (ap (λ z. s.DropFailgroup z n (is_said (said f)) (option_map rebalance_of (maybe_rebalance r))) (group_words_are k)
+    (ap (λ z. s.DropFailgroup z n (is_said (forced_value f)) (option_map rebalance_of (maybe_rebalance r))) (group_words_are k)
     ∙ (ap (λ z. s.DropFailgroup k n z (option_map rebalance_of (maybe_rebalance r))) (said_is f)
     ∙ ap (λ z. s.DropFailgroup k n f z) (maybe_rebalance_is r)))
 clause_is s.UndropDisks v e = from_some clause_of _ v s.UndropDisks e refl
@@ -182,9 +182,9 @@ clause_is (s.RenameDirectory old new) v e = from_some clause_of _ v (s.RenameDir
 clause_is (s.RenameAlias old new) v e = from_some clause_of _ v (s.RenameAlias old new) e refl
 clause_is (s.Online s.All wait) v e = from_some clause_of _ v (s.Online s.All wait) e (ap (λ z. s.Online s.All z) (said_is wait))
 clause_is (s.Online (s.Named (n ∷ ns)) wait) v e = from_some clause_of _ v (s.Online (s.Named (n ∷ ns)) wait) e
-    (ap (λ z. s.Online (s.Named (n ∷ z)) (is_said (said wait))) (names_are ns) ∙ ap (λ z. s.Online (s.Named (n ∷ ns)) z) (said_is wait))
+    (ap (λ z. s.Online (s.Named (n ∷ z)) (is_said (forced_value wait))) (names_are ns) ∙ ap (λ z. s.Online (s.Named (n ∷ ns)) z) (said_is wait))
 clause_is (s.Online (s.InFailgroup k n) wait) v e = from_some clause_of _ v (s.Online (s.InFailgroup k n) wait) e
-    (ap (λ z. s.Online (s.InFailgroup z n) (is_said (said wait))) (group_words_are k) ∙ ap (λ z. s.Online (s.InFailgroup k n) z) (said_is wait))
+    (ap (λ z. s.Online (s.InFailgroup z n) (is_said (forced_value wait))) (group_words_are k) ∙ ap (λ z. s.Online (s.InFailgroup k n) z) (said_is wait))
 clause_is (s.Offline (s.Named (n ∷ ns)) after) v e = from_some clause_of _ v (s.Offline (s.Named (n ∷ ns)) after) e
     (ap (λ z. s.Offline (s.Named (n ∷ z)) (after_of (after_value after))) (names_are ns) ∙ ap (λ z. s.Offline (s.Named (n ∷ ns)) z) (after_is after))
 clause_is (s.Offline (s.InFailgroup k n) after) v e = from_some clause_of _ v (s.Offline (s.InFailgroup k n) after) e

@@ -21,9 +21,9 @@ use Rattle.asm_world.specs.Statement as s
 use Rattle.asm_world.specs.Command as c
 use Rattle.asm_world.specs.Paths.{resolved, is_host_path, target_from}
 use Rattle.asm_world.specs.Reply.{Done}
-use Rattle.asm_world.specs.Step.{Changes, ChangesAt, Creates, Mounts, Drops, Edits, DropsFile, AddsAlias, GoesTo, MakesFile, Copies, DoneClause, DoneStatement, DoneVerb, Step, last_id}
+use Rattle.asm_world.specs.Step.{Changes, ChangesAt, Creates, MountsGroup, Drops, EditsTree, DropsFile, AddsAlias, GoesTo, MakesFile, Copies, DoneClause, DoneStatement, DoneVerb, Step, last_id}
 use Rattle.asm_world.specs.World.{World, SessionEntry, Mounted, entry_among, groups_of, with_group, without_entry, mounted_entry}
-use Rattle.asm_world.specs.WorldLaws.{IsIn, IsWhole}
+use Rattle.asm_world.specs.WorldLaws.{IsIn, IsWholeWorld}
 use Rattle.asm_world.proofs.EditLemmas.{ok_is}
 
 -- NAMES
@@ -116,7 +116,7 @@ record IsNew (new : World) (entry : SessionEntry) : Type 0 where
   alone : groups_of new entry.id ≡ group ∷ []
   named : is_same_name group.name entry.name ≡ true
 
-whole_from : (w new : World) → IsWhole w → ((entry : SessionEntry) → IsIn entry new.session → Stands w new entry ⊎ IsNew new entry) → IsWhole new
+whole_from : (w new : World) → IsWholeWorld w → ((entry : SessionEntry) → IsIn entry new.session → Stands w new entry ⊎ IsNew new entry) → IsWholeWorld new
 whole_from w new whole h = record {
   named = λ entry i g may. elim (h entry i) [ inl s ↦ named_old entry s g may | inr n ↦ named_new entry n g may ];
   some = λ entry i none. elim (h entry i) [ inl s ↦ some_old entry s none | inr n ↦ (let q : n.group ∷ [] ≡ [] = sym n.alone ∙ none in cc) ];
@@ -142,14 +142,14 @@ whole_from w new whole h = record {
 
 -- NAMES OF GROUPS
 
-changed_name : (g : Group) (edit : e.TreeEdit) → (e.changed g edit).name ≡ g.name
+changed_name : (g : Group) (edit : e.TreeEdit) → (e.changed_group g edit).name ≡ g.name
 changed_name g edit = refl
 
-edited_name : (g h : Group) (edit : e.TreeEdit) → e.edited g edit ≡ Ok h → h.name ≡ g.name
-edited_name g h edit k = ap (λ (x : Group). x.name) (sym (ok_is (e.first_cause (e.edit_causes g edit)) (e.changed g edit) h k).1) ∙ changed_name g edit
+edited_name : (g h : Group) (edit : e.TreeEdit) → e.edited_group g edit ≡ Ok h → h.name ≡ g.name
+edited_name g h edit k = ap (λ (x : Group). x.name) (sym (ok_is (e.first_cause (e.group_edit_causes g edit)) (e.changed_group g edit) h k).1) ∙ changed_name g edit
 
-templates_name : (g h : Group) (edit : t.TemplateEdit) → t.templates_edited g edit ≡ Ok h → h.name ≡ g.name
-templates_name g h edit k = ap (λ (x : Group). x.name) (sym (ok_is (e.first_cause (t.template_causes g edit)) (t.with_template_edit g edit) h k).1)
+templates_name : (g h : Group) (edit : t.TemplateEdit) → t.group_after_template_edit g edit ≡ Ok h → h.name ≡ g.name
+templates_name g h edit k = ap (λ (x : Group). x.name) (sym (ok_is (e.first_cause (t.group_template_causes g edit)) (t.group_with_template_edit g edit) h k).1)
 
 attributes_name : (g h : Group) (name : Bytes) (o : Option Attributes) → t.with_attributes g name o ≡ Ok h → h.name ≡ g.name
 attributes_name g h name None k = cc
@@ -157,42 +157,42 @@ attributes_name g h name (Some a) k = let q : record g { attributes = a } ≡ h 
 
 dropped_name : (g h : Group) (o : Option ℕ) → e.file_dropped g o ≡ Ok h → h.name ≡ g.name
 dropped_name g h None k = cc
-dropped_name g h (Some n) k = let q : e.without_file g n ≡ h = cc in ap (λ (x : Group). x.name) (sym q)
+dropped_name g h (Some n) k = let q : e.group_without_file g n ≡ h = cc in ap (λ (x : Group). x.name) (sym q)
 
 removed_name : (g h : Group) (path : Path) (o : Option ℕ) → e.removed g path o ≡ Ok h → h.name ≡ g.name
 removed_name g h path None k = edited_name g h (e.DropDir path) k
-removed_name g h path (Some n) k = let q : e.without_file g n ≡ h = cc in ap (λ (x : Group). x.name) (sym q)
+removed_name g h path (Some n) k = let q : e.group_without_file g n ≡ h = cc in ap (λ (x : Group). x.name) (sym q)
 
 cells_name : (g : Group) (o : Option ℕ) (file : Option File) (change : List Cell → List Cell) → (f.with_cells_of g o file change).name ≡ g.name
 cells_name g None file change = refl
 cells_name g (Some n) None change = refl
 cells_name g (Some n) (Some x) change = refl
 
-written_name : (g h : Group) (path : Path) (at : ℕ) (cells : List Cell) → f.written g path at cells ≡ Ok h → h.name ≡ g.name
+written_name : (g h : Group) (path : Path) (at : ℕ) (cells : List Cell) → f.group_after_write g path at cells ≡ Ok h → h.name ≡ g.name
 written_name g h path at cells k =
     ap (λ (x : Group). x.name) (sym (ok_is (e.first_cause (f.span_causes g path at (length cells))) (f.with_cells_at g path (λ old. f.with_cells old at cells)) h k).1)
-    ∙ cells_name g (e.file_at g path) (f.named_file g path) (λ old. f.with_cells old at cells)
+    ∙ cells_name g (e.group_file_at g path) (f.named_file g path) (λ old. f.with_cells old at cells)
 
 resized_name : (g h : Group) (path : Path) (size : ℕ) → f.resized g path size ≡ Ok h → h.name ≡ g.name
 resized_name g h path size k =
     ap (λ (x : Group). x.name) (sym (ok_is (e.first_cause (f.resize_causes g path size)) (f.with_cells_at g path (f.resized_cells size)) h k).1)
-    ∙ cells_name g (e.file_at g path) (f.named_file g path) (f.resized_cells size)
+    ∙ cells_name g (e.group_file_at g path) (f.named_file g path) (f.resized_cells size)
 
-dir_name : (g : Group) (path : Path) → (f.with_dir g path).name ≡ g.name
-dir_name g path = elim (is_true_or_false (e.is_there g path)) [ inl h ↦ rw h refl | inr h ↦ rw h refl ]
+dir_name : (g : Group) (path : Path) → (f.group_with_dir g path).name ≡ g.name
+dir_name g path = elim (is_true_or_false (e.group_has_path g path)) [ inl h ↦ rw h refl | inr h ↦ rw h refl ]
 
-made_name : (g : Group) (name : f.NewName) (n : ℕ) (file : File) → (f.with_file g name n file).name ≡ g.name
-made_name g name n file = dir_name (f.with_dir g (name.db ∷ [])) (name.db ∷ name.type_name ∷ []) ∙ dir_name g (name.db ∷ [])
+made_name : (g : Group) (name : f.NewName) (n : ℕ) (file : File) → (f.group_with_file g name n file).name ≡ g.name
+made_name g name n file = dir_name (f.group_with_dir g (name.db ∷ [])) (name.db ∷ name.type_name ∷ []) ∙ dir_name g (name.db ∷ [])
 
 -- STEPS
 
-same_whole : (w new : World) → IsWhole w → new ≡ w → IsWhole new
-same_whole w new whole q = subst IsWhole (sym q) whole
+same_whole : (w new : World) → IsWholeWorld w → new ≡ w → IsWholeWorld new
+same_whole w new whole q = subst IsWholeWorld (sym q) whole
 
-changes_whole : (w : World) (name : Bytes) (step : ℕ → Group → Group → Type 0) (new : World) → IsWhole w → ((id : ℕ) (old changed : Group) → step id old changed → changed.name ≡ old.name)
-    → Changes w name step new → IsWhole new
+changes_whole : (w : World) (name : Bytes) (step : ℕ → Group → Group → Type 0) (new : World) → IsWholeWorld w → ((id : ℕ) (old changed : Group) → step id old changed → changed.name ≡ old.name)
+    → Changes w name step new → IsWholeWorld new
 changes_whole w name step new whole keeps c =
-    subst IsWhole (sym c.is) (whole_from w (with_group w c.id c.changed) whole (λ entry i. inl (record { was = i; same = stays entry i (groups_at w c.id entry.id c.changed) })))
+    subst IsWholeWorld (sym c.is) (whole_from w (with_group w c.id c.changed) whole (λ entry i. inl (record { was = i; same = stays entry i (groups_at w c.id entry.id c.changed) })))
   where
     stays : (entry : SessionEntry) → IsIn entry w.session → ((entry.id ≡ c.id) × (groups_of (with_group w c.id c.changed) entry.id ≡ c.changed ∷ [])) ⊎ (groups_of (with_group w c.id c.changed) entry.id ≡ groups_of w entry.id)
         → (groups_of (with_group w c.id c.changed) entry.id ≡ groups_of w entry.id) ⊎ ((g : Group) × (groups_of (with_group w c.id c.changed) entry.id ≡ g ∷ []) × (is_same_name g.name entry.name ≡ true))
@@ -202,8 +202,8 @@ changes_whole w name step new whole keeps c =
         let named : is_same_name c.old.name entry.name ≡ true = whole.named entry i c.old ([], [], old) in
         inr (c.changed, alone, subst (λ z. is_same_name z entry.name ≡ true) (sym (keeps c.id c.old c.changed c.step_is)) named)
 
-changes_at_whole : (w : World) (path : Bytes) (step : ℕ → Path → Group → Group → Type 0) (new : World) → IsWhole w → ((id : ℕ) (p : Path) (old changed : Group) → step id p old changed → changed.name ≡ old.name)
-    → ChangesAt w path step new → IsWhole new
+changes_at_whole : (w : World) (path : Bytes) (step : ℕ → Path → Group → Group → Type 0) (new : World) → IsWholeWorld w → ((id : ℕ) (p : Path) (old changed : Group) → step id p old changed → changed.name ≡ old.name)
+    → ChangesAt w path step new → IsWholeWorld new
 changes_at_whole w path step new whole keeps c = changes_whole w c.name (λ id old changed. step id c.inside old changed) new whole (λ id old changed h. keeps id c.inside old changed h) c.changes
 
 in_all : (P : SessionEntry → Type 0) (session : List SessionEntry) → All P session → (entry : SessionEntry) → IsIn entry session → P entry
@@ -217,9 +217,9 @@ groups_here w id g = ap (λ o. unwrap_or o []) put_here where
   put_here : maps.get (maps.insert w.groups id (g ∷ [])) id ≡ Some (g ∷ [])
   put_here = maps.get-insert nat_cmp_total w.groups id (g ∷ []) id ∙ rw ((eq_by_cmp_equiv nat_cmp_total).refl id) refl
 
-creates_whole : (below : Below) (w : World) (made : Group → Type 0) (new : World) → ForSome below.found.made (λ id. id < last_id) → IsWhole w → Creates below w made new → IsWhole new
+creates_whole : (below : Below) (w : World) (made : Group → Type 0) (new : World) → ForSome below.found.made (λ id. id < last_id) → IsWholeWorld w → Creates below w made new → IsWholeWorld new
 creates_whole below w made new short whole c =
-    subst IsWhole (sym c.is) (whole_from w (record (with_group w c.id c.g) { session = w.session ++ mounted_entry c.g.name c.id ∷ [] }) whole (λ entry i. stands entry (last_or_before w.session (mounted_entry c.g.name c.id) entry i)))
+    subst IsWholeWorld (sym c.is) (whole_from w (record (with_group w c.id c.g) { session = w.session ++ mounted_entry c.g.name c.id ∷ [] }) whole (λ entry i. stands entry (last_or_before w.session (mounted_entry c.g.name c.id) entry i)))
   where
     stands : (entry : SessionEntry) → IsIn entry w.session ⊎ (entry ≡ mounted_entry c.g.name c.id) → Stands w (record (with_group w c.id c.g) { session = w.session ++ mounted_entry c.g.name c.id ∷ [] }) entry ⊎ IsNew (record (with_group w c.id c.g) { session = w.session ++ mounted_entry c.g.name c.id ∷ [] }) entry
     stands entry (inl i) = inl (record {
@@ -232,9 +232,9 @@ creates_whole below w made new short whole c =
     stands entry (inr q) = inr (subst (λ z. IsNew (record (with_group w c.id c.g) { session = w.session ++ mounted_entry c.g.name c.id ∷ [] }) z) (sym q)
         (record { group = c.g; alone = groups_here w c.id c.g; named = same_self c.g.name }))
 
-mounts_whole : (w : World) (name : Bytes) (new : World) → IsWhole w → Mounts w name new → IsWhole new
+mounts_whole : (w : World) (name : Bytes) (new : World) → IsWholeWorld w → MountsGroup w name new → IsWholeWorld new
 mounts_whole w name new whole c =
-    subst IsWhole (sym c.is) (whole_from w (record (with_group w c.id c.g) { session = without_entry w.session name ++ mounted_entry c.g.name c.id ∷ [] }) whole
+    subst IsWholeWorld (sym c.is) (whole_from w (record (with_group w c.id c.g) { session = without_entry w.session name ++ mounted_entry c.g.name c.id ∷ [] }) whole
     (λ entry i. stands entry (last_or_before (without_entry w.session name) (mounted_entry c.g.name c.id) entry i)))
   where
     stays : (entry : SessionEntry) → IsIn entry w.session → ((entry.id ≡ c.id) × (groups_of (with_group w c.id c.g) entry.id ≡ c.g ∷ [])) ⊎ (groups_of (with_group w c.id c.g) entry.id ≡ groups_of w entry.id)
@@ -248,12 +248,12 @@ mounts_whole w name new whole c =
     stands entry (inr q) = inr (subst (λ z. IsNew (record (with_group w c.id c.g) { session = without_entry w.session name ++ mounted_entry c.g.name c.id ∷ [] }) z) (sym q)
         (record { group = c.g; alone = groups_here w c.id c.g; named = same_self c.g.name }))
 
-dismounts_whole : (w : World) (name : Bytes) → IsWhole w → IsWhole (record w { session = without_entry w.session name })
+dismounts_whole : (w : World) (name : Bytes) → IsWholeWorld w → IsWholeWorld (record w { session = without_entry w.session name })
 dismounts_whole w name whole = whole_from w (record w { session = without_entry w.session name }) whole (λ entry i. inl (record { was = (left_in w.session name entry i).0; same = inl refl }))
 
-drops_whole : (w : World) (name : Bytes) (new : World) → IsWhole w → Drops w name new → IsWhole new
+drops_whole : (w : World) (name : Bytes) (new : World) → IsWholeWorld w → Drops w name new → IsWholeWorld new
 drops_whole w name new whole c =
-    subst IsWhole (sym c.is) (whole_from w (record w { groups = maps.remove w.groups c.id; session = without_entry w.session name }) whole
+    subst IsWholeWorld (sym c.is) (whole_from w (record w { groups = maps.remove w.groups c.id; session = without_entry w.session name }) whole
     (λ entry i. let l = left_in w.session name entry i in inl (record { was = l.0; same = inl (stays entry l.0 l.1 (is_true_or_false (eq_by_cmp nat_cmp entry.id c.id))) })))
   where
     gone : (entry : SessionEntry) → IsIn entry w.session → is_same_name entry.name name ≡ false → entry.id ≡ c.id → ⊥
@@ -275,22 +275,22 @@ drops_whole w name new whole c =
 
 -- COMMANDS
 
-edits_name : (o : Option e.TreeEdit) (old changed : Group) → Edits o old changed → changed.name ≡ old.name
+edits_name : (o : Option e.TreeEdit) (old changed : Group) → EditsTree o old changed → changed.name ≡ old.name
 edits_name None old changed d = absurd d
 edits_name (Some edit) old changed d = edited_name old changed edit d
 
 drops_file_name : (o : Option Path) (old changed : Group) → DropsFile o old changed → changed.name ≡ old.name
 drops_file_name None old changed d = absurd d
-drops_file_name (Some path) old changed d = dropped_name old changed (e.file_at old path) d
+drops_file_name (Some path) old changed d = dropped_name old changed (e.group_file_at old path) d
 
 adds_alias_name : (o : Option (Bytes × Path)) (alias : Path) (old changed : Group) → AddsAlias o alias old changed → changed.name ≡ old.name
 adds_alias_name None alias old changed d = absurd d
-adds_alias_name (Some (name, path)) alias old changed d = edited_name old changed (e.AddAlias alias path) d.1
+adds_alias_name (Some (name, path)) alias old changed d = edited_name old changed (e.AddAliasEntry alias path) d.1
 
-names_whole : (w : World) (name : Bytes) (o : Option e.TreeEdit) (new : World) → IsWhole w → Changes w name (λ id old changed. Edits o old changed) new → IsWhole new
+names_whole : (w : World) (name : Bytes) (o : Option e.TreeEdit) (new : World) → IsWholeWorld w → Changes w name (λ id old changed. EditsTree o old changed) new → IsWholeWorld new
 names_whole w name o new whole d = changes_whole w name _ new whole (λ id old changed h. edits_name o old changed h) d
 
-clause_whole : (below : Below) (w : World) (name : Bytes) (clause : s.Clause) (lines : List Bytes) (new : World) → IsWhole w → DoneClause below w name clause lines new → IsWhole new
+clause_whole : (below : Below) (w : World) (name : Bytes) (clause : s.Clause) (lines : List Bytes) (new : World) → IsWholeWorld w → DoneClause below w name clause lines new → IsWholeWorld new
 clause_whole below w name (s.AddDirectory path) lines new whole d = names_whole w name _ new whole d.0
 clause_whole below w name (s.DropDirectory path) lines new whole d = names_whole w name _ new whole d.0
 clause_whole below w name (s.RenameDirectory old path) lines new whole d = names_whole w name _ new whole d.0
@@ -308,27 +308,27 @@ clause_whole below w name (s.Dismount force) lines new whole d = same_whole (rec
 clause_whole below w name s.Check lines new whole d = same_whole w new whole d.is
 clause_whole below w name other lines new whole d = same_whole w new whole d.is
 
-statement_whole : (below : Below) (w : World) (statement : s.Statement) (lines : List Bytes) (new : World) → ForSome below.found.made (λ id. id < last_id) → IsWhole w → DoneStatement below w statement lines new → IsWhole new
+statement_whole : (below : Below) (w : World) (statement : s.Statement) (lines : List Bytes) (new : World) → ForSome below.found.made (λ id. id < last_id) → IsWholeWorld w → DoneStatement below w statement lines new → IsWholeWorld new
 statement_whole below w (s.CreateDisk path size) lines new short whole d = same_whole w new whole d.0
 statement_whole below w (s.CreateGroup name kind groups attributes) lines new short whole d = creates_whole below w _ new short whole d.0
 statement_whole below w (s.DropGroup name contents) lines new short whole d = drops_whole w name new whole d.0
 statement_whole below w (s.Alter name clause) lines new short whole d = clause_whole below w name clause lines new whole d
 
-goes_whole : (w : World) (o : Option (List Bytes)) (new : World) → IsWhole w → GoesTo w o new → IsWhole new
+goes_whole : (w : World) (o : Option (List Bytes)) (new : World) → IsWholeWorld w → GoesTo w o new → IsWholeWorld new
 goes_whole w None new whole d = absurd d
 goes_whole w (Some []) new whole d = same_whole (record w { place = [] }) new (record { named = whole.named; some = whole.some; one = whole.one }) d
 goes_whole w (Some (name ∷ path)) new whole d = same_whole (record w { place = e.spelt d.1 path }) new (record { named = whole.named; some = whole.some; one = whole.one }) d.4
 
-makes_whole : (w : World) (path : Bytes) (failgroups : ℕ → ℕ) (cells : List Cell) (template : Option Bytes) (lines : List Bytes) (new : World) → IsWhole w
-    → ChangesAt w path (λ id. MakesFile (failgroups id) cells template lines) new → IsWhole new
+makes_whole : (w : World) (path : Bytes) (failgroups : ℕ → ℕ) (cells : List Cell) (template : Option Bytes) (lines : List Bytes) (new : World) → IsWholeWorld w
+    → ChangesAt w path (λ id. MakesFile (failgroups id) cells template lines) new → IsWholeWorld new
 makes_whole w path failgroups cells template lines new whole d =
     changes_at_whole w path _ new whole (λ id p old changed m. ap (λ (x : Group). x.name) m.is ∙ made_name old m.name (f.next_number old) (f.new_file old m.name m.by (failgroups id) cells)) d
 
-copies_whole : (below : Below) (w : World) (source target : Bytes) (b : Bool) (lines : List Bytes) (new : World) → IsWhole w → Copies below w source target b lines new → IsWhole new
+copies_whole : (below : Below) (w : World) (source target : Bytes) (b : Bool) (lines : List Bytes) (new : World) → IsWholeWorld w → Copies below w source target b lines new → IsWholeWorld new
 copies_whole below w source target true lines new whole d = same_whole (record w { host = new.host }) new (record { named = whole.named; some = whole.some; one = whole.one }) d.changes.is
 copies_whole below w source target false lines new whole d = makes_whole w target (λ id. (below.group id).failgroups) d.cells None lines new whole d.made
 
-verb_whole : (below : Below) (w : World) (verb : c.Verb) (lines : List Bytes) (new : World) → IsWhole w → DoneVerb below w verb lines new → IsWhole new
+verb_whole : (below : Below) (w : World) (verb : c.Verb) (lines : List Bytes) (new : World) → IsWholeWorld w → DoneVerb below w verb lines new → IsWholeWorld new
 verb_whole below w (c.DbCreate path size template) lines new whole d = makes_whole w path (λ id. (below.group id).failgroups) _ template lines new whole d
 verb_whole below w (c.DbWrite path at bytes) lines new whole d = changes_at_whole w path _ new whole (λ id p old changed h. written_name old changed p at _ h) d.0
 verb_whole below w (c.DbFill path at size byte) lines new whole d = changes_at_whole w path _ new whole (λ id p old changed h. written_name old changed p at _ h) d.0
@@ -337,13 +337,13 @@ verb_whole below w (c.DbResize path size) lines new whole d = changes_at_whole w
 verb_whole below w (c.Ls long path) lines new whole d = same_whole w new whole d.0
 verb_whole below w (c.Cd path) lines new whole d = goes_whole w (resolved w.place path) new whole d.0
 verb_whole below w c.Pwd lines new whole d = same_whole w new whole d.0
-verb_whole below w (c.MakeDir path) lines new whole d = changes_at_whole w path _ new whole (λ id p old changed h. edited_name old changed (e.MakeDir p) h) d.0
-verb_whole below w (c.Remove path) lines new whole d = changes_at_whole w path _ new whole (λ id p old changed h. removed_name old changed p (e.file_at old p) h) d.0
-verb_whole below w (c.Copy source target) lines new whole d = copies_whole below w source target (is_host_path target) lines new whole d
+verb_whole below w (c.MakeDirectory path) lines new whole d = changes_at_whole w path _ new whole (λ id p old changed h. edited_name old changed (e.MakeDir p) h) d.0
+verb_whole below w (c.Remove path) lines new whole d = changes_at_whole w path _ new whole (λ id p old changed h. removed_name old changed p (e.group_file_at old p) h) d.0
+verb_whole below w (c.CopyFile source target) lines new whole d = copies_whole below w source target (is_host_path target) lines new whole d
 verb_whole below w (c.Usage path) lines new whole d = same_whole w new whole d.0
 verb_whole below w (c.Find path pattern) lines new whole d = same_whole w new whole d.0
 verb_whole below w (c.MakeAlias path alias) lines new whole d = changes_at_whole w alias _ new whole (λ id p old changed h. adds_alias_name (target_from w.place path) p old changed h) d.0
-verb_whole below w (c.RemoveAlias path) lines new whole d = changes_at_whole w path _ new whole (λ id p old changed h. edited_name old changed (e.DropAlias p) h) d.0
+verb_whole below w (c.RemoveAlias path) lines new whole d = changes_at_whole w path _ new whole (λ id p old changed h. edited_name old changed (e.DropAliasEntry p) h) d.0
 verb_whole below w (c.ListGroups name) lines new whole d = same_whole w new whole d.0
 verb_whole below w (c.ListDisks name) lines new whole d = same_whole w new whole d.is
 verb_whole below w (c.ListTemplates name) lines new whole d = same_whole w new whole d.is
@@ -352,7 +352,7 @@ verb_whole below w (c.OfflineDisk name disk) lines new whole d = same_whole w ne
 verb_whole below w (c.OnlineDisk name disk) lines new whole d = same_whole w new whole d.is
 verb_whole below w (c.SetPower name power) lines new whole d = same_whole w new whole d.is
 
-pub done_keeps_whole : (below : Below) (w new : World) (command : c.Command) (lines : List Bytes) → ForSome below.found.made (λ id. id < last_id) → IsWhole w → Step below w command (Done lines) new → IsWhole new
+pub done_keeps_whole : (below : Below) (w new : World) (command : c.Command) (lines : List Bytes) → ForSome below.found.made (λ id. id < last_id) → IsWholeWorld w → Step below w command (Done lines) new → IsWholeWorld new
 done_keeps_whole below w new (c.Said statement) lines short whole d = statement_whole below w statement lines new short whole d
 done_keeps_whole below w new (c.Asked verb) lines short whole d = verb_whole below w verb lines new whole d
 done_keeps_whole below w new (c.Unreadable at) lines short whole d = absurd d

@@ -5,19 +5,19 @@ use Rattle.asm_group.specs.Names.{Bytes, Path}
 use Rattle.asm_group.specs.Group.{Free, Group}
 use Rattle.asm_group.specs.Refusal as r
 use Rattle.asm_world.specs.Command as c
-use Rattle.asm_world.specs.Files.{written}
+use Rattle.asm_world.specs.Files.{group_after_write}
 use Rattle.asm_world.specs.Paths.{target_from, is_host_path, parts_of, resolved_pattern}
 use Rattle.asm_world.specs.Statement as s
 use Rattle.asm_world.specs.World.{SessionEntry, World, entry_in, only_group, groups_of, with_group}
 
 -- ---- the groups that a command names
 
-abbrev pub group_of : Option (Bytes × Path) → List Bytes
-group_of None = []
-group_of (Some (name, path)) = name ∷ []
+abbrev pub group_name_of : Option (Bytes × Path) → List Bytes
+group_name_of None = []
+group_name_of (Some (name, path)) = name ∷ []
 
 abbrev pub group_at : World → Bytes → List Bytes
-group_at w path = group_of (target_from w.place path)
+group_at w path = group_name_of (target_from w.place path)
 
 abbrev pub group_of_copy : World → Bytes → Bool → List Bytes
 group_of_copy w path true = []
@@ -32,11 +32,11 @@ groups_named w (c.Asked (c.DbWrite path at bytes)) = group_at w path
 groups_named w (c.Asked (c.DbFill path at size byte)) = group_at w path
 groups_named w (c.Asked (c.DbRead path at size)) = group_at w path
 groups_named w (c.Asked (c.DbResize path size)) = group_at w path
-groups_named w (c.Asked (c.Ls long path)) = group_of (parts_of (resolved_pattern w.place path))
+groups_named w (c.Asked (c.Ls long path)) = group_name_of (parts_of (resolved_pattern w.place path))
 groups_named w (c.Asked (c.Cd path)) = group_at w path
-groups_named w (c.Asked (c.MakeDir path)) = group_at w path
+groups_named w (c.Asked (c.MakeDirectory path)) = group_at w path
 groups_named w (c.Asked (c.Remove path)) = group_at w path
-groups_named w (c.Asked (c.Copy source target)) = group_of_copy w source (is_host_path source) ++ group_of_copy w target (is_host_path target)
+groups_named w (c.Asked (c.CopyFile source target)) = group_of_copy w source (is_host_path source) ++ group_of_copy w target (is_host_path target)
 groups_named w (c.Asked (c.Usage (Some path))) = group_at w path
 groups_named w (c.Asked (c.Usage None)) = group_at w []
 groups_named w (c.Asked (c.Find path pattern)) = group_at w path
@@ -58,7 +58,7 @@ changed_or_none w id (Err cause) = None
 
 abbrev pub with_free_in : World → ℕ → Option Group → Path → ℕ → ℕ → Option World
 with_free_in w id None path at size = None
-with_free_in w id (Some g) path at size = changed_or_none w id (written g path at (replicate size Free))
+with_free_in w id (Some g) path at size = changed_or_none w id (group_after_write g path at (replicate size Free))
 
 abbrev pub with_free_of : World → Option SessionEntry → Path → ℕ → ℕ → Option World
 with_free_of w None path at size = None

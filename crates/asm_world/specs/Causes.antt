@@ -17,7 +17,7 @@ use Rattle.asm_world.specs.Files as f
 use Rattle.asm_world.specs.Listings.{has_star}
 use Rattle.asm_world.specs.NewDisks as n
 use Rattle.asm_world.specs.Numbers as code
-use Rattle.asm_world.specs.Numbers.{number_of}
+use Rattle.asm_world.specs.Numbers.{refusal_number}
 use Rattle.asm_world.specs.Paths.{up, last_part, target_from, resolved, resolved_pattern, resolved_or_here, clause_path, is_host_path}
 use Rattle.asm_world.specs.Reply.{Reply, Done, Refused}
 use Rattle.asm_world.specs.Reports.{DiskRow}
@@ -25,7 +25,7 @@ use Rattle.asm_world.specs.Settings as t
 use Rattle.asm_world.specs.Statement as s
 use Rattle.asm_world.specs.Step.{edit_of}
 use Rattle.asm_world.specs.Waiting.{Wait, Nothing, Rebalance, Resync, power_of, rebalance_wait, resync_wait}
-use Rattle.asm_world.specs.World.{SessionEntry, SessionState, Mounted, DismountedBy, World, HostFile, NotTold, Absent, Holds, entry_in, is_mounted, mounted_group}
+use Rattle.asm_world.specs.World.{SessionEntry, SessionState, Mounted, DismountedBy, World, OutsideFile, NotTold, Absent, ToldBytes, entry_in, is_mounted, mounted_group}
 
 -- ---- lists of causes
 
@@ -39,7 +39,7 @@ pub data Cause : Type 0 where
 abbrev pub IsCaused : List Cause → r.Refusal → Type 0
 IsCaused [] refusal = ⊥
 IsCaused (When test cause ∷ causes) refusal = MatchBool test (refusal ≡ cause) (IsCaused causes refusal)
-IsCaused (May number ∷ causes) refusal = (number_of refusal ≡ number) ⊎ IsCaused causes refusal
+IsCaused (May number ∷ causes) refusal = (refusal_number refusal ≡ number) ⊎ IsCaused causes refusal
 
 -- The refusal that the tests decide: that of the first which is true. None where none is.
 abbrev pub decided : List Cause → Option r.Refusal
@@ -47,8 +47,8 @@ decided [] = None
 decided (When test refusal ∷ causes) = if test then Some refusal else decided causes
 decided (May number ∷ causes) = decided causes
 
-abbrev pub tests : e.Causes → List Cause
-tests causes = map (λ (one : Bool × r.Refusal). When one.0 one.1) causes
+abbrev pub tested_causes : e.Causes → List Cause
+tested_causes causes = map (λ (one : Bool × r.Refusal). When one.0 one.1) causes
 
 -- refusals of these numbers may come
 abbrev pub may : List ℕ → List Cause
@@ -95,16 +95,16 @@ too_many_groups w = When (nat_le 8 (mounted_count w)) (r.TooMany r.Groups 8)
 -- a commit may dismount the group, and where it makes a node it may want a block that isn't free
 abbrev pub commit_causes : e.TreeEdit → List Cause
 commit_causes (e.MakeDir path) = may (code.directory_full ∷ code.dismounted ∷ [])
-commit_causes (e.AddAlias alias path) = may (code.directory_full ∷ code.dismounted ∷ [])
+commit_causes (e.AddAliasEntry alias path) = may (code.directory_full ∷ code.dismounted ∷ [])
 commit_causes other = May code.dismounted ∷ []
 
 abbrev pub tree_causes : Group → Option e.TreeEdit → List Cause
 tree_causes g None = When true r.NoName ∷ []
-tree_causes g (Some edit) = tests (e.edit_causes g edit) ++ commit_causes edit
+tree_causes g (Some edit) = tested_causes (e.group_edit_causes g edit) ++ commit_causes edit
 
 abbrev pub file_drop_causes : Group → Option Path → List Cause
 file_drop_causes g None = When true r.NoName ∷ []
-file_drop_causes g (Some path) = When (not (e.is_file g path)) r.NoName ∷ May code.dismounted ∷ []
+file_drop_causes g (Some path) = When (not (e.group_has_file g path)) r.NoName ∷ May code.dismounted ∷ []
 
 abbrev pub removal_causes : Group → Path → Option ℕ → List Cause
 removal_causes g path (Some file) = May code.dismounted ∷ []
@@ -113,10 +113,10 @@ removal_causes g path None = tree_causes g (Some (e.DropDir path))
 -- an alias and its file are in one group
 abbrev pub alias_causes : Option (Bytes × Path) → Bytes → Path → Group → List Cause
 alias_causes None group alias g = When true r.NoGroup ∷ []
-alias_causes (Some (name, path)) group alias g = When (not (is_same_name name g.name)) r.NoName ∷ tree_causes g (Some (e.AddAlias alias path))
+alias_causes (Some (name, path)) group alias g = When (not (is_same_name name g.name)) r.NoName ∷ tree_causes g (Some (e.AddAliasEntry alias path))
 
 abbrev pub template_clause_causes : World → Bytes → t.TemplateEdit → List Cause
-template_clause_causes w name edit = in_group w name (λ g. tests (t.template_causes g edit) ++ May code.dismounted ∷ [])
+template_clause_causes w name edit = in_group w name (λ g. tested_causes (t.group_template_causes g edit) ++ May code.dismounted ∷ [])
 
 -- ---- disks of a group
 
@@ -153,7 +153,7 @@ abbrev pub rows_among : List DiskRow → List Bytes → List DiskRow
 rows_among rows names = filter_map (λ (row : DiskRow). if list_any (λ name. is_same_name row.name name) names then Some row else None) rows
 
 -- of disks that are named, or of a failure group, by number
-abbrev pub disks_causes : (Mode → Bool) → List DiskRow → s.Disks → List Cause
+abbrev pub disks_causes : (Mode → Bool) → List DiskRow → s.NamedDisks → List Cause
 disks_causes takes rows (s.Named names) = When (list_any (λ name. lacks_name rows name) names) r.NoName ∷ state_tests takes (rows_among rows names)
 disks_causes takes rows (s.InFailgroup kind name) =
     let found = rows_of_failgroup rows kind name in
@@ -185,7 +185,7 @@ wait_causes (Resync disks) = may (code.dismounted ∷ code.read_fault ∷ code.w
 
 abbrev pub add_causes : Bytes → List DiskRow → List s.NewFailgroup → List Cause
 add_causes name rows groups =
-    When (nat_lt 64 (length rows + length (n.disks_said groups))) (r.TooMany r.Disks 64)
+    When (nat_lt 64 (length rows + length (n.disks_with_failgroups groups))) (r.TooMany r.Disks 64)
     ∷ May code.no_disk ∷ May code.disk_taken
     ∷ When (n.is_name_taken rows (n.planned name rows groups)) r.NameTaken
     ∷ may (code.too_small ∷ code.directory_full ∷ code.write_fault ∷ [])
@@ -200,7 +200,7 @@ creation_causes w name kind groups attributes =
     too_many_groups w
     ∷ When (is_some (entry_in w name)) r.GroupExists
     ∷ by_result (t.creation kind attributes)
-    ++ When (nat_lt 64 (length (n.disks_said groups))) (r.TooMany r.Disks 64)
+    ++ When (nat_lt 64 (length (n.disks_with_failgroups groups))) (r.TooMany r.Disks 64)
     ∷ May code.no_disk ∷ May code.disk_taken
     ∷ When (n.is_name_taken [] disks) r.NameTaken
     ∷ May code.too_small
@@ -256,17 +256,17 @@ statement_causes below w (s.Alter name clause) = clause_causes below w name clau
 
 -- of a directory that must be there
 abbrev pub dir_causes : Group → Path → List Cause
-dir_causes g path = When (not (e.is_there g path)) r.NoName ∷ When (not (e.is_dir g path)) r.NotDirectory ∷ []
+dir_causes g path = When (not (e.group_has_path g path)) r.NoName ∷ When (not (e.group_has_dir g path)) r.NotDirectory ∷ []
 
 -- of a path of ls, the last part of which may be a pattern
 abbrev pub list_causes : Group → Path → List Cause
-list_causes g path = if has_star (last_part path) then dir_causes g (up path) else When (not (e.is_there g path)) r.NoName ∷ []
+list_causes g path = if has_star (last_part path) then dir_causes g (up path) else When (not (e.group_has_path g path)) r.NoName ∷ []
 
-abbrev pub listed_causes : World → Option (List Bytes) → List Cause
-listed_causes w None = []
-listed_causes w (Some []) = []
-listed_causes w (Some (name ∷ [])) = if has_star name then [] else in_group w name (λ g. [])
-listed_causes w (Some (name ∷ part ∷ path)) = in_group w name (λ g. list_causes g (part ∷ path))
+abbrev pub listing_causes : World → Option (List Bytes) → List Cause
+listing_causes w None = []
+listing_causes w (Some []) = []
+listing_causes w (Some (name ∷ [])) = if has_star name then [] else in_group w name (λ g. [])
+listing_causes w (Some (name ∷ part ∷ path)) = in_group w name (λ g. list_causes g (part ∷ path))
 
 abbrev pub going_causes : World → Option (List Bytes) → List Cause
 going_causes w None = []
@@ -280,13 +280,13 @@ searching_causes w (Some []) = When true r.NoGroup ∷ []
 searching_causes w (Some (name ∷ path)) = in_group w name (λ g. dir_causes g path)
 
 abbrev pub new_file_causes : Group → Path → ℕ → Option Bytes → List Cause
-new_file_causes g path size template = tests (f.new_file_causes g (f.new_name path) size template) ++ may (code.directory_full ∷ code.no_space ∷ code.write_fault ∷ code.dismounted ∷ [])
+new_file_causes g path size template = tested_causes (f.new_file_causes g (f.new_name path) size template) ++ may (code.directory_full ∷ code.no_space ∷ code.write_fault ∷ code.dismounted ∷ [])
 
 -- the size of a file outside, where the host tells it
-abbrev pub host_size : HostFile → Option ℕ
+abbrev pub host_size : OutsideFile → Option ℕ
 host_size NotTold = None
 host_size Absent = None
-host_size (Holds bytes) = Some (length bytes)
+host_size (ToldBytes bytes) = Some (length bytes)
 
 abbrev pub group_file_size : World → Option (Bytes × Path) → Option ℕ
 group_file_size w None = None
@@ -298,7 +298,7 @@ source_size w path false = group_file_size w (target_from w.place path)
 
 abbrev pub source_causes : World → Bytes → Bool → List Cause
 source_causes w path true = May code.host_fault ∷ []
-source_causes w path false = at_path w path (λ p g. When (not (e.is_file g p)) r.NoName ∷ May code.lost ∷ [])
+source_causes w path false = at_path w path (λ p g. When (not (e.group_has_file g p)) r.NoName ∷ May code.lost ∷ [])
 
 -- Where the source's size isn't told, it may not be whole sectors.
 abbrev pub copied_causes : Group → Path → Option ℕ → List Cause
@@ -317,20 +317,20 @@ copy_causes w source target =
 
 abbrev pub verb_causes : Below → World → c.Verb → List Cause
 verb_causes below w (c.DbCreate path size template) = at_path w path (λ p g. new_file_causes g p size template)
-verb_causes below w (c.DbWrite path at bytes) = at_path w path (λ p g. tests (f.span_causes g p at (length bytes)) ++ may (code.lost ∷ code.write_fault ∷ code.dismounted ∷ []))
-verb_causes below w (c.DbFill path at size byte) = at_path w path (λ p g. tests (f.span_causes g p at size) ++ may (code.lost ∷ code.write_fault ∷ code.dismounted ∷ []))
-verb_causes below w (c.DbRead path at size) = at_path w path (λ p g. tests (f.span_causes g p at size) ++ may (code.lost ∷ code.read_fault ∷ code.dismounted ∷ []))
-verb_causes below w (c.DbResize path size) = at_path w path (λ p g. tests (f.resize_causes g p size) ++ may (code.lost ∷ code.directory_full ∷ code.no_space ∷ code.write_fault ∷ code.dismounted ∷ []))
-verb_causes below w (c.Ls long path) = listed_causes w (resolved_pattern w.place path)
+verb_causes below w (c.DbWrite path at bytes) = at_path w path (λ p g. tested_causes (f.span_causes g p at (length bytes)) ++ may (code.lost ∷ code.write_fault ∷ code.dismounted ∷ []))
+verb_causes below w (c.DbFill path at size byte) = at_path w path (λ p g. tested_causes (f.span_causes g p at size) ++ may (code.lost ∷ code.write_fault ∷ code.dismounted ∷ []))
+verb_causes below w (c.DbRead path at size) = at_path w path (λ p g. tested_causes (f.span_causes g p at size) ++ may (code.lost ∷ code.read_fault ∷ code.dismounted ∷ []))
+verb_causes below w (c.DbResize path size) = at_path w path (λ p g. tested_causes (f.resize_causes g p size) ++ may (code.lost ∷ code.directory_full ∷ code.no_space ∷ code.write_fault ∷ code.dismounted ∷ []))
+verb_causes below w (c.Ls long path) = listing_causes w (resolved_pattern w.place path)
 verb_causes below w (c.Cd path) = going_causes w (resolved w.place path)
 verb_causes below w c.Pwd = []
-verb_causes below w (c.MakeDir path) = at_path w path (λ p g. tree_causes g (Some (e.MakeDir p)))
-verb_causes below w (c.Remove path) = at_path w path (λ p g. removal_causes g p (e.file_at g p))
-verb_causes below w (c.Copy source target) = copy_causes w source target
+verb_causes below w (c.MakeDirectory path) = at_path w path (λ p g. tree_causes g (Some (e.MakeDir p)))
+verb_causes below w (c.Remove path) = at_path w path (λ p g. removal_causes g p (e.group_file_at g p))
+verb_causes below w (c.CopyFile source target) = copy_causes w source target
 verb_causes below w (c.Usage path) = searching_causes w (resolved_or_here w.place path)
 verb_causes below w (c.Find path pattern) = searching_causes w (resolved w.place path)
 verb_causes below w (c.MakeAlias path alias) = at_path w alias (λ p g. alias_causes (target_from w.place path) g.name p g)
-verb_causes below w (c.RemoveAlias path) = at_path w path (λ p g. tree_causes g (Some (e.DropAlias p)))
+verb_causes below w (c.RemoveAlias path) = at_path w path (λ p g. tree_causes g (Some (e.DropAliasEntry p)))
 verb_causes below w (c.ListGroups None) = []
 verb_causes below w (c.ListGroups (Some name)) = When (is_none (entry_in w name)) r.NoGroup ∷ []
 verb_causes below w (c.ListDisks name) = in_group w name (λ g. [])

@@ -13,9 +13,9 @@ pub data Verb : Type 0 where
   Ls : (long : Bool) (path : Option Bytes) → Verb
   Cd : (path : Bytes) → Verb
   Pwd : Verb
-  MakeDir : (path : Bytes) → Verb
+  MakeDirectory : (path : Bytes) → Verb
   Remove : (path : Bytes) → Verb
-  Copy : (source target : Bytes) → Verb
+  CopyFile : (source target : Bytes) → Verb
   Usage : (path : Option Bytes) → Verb
   Find : (path pattern : Bytes) → Verb
   MakeAlias : (path alias : Bytes) → Verb

@@ -7,8 +7,8 @@ use Rattle.asm_group.specs.declared.GroupKind.TheVariants.{External, Normal, Hig
 use Rattle.asm_group.specs.Names.{Bytes, Path, is_same_name}
 use Rattle.asm_group.specs.Group.{Cell, Known, Free, File, Template, Dir, System, Group}
 use Rattle.asm_group.specs.Refusal as r
-use Rattle.asm_world.specs.Edits.{Causes, first_cause, unless_refused, file_at, is_file, is_there, is_dir, with_node}
-use Rattle.asm_world.specs.Settings.{template_at}
+use Rattle.asm_world.specs.Edits.{Causes, first_cause, unless_refused, group_file_at, group_has_file, group_has_path, group_has_dir, group_with_node}
+use Rattle.asm_world.specs.Settings.{group_template_at}
 
 abbrev pub known : Bytes → List Cell
 known bytes = map (λ b. Known b) bytes
@@ -33,7 +33,7 @@ file_of g (Some n) = maps.get g.files n
 
 -- the file that a path names
 abbrev pub named_file : Group → Path → Option File
-named_file g path = file_of g (file_at g path)
+named_file g path = file_of g (group_file_at g path)
 
 abbrev pub size_of_file : Option File → ℕ
 size_of_file None = 0
@@ -45,13 +45,13 @@ is_sectors g n = n % g.shape.sector == 0
 -- of a read or write of so many bytes at an offset
 abbrev pub span_causes : Group → Path → ℕ → ℕ → Causes
 span_causes g path at size =
-    (not (is_file g path), r.NoName)
+    (not (group_has_file g path), r.NoName)
     ∷ (not (is_sectors g at) || not (is_sectors g size), r.NotSectors)
     ∷ (not (nat_le (at + size) (size_of_file (named_file g path))), r.OutOfFile) ∷ []
 
 -- of another size
 abbrev pub resize_causes : Group → Path → ℕ → Causes
-resize_causes g path size = (not (is_file g path), r.NoName) ∷ (not (is_sectors g size), r.NotSectors) ∷ []
+resize_causes g path size = (not (group_has_file g path), r.NoName) ∷ (not (is_sectors g size), r.NotSectors) ∷ []
 
 abbrev pub with_file_cells : Group → ℕ → File → List Cell → Group
 with_file_cells g n f cells = record g { files = maps.insert g.files n (record f { cells = cells }) }
@@ -63,11 +63,11 @@ with_cells_of g (Some n) (Some f) change = with_file_cells g n f (change f.cells
 
 -- the cells of the named file changed
 abbrev pub with_cells_at : Group → Path → (List Cell → List Cell) → Group
-with_cells_at g path change = with_cells_of g (file_at g path) (named_file g path) change
+with_cells_at g path change = with_cells_of g (group_file_at g path) (named_file g path) change
 
 -- The group after a write of these cells, or why it is refused.
-abbrev pub written : Group → Path → ℕ → List Cell → Result Group r.Refusal
-written g path at cells =
+abbrev pub group_after_write : Group → Path → ℕ → List Cell → Result Group r.Refusal
+group_after_write g path at cells =
     unless_refused (first_cause (span_causes g path at (length cells))) (with_cells_at g path (λ old. with_cells old at cells))
 
 -- cut, or grown by zeros
@@ -114,8 +114,8 @@ if_system (Some t) = if t.system then Some t else None
 
 -- the template named, or else the system template of the type
 abbrev pub template_for : Group → NewName → Option Bytes → Option Template
-template_for g name None = if_system (template_at g name.type_name)
-template_for g name (Some template) = template_at g template
+template_for g name None = if_system (group_template_at g name.type_name)
+template_for g name (Some template) = group_template_at g template
 
 abbrev pub file_name : Bytes → ℕ → ℕ → Bytes
 file_name tag number incarnation = tag ++ 46 ∷ decimal number ++ 46 ∷ decimal incarnation
@@ -128,7 +128,7 @@ abbrev pub is_below_file : Group → NewName → Bool
 is_below_file g name =
     let db : Path = name.db ∷ [] in
     let kind : Path = name.db ∷ name.type_name ∷ [] in
-    (is_there g db && not (is_dir g db)) || (is_there g kind && not (is_dir g kind))
+    (group_has_path g db && not (group_has_dir g db)) || (group_has_path g kind && not (group_has_dir g kind))
 
 -- of a new file of this name, size and template
 abbrev pub new_file_causes : Group → Option NewName → ℕ → Option Bytes → Causes
@@ -137,20 +137,20 @@ new_file_causes g (Some name) size template =
     (is_none (template_for g name template), r.NoTemplate)
     ∷ (not (is_sectors g size), r.NotSectors)
     ∷ (is_below_file g name, r.NotDirectory)
-    ∷ (is_there g (new_path name (next_number g) g.next), r.NameTaken) ∷ []
+    ∷ (group_has_path g (new_path name (next_number g) g.next), r.NameTaken) ∷ []
 
-abbrev pub with_dir : Group → Path → Group
-with_dir g path = if is_there g path then g else with_node g path Dir
+abbrev pub group_with_dir : Group → Path → Group
+group_with_dir g path = if group_has_path g path then g else group_with_node g path Dir
 
 -- the incarnation after one, which stays once it is the greatest
 abbrev pub next_incarnation : ℕ → ℕ
 next_incarnation n = min (n + 1) (2 ^ 64 - 1)
 
 -- the file with its system name and the directories that were missing
-abbrev pub with_file : Group → NewName → ℕ → File → Group
-with_file g name n f =
-    let dirs = with_dir (with_dir g (name.db ∷ [])) (name.db ∷ name.type_name ∷ []) in
-    record (with_node dirs (new_path name n f.incarnation) (System n)) {
+abbrev pub group_with_file : Group → NewName → ℕ → File → Group
+group_with_file g name n f =
+    let dirs = group_with_dir (group_with_dir g (name.db ∷ [])) (name.db ∷ name.type_name ∷ []) in
+    record (group_with_node dirs (new_path name n f.incarnation) (System n)) {
       files = maps.insert g.files n f;
       next = next_incarnation g.next;
     }

@@ -39,8 +39,8 @@ from_zero zero = []
 from_zero (suc n) = from_zero n ++ n ∷ []
 
 -- one sector of one file is filled with one byte
-abbrev pub fill : ℕ → Bytes
-fill x =
+abbrev pub fill_command : ℕ → Bytes
+fill_command x =
     let k : ℕ = x / 2 ^ 33 % 16 in
     let sector : ℕ = x / 2 ^ 13 % (megabytes k * 2048) in
     codes "dbfill +DATA/gen/DATAFILE/f" ++ decimal k ++ codes "." ++ decimal (256 + k) ++ codes "." ++ decimal (k + 1)
@@ -49,7 +49,7 @@ fill x =
 -- so many fills, by this number and those after it
 abbrev pub fills : ℕ → ℕ → List Bytes
 fills zero x = []
-fills (suc n) x = fill x ∷ fills n (next_choice x)
+fills (suc n) x = fill_command x ∷ fills n (next_choice x)
 
 -- the commands for a number and four images
 abbrev pub generated : ℕ → List Bytes → List Bytes

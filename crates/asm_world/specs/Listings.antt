@@ -7,10 +7,10 @@ use Rattle.std.specs.FinMap as maps
 use Rattle.asm_group.specs.Names.{Bytes, Path, ByName, folded, folded_path, is_same_name}
 use Rattle.asm_group.specs.Group.{TreeNode, Dir, System, Alias, TreeEntry, File, Template, Group}
 use Rattle.asm_world.specs.Below.{Below, GroupBelow}
-use Rattle.asm_world.specs.Edits.{entry_at, is_dir, is_under, spelt}
+use Rattle.asm_world.specs.Edits.{group_entry_at, group_has_dir, is_under, spelt}
 use Rattle.asm_world.specs.Files.{size_of_file}
 use Rattle.asm_world.specs.Paths.{up, last_part, path_text, resolved, resolved_pattern, resolved_or_here}
-use Rattle.asm_world.specs.Reports.{Listed, Directory, SystemName, AliasName, ls_lines, du_lines, group_head, mounted_line, dismounted_line}
+use Rattle.asm_world.specs.Reports.{Listed, Directory, ListedSystemName, AliasName, ls_lines, du_lines, group_head, mounted_line, dismounted_line}
 use Rattle.asm_world.specs.World.{SessionEntry, Mounted, DismountedBy, World, is_mounted, entry_in, group_of_entry, mounted_group}
 
 -- ---- patterns
@@ -69,15 +69,15 @@ first_or_none [] = []
 first_or_none (text ∷ texts) = text
 
 -- the row of ls of one entry
-abbrev pub listed : Group → TreeEntry → Option Listed
-listed g e = elim e.node [
+abbrev pub listing_of_entry : Group → TreeEntry → Option Listed
+listing_of_entry g e = elim e.node [
   | Dir ↦ Some (Directory e.name)
-  | System n ↦ option_map (λ (f : File). SystemName f.type_name f.copies f.stripe e.name) (maps.get g.files n)
+  | System n ↦ option_map (λ (f : File). ListedSystemName f.type_name f.copies f.stripe e.name) (maps.get g.files n)
   | Alias n ↦ option_map (λ (f : File). AliasName f.type_name f.copies f.stripe e.name (first_or_none (system_paths g n))) (maps.get g.files n)
 ]
 
 abbrev pub rows_of : Group → List TreeEntry → List Listed
-rows_of g entries = filter_map (λ e. listed g e) entries
+rows_of g entries = filter_map (λ e. listing_of_entry g e) entries
 
 abbrev pub matching : Bytes → List TreeEntry → List TreeEntry
 matching pattern entries = filter_map (λ (e : TreeEntry). if is_match pattern e.name then Some e else None) entries
@@ -89,9 +89,9 @@ one_entry (Some e) = e ∷ []
 -- the names in a directory, the names that match the last part, or the file's own name
 abbrev pub rows_at : Group → Path → List Listed
 rows_at g path =
-    if is_dir g path then rows_of g (children g path)
+    if group_has_dir g path then rows_of g (children g path)
     else (if has_star (last_part path) then rows_of g (matching (last_part path) (children g (up path)))
-    else rows_of g (one_entry (entry_at g path)))
+    else rows_of g (one_entry (group_entry_at g path)))
 
 -- the mounted groups, in folded order
 abbrev pub mounted_names : World → List Bytes

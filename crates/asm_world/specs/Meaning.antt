@@ -10,7 +10,7 @@ use Rattle.asm_group.specs.declared.GroupKind.TheVariants as kind
 use Rattle.asm_group.specs.declared.Stripe.{Stripe}
 use Rattle.asm_group.specs.declared.Stripe.TheVariants as stripe
 use Rattle.asm_world.specs.Grammar as g
-use Rattle.asm_world.specs.Statement.{FailgroupKind, Quorum, Regular, NewDisk, NewFailgroup, Rebalance, Attribute, Disks, Named, InFailgroup, All, DroppedDisk, Redundancy, Unprotected, Mirror, High, TemplateWords, Clause, Statement}
+use Rattle.asm_world.specs.Statement.{FailgroupKind, Quorum, Regular, NewDisk, NewFailgroup, Rebalance, Attribute, NamedDisks, Named, InFailgroup, All, DroppedDisk, Redundancy, Unprotected, Mirror, High, TemplateWords, Clause, Statement}
 use Rattle.asm_world.specs.Statement.{AddDisks, AddTemplate, AddDirectory, AddAlias, DropDisks, DropFailgroup, DropTemplate, DropDirectory, DropAlias, DropFile, UndropDisks, ResizeAll, ResizeDisk, Rebalancing, Check, Mount, Dismount, Online, Offline, ModifyTemplate, RenameDirectory, RenameAlias, SetAttribute}
 use Rattle.asm_world.specs.Statement.{CreateDisk, CreateGroup, DropGroup, Alter}
 
@@ -32,11 +32,11 @@ is_quorum None = false
 is_quorum (Some (inl word)) = true
 is_quorum (Some (inr word)) = false
 
-abbrev pub disk_of : Value g.disk → NewDisk
-disk_of (path, (name, (size, force))) = record { path = path; name = behind name; size = behind size; force = is_said force }
+abbrev pub new_disk_of : Value g.disk → NewDisk
+new_disk_of (path, (name, (size, force))) = record { path = path; name = behind name; size = behind size; force = is_said force }
 
 abbrev pub failgroup_of : Value g.failgroup → NewFailgroup
-failgroup_of (kind, (name, (word, disks))) = record { quorum = is_quorum kind; name = behind name; disks = items_of disk_of disks }
+failgroup_of (kind, (name, (word, disks))) = record { quorum = is_quorum kind; name = behind name; disks = items_of new_disk_of disks }
 
 abbrev pub failgroups_of : Value g.failgroups → List NewFailgroup
 failgroups_of (one, others) = map failgroup_of (one ∷ others)
@@ -81,7 +81,7 @@ abbrev pub resize_of : Value g.resize → Clause
 resize_of (word, (inl every, (size, rebalance))) = ResizeAll (behind size) (option_map rebalance_of rebalance)
 resize_of (word, (inr (disk, name), (size, rebalance))) = ResizeDisk name (behind size) (option_map rebalance_of rebalance)
 
-abbrev pub some_disks_of : Value g.some_disks → Disks
+abbrev pub some_disks_of : Value g.some_disks → NamedDisks
 some_disks_of (inl (word, names)) = Named (items_of (λ name. name) names)
 some_disks_of (inr (word, (sign, (kind, (failgroup, name))))) = InFailgroup (option_map group_word_of kind) name
 

@@ -23,8 +23,8 @@ abbrev pub usual_name : Bytes → ℕ → Bytes
 usual_name group number = take 25 group ++ 95 ∷ four_digits number
 
 -- each disk with the failure group that stands before it
-abbrev pub disks_said : List NewFailgroup → List (NewFailgroup × NewDisk)
-disks_said groups = flat_map (λ (g : NewFailgroup). map (λ (d : NewDisk). (g, d)) g.disks) groups
+abbrev pub disks_with_failgroups : List NewFailgroup → List (NewFailgroup × NewDisk)
+disks_with_failgroups groups = flat_map (λ (g : NewFailgroup). map (λ (d : NewDisk). (g, d)) g.disks) groups
 
 abbrev pub planned_disk : Bytes → ℕ → NewFailgroup → NewDisk → PlannedDisk
 planned_disk group number g d =
@@ -53,7 +53,7 @@ numbers_from n rows (d ∷ disks) =
 
 -- New disks take the least numbers that no disk of the group has.
 abbrev pub planned : Bytes → List DiskRow → List NewFailgroup → List PlannedDisk
-planned group rows groups = planned_with group (numbers_from 0 rows (disks_said groups)) (disks_said groups)
+planned group rows groups = planned_with group (numbers_from 0 rows (disks_with_failgroups groups)) (disks_with_failgroups groups)
 
 -- ---- names and paths given twice
 

@@ -3,47 +3,47 @@ use Rattle.std.specs.Prelude.{ℕ}
 use Rattle.asm_group.specs.Refusal as r
 
 -- the number that is printed of a refusal
-abbrev pub number_of : r.Refusal → ℕ
-number_of (r.Syntax at) = 1
-number_of r.NoGroup = 2
-number_of r.GroupExists = 3
-number_of r.AlreadyMounted = 4
-number_of (r.NoDisk text) = 5
-number_of (r.DiskTaken path) = 6
-number_of (r.TooFewGroups need have) = 7
-number_of (r.TooSmall disk need) = 8
-number_of (r.NoMajority seen need) = 9
-number_of r.DirectoriesLost = 10
-number_of (r.MissingDisks disk) = 11
-number_of r.TwoGroups = 12
-number_of (r.Damaged path block) = 13
-number_of r.NoName = 14
-number_of r.NameTaken = 15
-number_of r.NotDirectory = 16
-number_of r.NotEmpty = 17
-number_of r.HasAlias = 18
-number_of r.SystemName = 19
-number_of r.NoTemplate = 20
-number_of r.SystemTemplate = 21
-number_of (r.BadAttribute name) = 22
-number_of (r.BadPower n) = 23
-number_of r.BadRedundancy = 24
-number_of (r.NoSpace file index) = 25
-number_of (r.DirectoryFull need free) = 26
-number_of r.OutOfFile = 27
-number_of r.NotSectors = 28
-number_of (r.Lost file index) = 29
-number_of (r.ReadFault disk) = 30
-number_of (r.WriteFault disk) = 31
-number_of (r.Dismounted disk) = 32
-number_of (r.WouldLose file index) = 33
-number_of (r.DiskState disk mode) = 34
-number_of (r.HoldsStatus disk) = 35
-number_of (r.TooMany kind limit) = 36
-number_of (r.HostFault path) = 37
-number_of r.GroupNotEmpty = 38
-number_of r.NoMemory = 39
-number_of (r.HoldsDirectories disk) = 40
+abbrev pub refusal_number : r.Refusal → ℕ
+refusal_number (r.Syntax at) = 1
+refusal_number r.NoGroup = 2
+refusal_number r.GroupExists = 3
+refusal_number r.AlreadyMounted = 4
+refusal_number (r.NoDisk text) = 5
+refusal_number (r.DiskTaken path) = 6
+refusal_number (r.TooFewGroups need have) = 7
+refusal_number (r.TooSmall disk need) = 8
+refusal_number (r.NoMajority seen need) = 9
+refusal_number r.DirectoriesLost = 10
+refusal_number (r.MissingDisks disk) = 11
+refusal_number r.TwoGroups = 12
+refusal_number (r.Damaged path block) = 13
+refusal_number r.NoName = 14
+refusal_number r.NameTaken = 15
+refusal_number r.NotDirectory = 16
+refusal_number r.NotEmpty = 17
+refusal_number r.HasAlias = 18
+refusal_number r.SystemName = 19
+refusal_number r.NoTemplate = 20
+refusal_number r.SystemTemplate = 21
+refusal_number (r.BadAttribute name) = 22
+refusal_number (r.BadPower n) = 23
+refusal_number r.BadRedundancy = 24
+refusal_number (r.NoSpace file index) = 25
+refusal_number (r.DirectoryFull need free) = 26
+refusal_number r.OutOfFile = 27
+refusal_number r.NotSectors = 28
+refusal_number (r.Lost file index) = 29
+refusal_number (r.ReadFault disk) = 30
+refusal_number (r.WriteFault disk) = 31
+refusal_number (r.Dismounted disk) = 32
+refusal_number (r.WouldLose file index) = 33
+refusal_number (r.DiskState disk mode) = 34
+refusal_number (r.HoldsStatus disk) = 35
+refusal_number (r.TooMany kind limit) = 36
+refusal_number (r.HostFault path) = 37
+refusal_number r.GroupNotEmpty = 38
+refusal_number r.NoMemory = 39
+refusal_number (r.HoldsDirectories disk) = 40
 
 -- ---- numbers by name, of refusals that may come by what lies below the world
 

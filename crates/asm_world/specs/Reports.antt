@@ -30,17 +30,17 @@ kind_text High = codes "HIGH"
 -- a row of ls
 pub data Listed : Type 0 where
   Directory : (name : Bytes) → Listed
-  SystemName : (type_name : Bytes) (copies : ℕ) (stripe : Stripe) (name : Bytes) → Listed
+  ListedSystemName : (type_name : Bytes) (copies : ℕ) (stripe : Stripe) (name : Bytes) → Listed
   AliasName : (type_name : Bytes) (copies : ℕ) (stripe : Stripe) (name target : Bytes) → Listed
 
 abbrev pub short_line : Listed → Bytes
 short_line (Directory name) = name ++ 47 ∷ []
-short_line (SystemName type_name copies stripe name) = name
+short_line (ListedSystemName type_name copies stripe name) = name
 short_line (AliasName type_name copies stripe name target) = name
 
 abbrev pub long_line : Listed → Bytes
 long_line (Directory name) = spaced (codes "DIR" ∷ codes "-" ∷ codes "-" ∷ codes "N" ∷ (name ++ 47 ∷ []) ∷ [])
-long_line (SystemName type_name copies stripe name) = spaced (type_name ∷ copies_text copies ∷ stripe_text stripe ∷ codes "Y" ∷ name ∷ [])
+long_line (ListedSystemName type_name copies stripe name) = spaced (type_name ∷ copies_text copies ∷ stripe_text stripe ∷ codes "Y" ∷ name ∷ [])
 long_line (AliasName type_name copies stripe name target) =
     spaced (type_name ∷ copies_text copies ∷ stripe_text stripe ∷ codes "N" ∷ name ∷ codes "=>" ∷ target ∷ [])
 

@@ -33,19 +33,19 @@ pub data Phase : Type 0 where
   -- at its end, for want of memory
   Stopped : Phase
 
-pub data Move : Type 0 where
+pub data SessionMove : Type 0 where
   -- a command comes, and the clock gives a time
-  Starts : (time : ℕ) → Move
+  Starts : (time : ℕ) → SessionMove
   -- before the command: a disk that expired is dropped, or its group is dismounted by that
-  Expires : (event : Event) → Move
+  Expires : (event : Event) → SessionMove
   -- the command is answered, with what it found of ids by then
-  Answers : (found : Found) (text : Bytes) (reply : Reply) → Move
+  Answers : (found : Found) (text : Bytes) (reply : Reply) → SessionMove
   -- after the reply: a slice is done
-  Slices : (event : Event) → Move
+  Slices : (event : Event) → SessionMove
   -- nothing more is due
-  Rests : Move
+  Rests : SessionMove
   -- memory is short in an expiry or in a slice, which ends the run
-  Stops : Move
+  Stops : SessionMove
 
 -- The state of a session, with the number of calls on the disks by then, and whatever else is counted.
 pub record State (Counts : Type 0) : Type 0 where
@@ -69,8 +69,8 @@ below_of_entry below None = None
 below_of_entry below (Some entry) = if is_mounted entry then Some (below entry.id) else None
 
 -- what is below a group of this name that is mounted
-abbrev pub below_of : World → (ℕ → GroupBelow) → Bytes → Option GroupBelow
-below_of w below name = below_of_entry below (entry_in w name)
+abbrev pub below_of_mounted : World → (ℕ → GroupBelow) → Bytes → Option GroupBelow
+below_of_mounted w below name = below_of_entry below (entry_in w name)
 
 abbrev pub expiring_of : Option GroupBelow → Option Bytes
 expiring_of None = None
@@ -85,7 +85,7 @@ pub record Expiry : Type 0 where
 -- the first that is due
 abbrev pub next_expiry : World → (ℕ → GroupBelow) → List Bytes → Option Expiry
 next_expiry w below [] = None
-next_expiry w below (name ∷ names) = elim (expiring_of (below_of w below name)) [
+next_expiry w below (name ∷ names) = elim (expiring_of (below_of_mounted w below name)) [
   | None ↦ next_expiry w below names
   | Some disk ↦ Some (record { group = name; disk = disk; others = names })
 ]
@@ -108,9 +108,9 @@ due_rebalance name None = None
 due_rebalance name (Some b) = if b.moving then Some (DueRebalance name) else None
 
 -- where a disk is Syncing, or a rebalance is active with a power of at least 1
-abbrev pub due_of : World → (ℕ → GroupBelow) → Slice → Option Due
-due_of w below (Resync name) = due_resync name (below_of w below name)
-due_of w below (Rebalance name) = due_rebalance name (below_of w below name)
+abbrev pub due_of_slice : World → (ℕ → GroupBelow) → Slice → Option Due
+due_of_slice w below (Resync name) = due_resync name (below_of_mounted w below name)
+due_of_slice w below (Rebalance name) = due_rebalance name (below_of_mounted w below name)
 
 pub record DueSlice : Type 0 where
   pub due : Due
@@ -119,7 +119,7 @@ pub record DueSlice : Type 0 where
 -- the first that is due
 abbrev pub next_slice : World → (ℕ → GroupBelow) → List Slice → Option DueSlice
 next_slice w below [] = None
-next_slice w below (slice ∷ slices) = elim (due_of w below slice) [
+next_slice w below (slice ∷ slices) = elim (due_of_slice w below slice) [
   | None ↦ next_slice w below slices
   | Some due ↦ Some (record { due = due; others = slices })
 ]
@@ -195,21 +195,21 @@ pub record RestsAt {Counts : Type 0} (s t : State Counts) : Type 0 where
   pub time : t.time ≡ s.time
 
 -- an expiry or a slice is due
-abbrev pub is_due : World → (ℕ → GroupBelow) → Phase → Bool
-is_due w below Resting = false
-is_due w below (Expiring groups) = is_some (next_expiry w below groups)
-is_due w below (Slicing slices) = is_some (next_slice w below slices)
-is_due w below Stopped = false
+abbrev pub is_work_due : World → (ℕ → GroupBelow) → Phase → Bool
+is_work_due w below Resting = false
+is_work_due w below (Expiring groups) = is_some (next_expiry w below groups)
+is_work_due w below (Slicing slices) = is_some (next_slice w below slices)
+is_work_due w below Stopped = false
 
 -- There was no memory for what is due.
 pub record StopsAt {Counts : Type 0} (s t : State Counts) : Type 0 where
-  pub due : is_due s.world s.below s.phase ≡ true
+  pub due : is_work_due s.world s.below s.phase ≡ true
   pub after : t.phase ≡ Stopped
   pub world : t.world ≡ s.world
   pub time : t.time ≡ s.time
 
 -- What a move may do, where texts have this meaning.
-abbrev pub Does : {Counts : Type 0} → (Bytes → Command) → State Counts → Move → State Counts → Type 0
+abbrev pub Does : {Counts : Type 0} → (Bytes → Command) → State Counts → SessionMove → State Counts → Type 0
 Does means s (Starts time) t = StartsAt time s t
 Does means s (Expires event) t = ExpiresAt event s t
 Does means s (Answers found text reply) t = AnswersAt means found text reply s t
@@ -224,7 +224,7 @@ pub record Outside (Counts Image : Type 0) : Type 1 where
   -- what a text asks for
   pub means : Bytes → Command
   -- whether a move has its cause, and did its work beside the world, by what is counted
-  pub causes : State Counts → Move → State Counts → Type 0
+  pub causes : State Counts → SessionMove → State Counts → Type 0
   -- whether a stop in a moment may leave an image
   pub leaves : ℕ → Image → Type 0
   -- whether an image may stand for the groups of an id, and for no others
@@ -233,7 +233,7 @@ pub record Outside (Counts Image : Type 0) : Type 1 where
   pub stands : ℕ → Image → Type 0
 
 -- the groups that the images of an id may stand for in the moments of a move
-abbrev pub groups_in : (Bytes → Command) → World → Move → World → ℕ → List Group
+abbrev pub groups_in : (Bytes → Command) → World → SessionMove → World → ℕ → List Group
 groups_in means w (Answers found text reply) new id = groups_between w (means text) new id
 groups_in means w (Starts time) new id = groups_of w id
 groups_in means w (Expires event) new id = groups_of w id
@@ -242,20 +242,20 @@ groups_in means w Rests new id = groups_of w id
 groups_in means w Stops new id = groups_of w id
 
 -- for each id the image stands for groups between the worlds before and after the move
-abbrev pub IsHeld : {Counts Image : Type 0} → Outside Counts Image → State Counts → Move → State Counts → Image → Type 0
-IsHeld out s move t image = (id : ℕ) → out.allows id (groups_in out.means s.world move t.world id) image
+abbrev pub StandsBetween : {Counts Image : Type 0} → Outside Counts Image → State Counts → SessionMove → State Counts → Image → Type 0
+StandsBetween out s move t image = (id : ℕ) → out.allows id (groups_in out.means s.world move t.world id) image
 
 -- each group that is mounted before the move and after it is there
-abbrev pub IsThere : {Counts Image : Type 0} → Outside Counts Image → State Counts → State Counts → Image → Type 0
-IsThere out s t image = (id : ℕ) → has_mounted s.world id ≡ true → has_mounted t.world id ≡ true → out.stands id image
+abbrev pub AreMountedThere : {Counts Image : Type 0} → Outside Counts Image → State Counts → State Counts → Image → Type 0
+AreMountedThere out s t image = (id : ℕ) → has_mounted s.world id ≡ true → has_mounted t.world id ≡ true → out.stands id image
 
 -- One move. An image that a stop may leave in a moment that ends in it stands for groups between, and each group that stays mounted is there.
-pub record IsMove {Counts Image : Type 0} (out : Outside Counts Image) (s : State Counts) (move : Move) (t : State Counts) : Type 0 where
+pub record IsMove {Counts Image : Type 0} (out : Outside Counts Image) (s : State Counts) (move : SessionMove) (t : State Counts) : Type 0 where
   pub does : Does out.means s move t
   pub caused : out.causes s move t
   pub calls : s.calls ≤ t.calls
-  pub images : (m : ℕ) (image : Image) → s.calls ≤ m → m < t.calls → out.leaves m image → IsHeld out s move t image
-  pub there : (m : ℕ) (image : Image) → s.calls ≤ m → m < t.calls → out.leaves m image → IsThere out s t image
+  pub images : (m : ℕ) (image : Image) → s.calls ≤ m → m < t.calls → out.leaves m image → StandsBetween out s move t image
+  pub there : (m : ℕ) (image : Image) → s.calls ≤ m → m < t.calls → out.leaves m image → AreMountedThere out s t image
 
 -- how texts are printed: in full, in one byte under --generate, or there the last
 pub data Style : Type 0 where
@@ -264,40 +264,40 @@ pub data Style : Type 0 where
   Last : Style
 
 -- a move, how it is printed, what of its text was printed, and the state after it
-pub record Entry (Counts : Type 0) : Type 0 where
-  pub move : Move
+pub record PrintedMove (Counts : Type 0) : Type 0 where
+  pub move : SessionMove
   pub style : Style
   pub printed : Bytes
   pub after : State Counts
 
-abbrev pub IsRun : {Counts Image : Type 0} → Outside Counts Image → State Counts → List (Entry Counts) → Type 0
+abbrev pub IsRun : {Counts Image : Type 0} → Outside Counts Image → State Counts → List (PrintedMove Counts) → Type 0
 IsRun out s [] = ⊤
 IsRun out s (e ∷ es) = IsMove out s e.move e.after × IsRun out e.after es
 
 -- a premise on each of these moves
-abbrev pub AllMoves : {Counts : Type 0} → (Move → Type 0) → List (Entry Counts) → Type 0
+abbrev pub AllMoves : {Counts : Type 0} → (SessionMove → Type 0) → List (PrintedMove Counts) → Type 0
 AllMoves premise [] = ⊤
 AllMoves premise (e ∷ es) = premise e.move × AllMoves premise es
 
 -- The moves before the first that doesn't meet the premise are a run.
-abbrev pub IsRunWhile : {Counts Image : Type 0} → Outside Counts Image → (Move → Type 0) → State Counts → List (Entry Counts) → Type 0
+abbrev pub IsRunWhile : {Counts Image : Type 0} → Outside Counts Image → (SessionMove → Type 0) → State Counts → List (PrintedMove Counts) → Type 0
 IsRunWhile out premise s [] = ⊤
 IsRunWhile out premise s (e ∷ es) = premise e.move → IsMove out s e.move e.after × IsRunWhile out premise e.after es
 
 -- the count of calls on the disks never falls, whatever the moves are
-abbrev pub CallsRise : {Counts : Type 0} → State Counts → List (Entry Counts) → Type 0
+abbrev pub CallsRise : {Counts : Type 0} → State Counts → List (PrintedMove Counts) → Type 0
 CallsRise s [] = ⊤
 CallsRise s (e ∷ es) = (s.calls ≤ e.after.calls) × CallsRise e.after es
 
 -- the state after a run
-abbrev pub end_of : {Counts : Type 0} → State Counts → List (Entry Counts) → State Counts
+abbrev pub end_of : {Counts : Type 0} → State Counts → List (PrintedMove Counts) → State Counts
 end_of s [] = s
 end_of s (e ∷ es) = end_of e.after es
 
 -- The moment ends in one of these moves, and the image stands for groups between the worlds before and after it.
-abbrev pub HeldBy : {Counts Image : Type 0} → Outside Counts Image → State Counts → List (Entry Counts) → ℕ → Image → Type 0
+abbrev pub HeldBy : {Counts Image : Type 0} → Outside Counts Image → State Counts → List (PrintedMove Counts) → ℕ → Image → Type 0
 HeldBy out s [] m image = ⊥
-HeldBy out s (e ∷ es) m image = ((s.calls ≤ m) × (m < e.after.calls) × IsHeld out s e.move e.after image) ⊎ HeldBy out e.after es m image
+HeldBy out s (e ∷ es) m image = ((s.calls ≤ m) × (m < e.after.calls) × StandsBetween out s e.move e.after image) ⊎ HeldBy out e.after es m image
 
 -- in the moment that lasts, an image stands for the groups of the world
 abbrev pub IsHeldNow : {Counts Image : Type 0} → Outside Counts Image → State Counts → Type 0
@@ -320,7 +320,7 @@ event_in Short event = []
 event_in Last event = []
 
 -- the line of a move, or the text of its reply
-abbrev pub text_of : Style → Move → Bytes
+abbrev pub text_of : Style → SessionMove → Bytes
 text_of style (Starts time) = []
 text_of style (Expires event) = event_in style event
 text_of style (Answers found text reply) = reply_in style reply
@@ -328,41 +328,41 @@ text_of style (Slices event) = event_in style event
 text_of style Rests = []
 text_of style Stops = []
 
-abbrev pub entry_text : {Counts : Type 0} → Entry Counts → Bytes
+abbrev pub entry_text : {Counts : Type 0} → PrintedMove Counts → Bytes
 entry_text e = text_of e.style e.move
 
 -- all texts were printed
-abbrev pub IsPrinted : {Counts : Type 0} → List (Entry Counts) → Type 0
+abbrev pub IsPrinted : {Counts : Type 0} → List (PrintedMove Counts) → Type 0
 IsPrinted [] = ⊤
 IsPrinted (e ∷ es) = (e.printed ≡ entry_text e) × IsPrinted es
 
 -- all texts were printed, or all but the last and a front of that one
-abbrev pub IsPrintedToCut : {Counts : Type 0} → List (Entry Counts) → Type 0
+abbrev pub IsPrintedToCut : {Counts : Type 0} → List (PrintedMove Counts) → Type 0
 IsPrintedToCut [] = ⊤
 IsPrintedToCut (e ∷ es) = ((e.printed ≡ entry_text e) × IsPrintedToCut es)
     ⊎ ((rest : Bytes) × (entry_text e ≡ e.printed ++ rest) × (es ≡ []))
 
-abbrev pub output_of : {Counts : Type 0} → List (Entry Counts) → Bytes
+abbrev pub output_of : {Counts : Type 0} → List (PrintedMove Counts) → Bytes
 output_of history = flat_map (λ e. e.printed) history
 
 -- every text is in full
-abbrev pub IsFull : {Counts : Type 0} → List (Entry Counts) → Type 0
-IsFull [] = ⊤
-IsFull (e ∷ es) = (e.style ≡ Full) × IsFull es
+abbrev pub AreInFull : {Counts : Type 0} → List (PrintedMove Counts) → Type 0
+AreInFull [] = ⊤
+AreInFull (e ∷ es) = (e.style ≡ Full) × AreInFull es
 
 -- Under --generate, where n commands are left: short texts, but of the last command.
-abbrev pub IsGenerated : {Counts : Type 0} → ℕ → List (Entry Counts) → Type 0
+abbrev pub IsGenerated : {Counts : Type 0} → ℕ → List (PrintedMove Counts) → Type 0
 IsGenerated n [] = ⊤
 IsGenerated n (e ∷ es) = (e.style ≡ style_at n e.move) × IsGenerated (left_after n e.move) es where
-  left_after : ℕ → Move → ℕ
+  left_after : ℕ → SessionMove → ℕ
   left_after n (Answers found text reply) = n - 1
   left_after n other = n
 
-  style_at : ℕ → Move → Style
+  style_at : ℕ → SessionMove → Style
   style_at n (Answers found text reply) = if n == 1 then Last else Short
   style_at n other = Short
 
-abbrev pub commands_at : Move → List Bytes
+abbrev pub commands_at : SessionMove → List Bytes
 commands_at (Answers found text reply) = text ∷ []
 commands_at (Starts time) = []
 commands_at (Expires event) = []
@@ -371,10 +371,10 @@ commands_at Rests = []
 commands_at Stops = []
 
 -- the texts of the commands that were answered
-abbrev pub answered : {Counts : Type 0} → List (Entry Counts) → List Bytes
+abbrev pub answered : {Counts : Type 0} → List (PrintedMove Counts) → List Bytes
 answered history = flat_map (λ e. commands_at e.move) history
 
-abbrev pub times_at : Move → List ℕ
+abbrev pub times_at : SessionMove → List ℕ
 times_at (Starts time) = time ∷ []
 times_at (Expires event) = []
 times_at (Answers found text reply) = []
@@ -383,10 +383,10 @@ times_at Rests = []
 times_at Stops = []
 
 -- the times that the clock gave
-abbrev pub times_of : {Counts : Type 0} → List (Entry Counts) → List ℕ
+abbrev pub times_of : {Counts : Type 0} → List (PrintedMove Counts) → List ℕ
 times_of history = flat_map (λ e. times_at e.move) history
 
-abbrev pub marks_at : Move → Bool → ℕ → List ℕ
+abbrev pub marks_at : SessionMove → Bool → ℕ → List ℕ
 marks_at (Answers found text reply) whole calls = if whole then calls ∷ [] else []
 marks_at (Starts time) whole calls = []
 marks_at (Expires event) whole calls = []
@@ -395,14 +395,14 @@ marks_at Rests whole calls = []
 marks_at Stops whole calls = []
 
 -- the counts of calls at which replies had been printed whole
-abbrev pub marks_of : {Counts : Type 0} → List (Entry Counts) → List ℕ
-marks_of history = flat_map (λ e. marks_at e.move (bytes_eq e.printed (entry_text e)) e.after.calls) history
+abbrev pub marks_in_history : {Counts : Type 0} → List (PrintedMove Counts) → List ℕ
+marks_in_history history = flat_map (λ e. marks_at e.move (bytes_eq e.printed (entry_text e)) e.after.calls) history
 
 abbrev pub is_refusal : Reply → Bool
 is_refusal (Done lines) = false
 is_refusal (Refused lines cause) = true
 
-abbrev pub refuses : Move → Bool
+abbrev pub refuses : SessionMove → Bool
 refuses (Answers found text reply) = is_refusal reply
 refuses (Starts time) = false
 refuses (Expires event) = false
@@ -411,5 +411,5 @@ refuses Rests = false
 refuses Stops = false
 
 -- some reply is a refusal
-abbrev pub has_refusal : {Counts : Type 0} → List (Entry Counts) → Bool
+abbrev pub has_refusal : {Counts : Type 0} → List (PrintedMove Counts) → Bool
 has_refusal history = list_any (λ e. refuses e.move) history

@@ -8,10 +8,10 @@ use Rattle.asm_group.specs.Refusal as r
 use Rattle.asm_world.specs.Below.{Below, GroupBelow}
 use Rattle.asm_world.specs.Causes.{HasCause}
 use Rattle.asm_world.specs.Command.{Command, Said}
-use Rattle.asm_world.specs.Files.{NewName, with_file}
+use Rattle.asm_world.specs.Files.{NewName, group_with_file}
 use Rattle.asm_world.specs.Language.{command_of}
 use Rattle.asm_world.specs.Reply.{Done, Refused, Expired, Moved, Synced, MovesLeft, Finished, MarksLeft}
-use Rattle.asm_world.specs.Run.{Outside, State, Phase, Resting, Expiring, Slicing, Stopped, Resync, Rebalance, Move, Starts, Expires, Answers, Slices, Rests, Stops, Does, Entry, Full, IsRun, text_of, entry_text}
+use Rattle.asm_world.specs.Run.{Outside, State, Phase, Resting, Expiring, Slicing, Stopped, Resync, Rebalance, SessionMove, Starts, Expires, Answers, Slices, Rests, Stops, Does, PrintedMove, Full, IsRun, text_of, entry_text}
 use Rattle.asm_world.specs.Statement as s
 use Rattle.asm_world.specs.Waits.{HasLines}
 use Rattle.asm_world.specs.World.{World, NotTold, empty_world, entry_in, mounted_entry, mounted_group}
@@ -71,41 +71,41 @@ all_moved = standing_at None 7 (Slicing [])
 
 -- ---- moves
 
-abbrev pub expires : Bytes → Move
+abbrev pub expires : Bytes → SessionMove
 expires disk = Expires (Expired data_name disk)
 
-abbrev pub answers : Move
+abbrev pub answers : SessionMove
 answers = Answers (record { ids = []; made = None }) (codes "pwd") (Done (codes "+" ∷ []))
 
-abbrev pub resyncs : Move
+abbrev pub resyncs : SessionMove
 resyncs = Slices (Synced data_name (codes "DATA_0003") (MarksLeft 64))
 
-abbrev pub moves : Move
+abbrev pub moves : SessionMove
 moves = Slices (Moved data_name (MovesLeft 1))
 
-abbrev pub moves_logs : Move
+abbrev pub moves_logs : SessionMove
 moves_logs = Slices (Moved logs_name (Finished 2))
 
-abbrev pub entry : Move → State (Unit {0}) → Entry (Unit {0})
+abbrev pub entry : SessionMove → State (Unit {0}) → PrintedMove (Unit {0})
 entry move after = record { move = move; style = Full; printed = text_of Full move; after = after }
 
 -- a command in the order of the top call: the clock, an expiry, the answer, and of each group its resync and then its rebalance
-abbrev pub in_order : List (Entry (Unit {0}))
-in_order =
+abbrev pub history_in_order : List (PrintedMove (Unit {0}))
+history_in_order =
     entry (Starts 7) started ∷ entry (expires (codes "DATA_0002")) dropped ∷ entry answers answered
     ∷ entry resyncs resynced ∷ entry moves moved ∷ entry moves_logs all_moved ∷ entry Rests (standing_at None 7 Resting) ∷ []
 
 -- Of the disks nothing is told.
-abbrev pub untold : Outside (Unit {0}) (Unit {0})
-untold = record { means = command_of; causes = λ s move t. ⊤; leaves = λ m image. ⊥; allows = λ id groups image. ⊤; stands = λ id image. ⊤ }
+abbrev pub untold_outside : Outside (Unit {0}) (Unit {0})
+untold_outside = record { means = command_of; causes = λ s move t. ⊤; leaves = λ m image. ⊥; allows = λ id groups image. ⊤; stands = λ id image. ⊤ }
 
 -- the move doesn't come there, whatever the state after it
-abbrev pub Never : State (Unit {0}) → Move → Type 0
+abbrev pub Never : State (Unit {0}) → SessionMove → Type 0
 Never s move = (t : State (Unit {0})) → Does command_of s move t → ⊥
 
 pub record RunRows : Type 0 where
-  pub runs : IsRun untold at_rest in_order
-  pub prints : flat_map entry_text in_order
+  pub runs : IsRun untold_outside at_rest history_in_order
+  pub prints : flat_map entry_text history_in_order
       ≡ codes "expired DATA DATA_0002\n+\nok\nsync DATA DATA_0003 more 64\nrebal DATA more 1\nrebal LOGS done 2\n"
   -- no answer before an expiry that is due, and no slice before the answer
   pub early_answer : Never started answers
@@ -123,7 +123,7 @@ pub record RunRows : Type 0 where
   pub short_at_rest : Never at_rest Stops
   pub short_command : Never dropped Stops
   pub short_of_nothing : Never all_moved Stops
-  pub after_the_end : (move : Move) → Never (standing_at None 7 Stopped) move
+  pub after_the_end : (move : SessionMove) → Never (standing_at None 7 Stopped) move
 
 -- ---- lines under WAIT
 
@@ -161,5 +161,5 @@ WaitsAreOwed = (below : Below) (w : World) (g : Group) → entry_in w data_name 
 
 -- The next incarnation is one more, and stays once it is the greatest.
 pub record IncarnationRows : Type 0 where
-  pub one_more : (g : Group) (name : NewName) (n : ℕ) (f : File) → g.next ≡ 3 → (with_file g name n f).next ≡ 4
-  pub stays : (g : Group) (name : NewName) (n : ℕ) (f : File) → g.next ≡ 2 ^ 64 - 1 → (with_file g name n f).next ≡ 2 ^ 64 - 1
+  pub one_more : (g : Group) (name : NewName) (n : ℕ) (f : File) → g.next ≡ 3 → (group_with_file g name n f).next ≡ 4
+  pub stays : (g : Group) (name : NewName) (n : ℕ) (f : File) → g.next ≡ 2 ^ 64 - 1 → (group_with_file g name n f).next ≡ 2 ^ 64 - 1

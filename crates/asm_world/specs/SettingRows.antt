@@ -37,7 +37,7 @@ pub record PathRows : Type 0 where
   pub all : is_match (codes "*") (codes "x") ≡ true
   pub other : is_match (codes "u*2") (codes "u.256.1") ≡ false
 
-pub record NameRows : Type 0 where
+pub record NewNameRows : Type 0 where
   pub usual : usual_name (codes "DATA") 0 ≡ codes "DATA_0000"
   pub long_group : usual_name (codes "G23456789012345678901234567890") 0 ≡ codes "G234567890123456789012345_0000"
   pub file : file_name (codes "u") 256 1 ≡ codes "u.256.1"
@@ -79,8 +79,8 @@ pub record CauseRows (below : Below) : Type 0 where
   pub high_needs_three : decided (statement_causes below first_world (s.CreateGroup (codes "H") (Some High) (plain (codes "d0" ∷ codes "d1" ∷ [])) [])) ≡ Some (r.TooFewGroups 3 2)
   pub path_twice : decided (statement_causes below first_world (s.CreateGroup (codes "D") None (plain (codes "d0" ∷ codes "d0" ∷ [])) [])) ≡ Some r.NameTaken
   pub statement_twice : decided (statement_causes below one_dismounted (s.CreateGroup (codes "data") (Some External) (plain (codes "d0" ∷ [])) [])) ≡ Some r.GroupExists
-  pub no_group : decided (verb_causes below first_world (c.MakeDir (codes "+NONE/a"))) ≡ Some r.NoGroup
-  pub no_group_at_top : decided (verb_causes below first_world (c.MakeDir (codes ".."))) ≡ Some r.NoGroup
+  pub no_group : decided (verb_causes below first_world (c.MakeDirectory (codes "+NONE/a"))) ≡ Some r.NoGroup
+  pub no_group_at_top : decided (verb_causes below first_world (c.MakeDirectory (codes ".."))) ≡ Some r.NoGroup
   pub later : decided (verb_causes below one_dismounted (c.Ls false (Some (codes "+DATA")))) ≡ Some (r.Dismounted (codes "DATA_0000"))
   pub dismount : decided (statement_causes below one_dismounted (s.Alter (codes "DATA") (s.Dismount false))) ≡ None
   pub mount : decided (statement_causes below one_dismounted (s.Alter (codes "DATA") (s.Mount true))) ≡ None

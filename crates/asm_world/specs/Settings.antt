@@ -2,8 +2,8 @@
 use Rattle.std.specs.Prelude.{ℕ, zero, suc, ◌+◌, ◌-◌, ◌*◌, Bool, true, false, ◌&&◌, ◌||◌, ◌==◌, not, nat_le, List, [], ◌∷◌, length, take, drop, Option, Some, None, unwrap_or, Result, Ok, Err, codes, if◌then◌else◌}
 use Rattle.std.specs.Option.{option_map}
 use Rattle.std.specs.Str.{bytes_eq}
-use Rattle.asm_grammar.specs.Bytes.{is_digit, upper, run_of, after_run}
-use Rattle.asm_grammar.specs.Word.{digits_of, number_of, size_of, when}
+use Rattle.asm_grammar.specs.Bytes.{is_digit_byte, upper, run_of, after_run}
+use Rattle.asm_grammar.specs.Word.{digits_of, number_of_text, size_of_text, when}
 use Rattle.asm_group.specs.declared.GroupKind.{GroupKind}
 use Rattle.asm_group.specs.declared.GroupKind.TheVariants.{Normal}
 use Rattle.asm_group.specs.declared.Stripe.{Stripe}
@@ -42,18 +42,18 @@ modified_by name words = t.Modify name (copies_in words) (stripe_in words)
 abbrev pub dropped_by : Bytes → TemplateEdit
 dropped_by name = t.Drop name
 
-abbrev pub template_at : Group → Bytes → Option Template
-template_at g name = t.template_at g.templates name
+abbrev pub group_template_at : Group → Bytes → Option Template
+group_template_at g name = t.template_at g.templates name
 
-abbrev pub template_causes : Group → TemplateEdit → Causes
-template_causes g edit = t.template_causes g.shape.kind g.templates edit
+abbrev pub group_template_causes : Group → TemplateEdit → Causes
+group_template_causes g edit = t.template_causes g.shape.kind g.templates edit
 
-abbrev pub with_template_edit : Group → TemplateEdit → Group
-with_template_edit g edit = record g { templates = t.with_template_edit g.shape.kind g.templates edit }
+abbrev pub group_with_template_edit : Group → TemplateEdit → Group
+group_with_template_edit g edit = record g { templates = t.with_template_edit g.shape.kind g.templates edit }
 
 -- The group after the edit, or why it is refused.
-abbrev pub templates_edited : Group → TemplateEdit → Result Group r.Refusal
-templates_edited g edit = unless_refused (first_cause (template_causes g edit)) (with_template_edit g edit)
+abbrev pub group_after_template_edit : Group → TemplateEdit → Result Group r.Refusal
+group_after_template_edit g edit = unless_refused (first_cause (group_template_causes g edit)) (group_with_template_edit g edit)
 
 -- ---- values of attributes
 
@@ -73,17 +73,17 @@ abbrev pub tenths_of : Option ℕ → Bytes → Option ℕ
 tenths_of None bytes = None
 tenths_of (Some n) [] = at_most (n * 10) (tenth_of [])
 tenths_of (Some n) (b ∷ []) = at_most (n * 10) (tenth_of (b ∷ []))
-tenths_of (Some n) (b ∷ d ∷ unit) = if b == 46 && is_digit d then at_most (n * 10 + (d - 48)) (tenth_of unit) else None
+tenths_of (Some n) (b ∷ d ∷ unit) = if b == 46 && is_digit_byte d then at_most (n * 10 + (d - 48)) (tenth_of unit) else None
 
 -- the seconds of a repair time
 abbrev pub repair_seconds : Bytes → Option ℕ
-repair_seconds bytes = tenths_of (digits_of (run_of is_digit bytes)) (after_run is_digit bytes)
+repair_seconds bytes = tenths_of (digits_of (run_of is_digit_byte bytes)) (after_run is_digit_byte bytes)
 
 -- so many further parts of a point and digits, at most
 abbrev pub is_version_rest : ℕ → Bytes → Bool
 is_version_rest zero bytes = length bytes == 0
 is_version_rest (suc n) [] = true
-is_version_rest (suc n) (b ∷ bytes) = (b == 46) && not (length (run_of is_digit bytes) == 0) && is_version_rest n (after_run is_digit bytes)
+is_version_rest (suc n) (b ∷ bytes) = (b == 46) && not (length (run_of is_digit_byte bytes) == 0) && is_version_rest n (after_run is_digit_byte bytes)
 
 -- 11.2 and perhaps further parts, at most 30 bytes
 abbrev pub is_version : Bytes → Bool
@@ -126,10 +126,10 @@ with_shape c test make (Some n) = when (test n) (record c { shape = make n })
 -- An attribute that a creation gives: one of the shape's, or one that may be set at any time.
 abbrev pub with_creation_attribute : Creation → s.Attribute → Option Creation
 with_creation_attribute c a =
-    if is_same_name a.name (codes "au_size") then with_shape c is_unit_size (λ n. record c.shape { au = n }) (size_of a.value)
-    else (if is_same_name a.name (codes "sector_size") then with_shape c (λ n. n == 512 || n == 4096) (λ n. record c.shape { sector = n }) (size_of a.value)
-    else (if is_same_name a.name (codes "extent_step") then with_shape c is_step (λ n. record c.shape { step = n }) (number_of a.value)
-    else (if is_same_name a.name (codes "dir_blocks") then with_shape c is_dir_blocks (λ n. record c.shape { dir_blocks = n }) (number_of a.value)
+    if is_same_name a.name (codes "au_size") then with_shape c is_unit_size (λ n. record c.shape { au = n }) (size_of_text a.value)
+    else (if is_same_name a.name (codes "sector_size") then with_shape c (λ n. n == 512 || n == 4096) (λ n. record c.shape { sector = n }) (size_of_text a.value)
+    else (if is_same_name a.name (codes "extent_step") then with_shape c is_step (λ n. record c.shape { step = n }) (number_of_text a.value)
+    else (if is_same_name a.name (codes "dir_blocks") then with_shape c is_dir_blocks (λ n. record c.shape { dir_blocks = n }) (number_of_text a.value)
     else option_map (λ attributes. record c { attributes = attributes }) (with_attribute c.attributes a))))
 
 -- Each is tried as it comes, and the last value of a name holds. That a unit has eight sectors is tried at the end.

@@ -30,10 +30,10 @@ pub record Attribute : Type 0 where
   pub value : Bytes
 
 -- the disks that a statement names
-pub data Disks : Type 0 where
-  Named : List Bytes → Disks
-  InFailgroup : Option FailgroupKind → Bytes → Disks
-  All : Disks
+pub data NamedDisks : Type 0 where
+  Named : List Bytes → NamedDisks
+  InFailgroup : Option FailgroupKind → Bytes → NamedDisks
+  All : NamedDisks
 
 pub record DroppedDisk : Type 0 where
   pub name : Bytes
@@ -68,9 +68,9 @@ pub data Clause : Type 0 where
   Check : Clause
   Mount : (force : Bool) → Clause
   Dismount : (force : Bool) → Clause
-  Online : (disks : Disks) (wait : Bool) → Clause
+  Online : (disks : NamedDisks) (wait : Bool) → Clause
   -- after so many minutes an offline disk is dropped, where they are said
-  Offline : (disks : Disks) (minutes : Option ℕ) → Clause
+  Offline : (disks : NamedDisks) (minutes : Option ℕ) → Clause
   ModifyTemplate : (name : Bytes) (words : TemplateWords) → Clause
   RenameDirectory : (old new : Bytes) → Clause
   RenameAlias : (old new : Bytes) → Clause

@@ -17,12 +17,12 @@ use Rattle.asm_world.specs.Reports.{disk_lines, template_lines, attribute_lines,
 use Rattle.asm_world.specs.Settings as t
 use Rattle.asm_world.specs.Statement as s
 use Rattle.asm_world.specs.Text.{read_lines}
-use Rattle.asm_world.specs.World.{SessionEntry, Mounted, DismountedBy, World, HostFile, NotTold, Absent, Holds, entry_in, without_entry, mounted_entry, with_dismounted, with_group}
+use Rattle.asm_world.specs.World.{SessionEntry, Mounted, DismountedBy, World, OutsideFile, NotTold, Absent, ToldBytes, entry_in, without_entry, mounted_entry, with_dismounted, with_group}
 
 -- ---- a mounted group
 
 -- The group that the name has in the session, mounted, and alone under its id.
-pub record Has (w : World) (name : Bytes) (id : ℕ) (g : Group) : Type 0 where
+pub record HasMountedGroup (w : World) (name : Bytes) (id : ℕ) (g : Group) : Type 0 where
   pub entry : SessionEntry
   pub named : entry_in w name ≡ Some entry
   pub is : entry.id ≡ id
@@ -34,7 +34,7 @@ pub record Changes (w : World) (name : Bytes) (step : ℕ → Group → Group �
   pub id : ℕ
   pub old : Group
   pub changed : Group
-  pub has : Has w name id old
+  pub has : HasMountedGroup w name id old
   pub step_is : step id old changed
   pub is : new ≡ with_group w id changed
 
@@ -42,7 +42,7 @@ pub record Changes (w : World) (name : Bytes) (step : ℕ → Group → Group �
 pub record Shows (w : World) (name : Bytes) (holds : ℕ → Group → Type 0) (new : World) : Type 0 where
   pub id : ℕ
   pub g : Group
-  pub has : Has w name id g
+  pub has : HasMountedGroup w name id g
   pub holds_is : holds id g
   pub is : new ≡ w
 
@@ -97,7 +97,7 @@ abbrev pub MayLeaveCreated : Below → World → (Group → Type 0) → World �
 MayLeaveCreated below w made new = (new ≡ w) ⊎ LeavesCreated below w made new
 
 -- One of the groups that the images may stand for is mounted, last in the order.
-pub record Mounts (w : World) (name : Bytes) (new : World) : Type 0 where
+pub record MountsGroup (w : World) (name : Bytes) (new : World) : Type 0 where
   pub id : ℕ
   pub g : Group
   pub may : MayStandFor w id g
@@ -124,7 +124,7 @@ MayNarrow w name new = (new ≡ w) ⊎ Narrows w name new
 pub record Drops (w : World) (name : Bytes) (new : World) : Type 0 where
   pub id : ℕ
   pub old : Group
-  pub has : Has w name id old
+  pub has : HasMountedGroup w name id old
   pub is : new ≡ record w { groups = maps.remove w.groups id; session = without_entry w.session name }
 
 -- ---- statements
@@ -142,24 +142,24 @@ abbrev pub edit_of : Bytes → s.Clause → Option e.TreeEdit
 edit_of name (s.AddDirectory path) = on_path (clause_path name path) (λ p. e.MakeDir p)
 edit_of name (s.DropDirectory path) = on_path (clause_path name path) (λ p. e.DropDir p)
 edit_of name (s.RenameDirectory old new) = on_paths (clause_path name old) (clause_path name new) (λ p q. e.RenameDir p q)
-edit_of name (s.AddAlias alias path) = on_paths (clause_path name alias) (clause_path name path) (λ p q. e.AddAlias p q)
-edit_of name (s.RenameAlias old new) = on_paths (clause_path name old) (clause_path name new) (λ p q. e.RenameAlias p q)
-edit_of name (s.DropAlias path) = on_path (clause_path name path) (λ p. e.DropAlias p)
+edit_of name (s.AddAlias alias path) = on_paths (clause_path name alias) (clause_path name path) (λ p q. e.AddAliasEntry p q)
+edit_of name (s.RenameAlias old new) = on_paths (clause_path name old) (clause_path name new) (λ p q. e.RenameAliasEntry p q)
+edit_of name (s.DropAlias path) = on_path (clause_path name path) (λ p. e.DropAliasEntry p)
 edit_of name other = None
 
-abbrev pub Edits : Option e.TreeEdit → Group → Group → Type 0
-Edits None old changed = ⊥
-Edits (Some edit) old changed = e.edited old edit ≡ Ok changed
+abbrev pub EditsTree : Option e.TreeEdit → Group → Group → Type 0
+EditsTree None old changed = ⊥
+EditsTree (Some edit) old changed = e.edited_group old edit ≡ Ok changed
 
 abbrev pub DropsFile : Option Path → Group → Group → Type 0
 DropsFile None old changed = ⊥
-DropsFile (Some path) old changed = e.file_dropped old (e.file_at old path) ≡ Ok changed
+DropsFile (Some path) old changed = e.file_dropped old (e.group_file_at old path) ≡ Ok changed
 
 abbrev pub ChangesNames : World → Bytes → s.Clause → List Bytes → World → Type 0
-ChangesNames w name clause lines new = Changes w name (λ id old changed. Edits (edit_of name clause) old changed) new × (lines ≡ [])
+ChangesNames w name clause lines new = Changes w name (λ id old changed. EditsTree (edit_of name clause) old changed) new × (lines ≡ [])
 
 abbrev pub ChangesTemplates : World → Bytes → t.TemplateEdit → List Bytes → World → Type 0
-ChangesTemplates w name edit lines new = Changes w name (λ id old changed. t.templates_edited old edit ≡ Ok changed) new × (lines ≡ [])
+ChangesTemplates w name edit lines new = Changes w name (λ id old changed. t.group_after_template_edit old edit ≡ Ok changed) new × (lines ≡ [])
 
 -- The clause was answered ok. A statement on disks and a rebalance leave the world, and may have lines of WAIT.
 abbrev pub DoneClause : Below → World → Bytes → s.Clause → List Bytes → World → Type 0
@@ -174,7 +174,7 @@ DoneClause below w name (s.AddTemplate template words) lines new = ChangesTempla
 DoneClause below w name (s.ModifyTemplate template words) lines new = ChangesTemplates w name (t.modified_by template words) lines new
 DoneClause below w name (s.DropTemplate template) lines new = ChangesTemplates w name (t.dropped_by template) lines new
 DoneClause below w name (s.SetAttribute attribute) lines new = Changes w name (λ id old changed. t.attribute_set old attribute ≡ Ok changed) new × (lines ≡ [])
-DoneClause below w name (s.Mount force) lines new = Mounts w name new × (lines ≡ [])
+DoneClause below w name (s.Mount force) lines new = MountsGroup w name new × (lines ≡ [])
 DoneClause below w name (s.Dismount force) lines new = IsTrue (is_some (entry_in w name)) × (new ≡ record w { session = without_entry w.session name }) × (lines ≡ [])
 DoneClause below w name s.Check lines new = Shows w name (λ id g. lines ≡ check_line (below.group id).extents (below.group id).not_full ∷ []) new
 DoneClause below w name other lines new = Shows w name (λ id g. ⊤) new
@@ -197,11 +197,11 @@ pub record MakesFile (failgroups : ℕ) (cells : List Cell) (template : Option B
   pub by : Template
   pub name_is : f.new_name path ≡ Some name
   pub by_is : f.template_for old name template ≡ Some by
-  pub is : changed ≡ f.with_file old name (f.next_number old) (f.new_file old name by failgroups cells)
+  pub is : changed ≡ f.group_with_file old name (f.next_number old) (f.new_file old name by failgroups cells)
   pub prints : lines ≡ new_file_line changed name (f.next_number old) old.next ∷ []
 
 -- The lines show bytes that agree with the file's cells in the span.
-pub record Reads (at size : ℕ) (lines : List Bytes) (path : Path) (g : Group) : Type 0 where
+pub record ReadsFile (at size : ℕ) (lines : List Bytes) (path : Path) (g : Group) : Type 0 where
   pub file : File
   pub bytes : Bytes
   pub there : f.named_file g path ≡ Some file
@@ -210,14 +210,14 @@ pub record Reads (at size : ℕ) (lines : List Bytes) (path : Path) (g : Group) 
   pub prints : lines ≡ read_lines at bytes
 
 -- Cells that a copy of these may have: a byte stays, and where any byte may stand there is one.
-abbrev pub IsCopyOf : List Cell → List Cell → Type 0
-IsCopyOf source cells = (bytes : Bytes) × f.Agrees source bytes × (cells ≡ f.known bytes)
+abbrev pub IsCopyOfCells : List Cell → List Cell → Type 0
+IsCopyOfCells source cells = (bytes : Bytes) × f.Agrees source bytes × (cells ≡ f.known bytes)
 
 -- the cells of a file outside, where the host tells it
-abbrev pub IsCopyOfHost : HostFile → List Cell → Type 0
+abbrev pub IsCopyOfHost : OutsideFile → List Cell → Type 0
 IsCopyOfHost NotTold cells = (bytes : Bytes) × (cells ≡ f.known bytes)
 IsCopyOfHost Absent cells = ⊥
-IsCopyOfHost (Holds bytes) cells = cells ≡ f.known bytes
+IsCopyOfHost (ToldBytes bytes) cells = cells ≡ f.known bytes
 
 -- the file that a path names in a mounted group
 pub record IsFileOf (w : World) (path : Bytes) (file : File) : Type 0 where
@@ -226,29 +226,29 @@ pub record IsFileOf (w : World) (path : Bytes) (file : File) : Type 0 where
   pub id : ℕ
   pub g : Group
   pub leads : target_from w.place path ≡ Some (name, inside)
-  pub has : Has w name id g
+  pub has : HasMountedGroup w name id g
   pub there : f.named_file g inside ≡ Some file
 
 -- cells that a new file has, as a copy of what stands at the path
 abbrev pub IsCopy : World → Bytes → List Cell → Type 0
 IsCopy w path cells = (IsTrue (is_host_path path) × IsCopyOfHost (w.host path) cells)
-    ⊎ ((is_host_path path ≡ false) × ((file : File) × IsFileOf w path file × IsCopyOf file.cells cells))
+    ⊎ ((is_host_path path ≡ false) × ((file : File) × IsFileOf w path file × IsCopyOfCells file.cells cells))
 
 -- all host files but this one stay, and nothing else changes
-pub record HostChanges (w : World) (path : Bytes) (step : HostFile → HostFile → Type 0) (new : World) : Type 0 where
+pub record HostChanges (w : World) (path : Bytes) (step : OutsideFile → OutsideFile → Type 0) (new : World) : Type 0 where
   pub is : new ≡ record w { host = new.host }
   pub others : (other : Bytes) → other ≢ path → new.host other ≡ w.host other
   pub step_is : step (w.host path) (new.host path)
 
 -- the file outside holds a copy of these cells, where the host tells it
-abbrev pub HoldsCopy : List Cell → HostFile → HostFile → Type 0
+abbrev pub HoldsCopy : List Cell → OutsideFile → OutsideFile → Type 0
 HoldsCopy cells NotTold new = new ≡ NotTold
-HoldsCopy cells old new = (bytes : Bytes) × f.Agrees cells bytes × (new ≡ Holds bytes)
+HoldsCopy cells old new = (bytes : Bytes) × f.Agrees cells bytes × (new ≡ ToldBytes bytes)
 
 -- The file outside is as it was, isn't there, or is a front of a copy.
-abbrev pub MayHoldFront : World → Bytes → HostFile → HostFile → Type 0
+abbrev pub MayHoldFront : World → Bytes → OutsideFile → OutsideFile → Type 0
 MayHoldFront w path old new = (new ≡ old) ⊎ (new ≡ Absent)
-    ⊎ ((file : File) × (bytes : Bytes) × (n : ℕ) × IsFileOf w path file × f.Agrees file.cells bytes × (new ≡ Holds (take n bytes)))
+    ⊎ ((file : File) × (bytes : Bytes) × (n : ℕ) × IsFileOf w path file × f.Agrees file.cells bytes × (new ≡ ToldBytes (take n bytes)))
 
 -- cp into a group
 pub record CopiesIn (below : Below) (w : World) (source target : Bytes) (lines : List Bytes) (new : World) : Type 0 where
@@ -272,35 +272,35 @@ Copies below w source target false lines new = CopiesIn below w source target li
 abbrev pub GoesTo : World → Option (List Bytes) → World → Type 0
 GoesTo w None new = ⊥
 GoesTo w (Some []) new = new ≡ record w { place = [] }
-GoesTo w (Some (name ∷ path)) new = (id : ℕ) × (g : Group) × Has w name id g × IsTrue (e.is_dir g path) × (new ≡ record w { place = e.spelt g path })
+GoesTo w (Some (name ∷ path)) new = (id : ℕ) × (g : Group) × HasMountedGroup w name id g × IsTrue (e.group_has_dir g path) × (new ≡ record w { place = e.spelt g path })
 
 abbrev pub EditsAt : World → Bytes → (Path → e.TreeEdit) → List Bytes → World → Type 0
-EditsAt w path edit lines new = ChangesAt w path (λ id p old changed. e.edited old (edit p) ≡ Ok changed) new × (lines ≡ [])
+EditsAt w path edit lines new = ChangesAt w path (λ id p old changed. e.edited_group old (edit p) ≡ Ok changed) new × (lines ≡ [])
 
 -- the alias of a file of its own group
 abbrev pub AddsAlias : Option (Bytes × Path) → Path → Group → Group → Type 0
 AddsAlias None alias old changed = ⊥
-AddsAlias (Some (name, path)) alias old changed = IsTrue (is_same_name old.name name) × (e.edited old (e.AddAlias alias path) ≡ Ok changed)
+AddsAlias (Some (name, path)) alias old changed = IsTrue (is_same_name old.name name) × (e.edited_group old (e.AddAliasEntry alias path) ≡ Ok changed)
 
 -- The verb was answered ok.
 abbrev pub DoneVerb : Below → World → c.Verb → List Bytes → World → Type 0
 DoneVerb below w (c.DbCreate path size template) lines new =
     ChangesAt w path (λ id. MakesFile (below.group id).failgroups (replicate size (Known 0)) template lines) new
-DoneVerb below w (c.DbWrite path at bytes) lines new = ChangesAt w path (λ id p old changed. f.written old p at (f.known bytes) ≡ Ok changed) new × (lines ≡ [])
-DoneVerb below w (c.DbFill path at size byte) lines new = ChangesAt w path (λ id p old changed. f.written old p at (replicate size (Known byte)) ≡ Ok changed) new × (lines ≡ [])
-DoneVerb below w (c.DbRead path at size) lines new = ShowsAt w path (λ id p g. Reads at size lines p g) new
+DoneVerb below w (c.DbWrite path at bytes) lines new = ChangesAt w path (λ id p old changed. f.group_after_write old p at (f.known bytes) ≡ Ok changed) new × (lines ≡ [])
+DoneVerb below w (c.DbFill path at size byte) lines new = ChangesAt w path (λ id p old changed. f.group_after_write old p at (replicate size (Known byte)) ≡ Ok changed) new × (lines ≡ [])
+DoneVerb below w (c.DbRead path at size) lines new = ShowsAt w path (λ id p g. ReadsFile at size lines p g) new
 DoneVerb below w (c.DbResize path size) lines new = ChangesAt w path (λ id p old changed. f.resized old p size ≡ Ok changed) new × (lines ≡ [])
 DoneVerb below w (c.Ls long path) lines new = (new ≡ w) × (list_lines w long path ≡ Some lines)
 DoneVerb below w (c.Cd path) lines new = GoesTo w (resolved w.place path) new × (lines ≡ [])
 DoneVerb below w c.Pwd lines new = (new ≡ w) × (lines ≡ path_text w.place ∷ [])
-DoneVerb below w (c.MakeDir path) lines new = EditsAt w path (λ p. e.MakeDir p) lines new
-DoneVerb below w (c.Remove path) lines new = ChangesAt w path (λ id p old changed. e.removed old p (e.file_at old p) ≡ Ok changed) new × (lines ≡ [])
-DoneVerb below w (c.Copy source target) lines new = Copies below w source target (is_host_path target) lines new
+DoneVerb below w (c.MakeDirectory path) lines new = EditsAt w path (λ p. e.MakeDir p) lines new
+DoneVerb below w (c.Remove path) lines new = ChangesAt w path (λ id p old changed. e.removed old p (e.group_file_at old p) ≡ Ok changed) new × (lines ≡ [])
+DoneVerb below w (c.CopyFile source target) lines new = Copies below w source target (is_host_path target) lines new
 DoneVerb below w (c.Usage path) lines new = (new ≡ w) × (usage_lines below w path ≡ Some lines)
 DoneVerb below w (c.Find path pattern) lines new = (new ≡ w) × (find_lines w path pattern ≡ Some lines)
 DoneVerb below w (c.MakeAlias path alias) lines new =
     ChangesAt w alias (λ id p old changed. AddsAlias (target_from w.place path) p old changed) new × (lines ≡ [])
-DoneVerb below w (c.RemoveAlias path) lines new = EditsAt w path (λ p. e.DropAlias p) lines new
+DoneVerb below w (c.RemoveAlias path) lines new = EditsAt w path (λ p. e.DropAliasEntry p) lines new
 DoneVerb below w (c.ListGroups name) lines new = (new ≡ w) × (lines ≡ lines_of_groups below w name)
 DoneVerb below w (c.ListDisks name) lines new = Shows w name (λ id g. lines ≡ disk_lines (below.group id).disks) new
 DoneVerb below w (c.ListTemplates name) lines new = Shows w name (λ id g. lines ≡ template_lines (template_rows g)) new
@@ -379,16 +379,16 @@ LeftByRefusal below w command cause new = new ≡ w
 -- A refused copy to the host may leave the file outside changed.
 pub record LeftByCopyOut (below : Below) (w : World) (source target : Bytes) (cause : r.Refusal) (new : World) : Type 0 where
   pub middle : World
-  pub left : LeftByRefusal below w (c.Asked (c.Copy source target)) cause middle
+  pub left : LeftByRefusal below w (c.Asked (c.CopyFile source target)) cause middle
   pub changes : HostChanges middle target (MayHoldFront w source) new
 
 abbrev pub RefusedCopy : Below → World → Bytes → Bytes → Bool → r.Refusal → World → Type 0
 RefusedCopy below w source target true cause new = LeftByCopyOut below w source target cause new
-RefusedCopy below w source target false cause new = LeftByRefusal below w (c.Asked (c.Copy source target)) cause new
+RefusedCopy below w source target false cause new = LeftByRefusal below w (c.Asked (c.CopyFile source target)) cause new
 
 -- The command was refused for this cause.
 abbrev pub RefusedCommand : Below → World → c.Command → r.Refusal → World → Type 0
-RefusedCommand below w (c.Asked (c.Copy source target)) cause new = RefusedCopy below w source target (is_host_path target) cause new
+RefusedCommand below w (c.Asked (c.CopyFile source target)) cause new = RefusedCopy below w source target (is_host_path target) cause new
 RefusedCommand below w command cause new = LeftByRefusal below w command cause new
 
 -- What the command may do to the world where it gets this reply.

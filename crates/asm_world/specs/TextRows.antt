@@ -7,7 +7,7 @@ use Rattle.asm_group.specs.declared.Stripe.TheVariants.{Coarse, Fine}
 use Rattle.asm_group.specs.NewGroup.{usual_attributes, system_template}
 use Rattle.asm_group.specs.Refusal as r
 use Rattle.asm_world.specs.Reply as p
-use Rattle.asm_world.specs.Reports.{SystemName, Directory, AliasName, ls_lines, mounted_line, dismounted_line, disk_line, template_line, attribute_lines, du_lines, check_line}
+use Rattle.asm_world.specs.Reports.{ListedSystemName, Directory, AliasName, ls_lines, mounted_line, dismounted_line, disk_line, template_line, attribute_lines, du_lines, check_line}
 use Rattle.asm_world.specs.Text.{reply_text, short_text, event_line, event_text, read_lines}
 
 pub record TextRows : Type 0 where
@@ -36,7 +36,7 @@ pub record TextRows : Type 0 where
   pub expiry_ends : event_line (p.ExpiryEnds (codes "DATA") (codes "DATA_0001")) ≡ codes "expired DATA dismounted DATA_0001"
 
 pub record ReportRows : Type 0 where
-  pub control_file : ls_lines true (SystemName (codes "CONTROLFILE") 2 Fine (codes "c.256.1") ∷ []) ≡ codes "Type Redund Striped Sys Name" ∷ codes "CONTROLFILE MIRROR FINE Y c.256.1" ∷ []
+  pub control_file : ls_lines true (ListedSystemName (codes "CONTROLFILE") 2 Fine (codes "c.256.1") ∷ []) ≡ codes "Type Redund Striped Sys Name" ∷ codes "CONTROLFILE MIRROR FINE Y c.256.1" ∷ []
   pub directory : ls_lines false (Directory (codes "a") ∷ []) ≡ codes "a/" ∷ []
   pub long_directory : ls_lines true (Directory (codes "a") ∷ []) ≡ codes "Type Redund Striped Sys Name" ∷ codes "DIR - - N a/" ∷ []
   pub alias : ls_lines true (AliasName (codes "DATAFILE") 1 Coarse (codes "x") (codes "+DATA/o/DATAFILE/u.256.1") ∷ [])
@@ -60,7 +60,7 @@ pub record ReportRows : Type 0 where
   pub checked : check_line 1 0 ≡ codes "check 1 0"
 
 -- each refusal as the last line of a reply
-pub record RefusalRows : Type 0 where
+pub record RefusedReplyRows : Type 0 where
   pub group_exists : reply_text (p.Refused [] r.GroupExists) ≡ codes "error 3 GroupExists\n"
   pub too_few_groups : reply_text (p.Refused [] (r.TooFewGroups 3 2)) ≡ codes "error 7 TooFewGroups 3 2\n"
   pub too_small : reply_text (p.Refused [] (r.TooSmall (codes "DATA_0000") 25)) ≡ codes "error 8 TooSmall DATA_0000 25\n"
@@ -78,7 +78,7 @@ pub record RefusalRows : Type 0 where
   pub no_name : reply_text (p.Refused [] r.NoName) ≡ codes "error 14 NoName\n"
   pub dismounted : reply_text (p.Refused [] (r.Dismounted (codes "DATA_0000"))) ≡ codes "error 32 Dismounted DATA_0000\n"
   pub has_alias : reply_text (p.Refused [] r.HasAlias) ≡ codes "error 18 HasAlias\n"
-  pub system_name : reply_text (p.Refused [] r.SystemName) ≡ codes "error 19 SystemName\n"
+  pub system_name : reply_text (p.Refused [] r.SystemName) ≡ codes "error 19 ListedSystemName\n"
   pub system_template : reply_text (p.Refused [] r.SystemTemplate) ≡ codes "error 21 SystemTemplate\n"
   pub directory_full : reply_text (p.Refused [] (r.DirectoryFull 4 3)) ≡ codes "error 26 DirectoryFull 4 3\n"
   pub missing_disks : reply_text (p.Refused [] (r.MissingDisks (codes "DATA_0001"))) ≡ codes "error 11 MissingDisks DATA_0001\n"

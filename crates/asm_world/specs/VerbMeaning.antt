@@ -4,7 +4,7 @@ use mathlib.Core.Logic.{inl, inr}
 use Rattle.asm_grammar.specs.Word.{End, fit}
 use Rattle.asm_grammar.specs.Syntax.{Value, Has}
 use Rattle.asm_group.specs.Names.{Bytes}
-use Rattle.asm_world.specs.Command.{Verb, DbCreate, DbWrite, DbFill, DbRead, DbResize, Ls, Cd, Pwd, MakeDir, Remove, Copy, Usage, Find, MakeAlias, RemoveAlias, ListGroups, ListDisks, ListTemplates, ListAttributes, OfflineDisk, OnlineDisk, SetPower}
+use Rattle.asm_world.specs.Command.{Verb, DbCreate, DbWrite, DbFill, DbRead, DbResize, Ls, Cd, Pwd, MakeDirectory, Remove, CopyFile, Usage, Find, MakeAlias, RemoveAlias, ListGroups, ListDisks, ListTemplates, ListAttributes, OfflineDisk, OnlineDisk, SetPower}
 use Rattle.asm_world.specs.Verbs as g
 
 abbrev pub of_files : Value g.files → Verb
@@ -18,15 +18,15 @@ abbrev pub of_ls : Value g.ls → Verb
 of_ls (word, (long, path)) = Ls (is_some long) path
 
 abbrev pub of_cp : Value g.cp → Verb
-of_cp (word, inl (source, inl target)) = Copy source target
-of_cp (word, inl (source, inr target)) = Copy source target
-of_cp (word, inr (source, target)) = Copy source target
+of_cp (word, inl (source, inl target)) = CopyFile source target
+of_cp (word, inl (source, inr target)) = CopyFile source target
+of_cp (word, inr (source, target)) = CopyFile source target
 
 abbrev pub of_names : Value g.names → Verb
 of_names (inl v) = of_ls v
 of_names (inr (inl (word, path))) = Cd path
 of_names (inr (inr (inl word))) = Pwd
-of_names (inr (inr (inr (inl (word, path))))) = MakeDir path
+of_names (inr (inr (inr (inl (word, path))))) = MakeDirectory path
 of_names (inr (inr (inr (inr (inl (word, path)))))) = Remove path
 of_names (inr (inr (inr (inr (inr (inl v)))))) = of_cp v
 of_names (inr (inr (inr (inr (inr (inr (inl (word, path)))))))) = Usage path

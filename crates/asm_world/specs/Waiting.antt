@@ -5,7 +5,7 @@ use Rattle.asm_world.specs.Statement as s
 pub data Wait : Type 0 where
   Nothing : Wait
   Rebalance : Wait
-  Resync : (disks : s.Disks) → Wait
+  Resync : (disks : s.NamedDisks) → Wait
 
 abbrev pub power_of : s.Rebalance → ℕ
 power_of rebalance = unwrap_or rebalance.power 1
@@ -15,7 +15,7 @@ abbrev pub rebalance_wait : Option s.Rebalance → Wait
 rebalance_wait None = Nothing
 rebalance_wait (Some rebalance) = if rebalance.wait && nat_lt 0 (power_of rebalance) then Rebalance else Nothing
 
-abbrev pub resync_wait : s.Disks → Bool → Wait
+abbrev pub resync_wait : s.NamedDisks → Bool → Wait
 resync_wait disks wait = if wait then Resync disks else Nothing
 
 abbrev pub wait_of : s.Clause → Wait

@@ -15,7 +15,7 @@ use Rattle.asm_world.specs.Waiting.{Wait, Nothing, Rebalance, Resync, wait_of}
 use Rattle.asm_world.specs.World.{World, entry_in}
 
 -- the disks that ONLINE takes, by number
-abbrev pub disks_taken : List DiskRow → s.Disks → List DiskRow
+abbrev pub disks_taken : List DiskRow → s.NamedDisks → List DiskRow
 disks_taken rows (s.Named names) = rows_among rows names
 disks_taken rows (s.InFailgroup kind name) = rows_of_failgroup rows kind name
 disks_taken rows s.All = filter_map (λ (row : DiskRow). if is_offline row.mode then Some row else None) rows

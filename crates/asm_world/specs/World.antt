@@ -18,10 +18,10 @@ pub record SessionEntry : Type 0 where
   pub state : SessionState
 
 -- a file outside, as far as the host tells it
-pub data HostFile : Type 0 where
-  NotTold : HostFile
-  Absent : HostFile
-  Holds : (bytes : Bytes) → HostFile
+pub data OutsideFile : Type 0 where
+  NotTold : OutsideFile
+  Absent : OutsideFile
+  ToldBytes : (bytes : Bytes) → OutsideFile
 
 pub record World : Type 0 where
   -- for each id the groups that its images may stand for
@@ -31,10 +31,10 @@ pub record World : Type 0 where
   -- the session's directory: nothing at `+`, else a group's name and the parts below it
   pub place : List Bytes
   -- files outside by their paths
-  pub host : Bytes → HostFile
+  pub host : Bytes → OutsideFile
 
 -- no group, at `+`
-abbrev pub empty_world : (Bytes → HostFile) → World
+abbrev pub empty_world : (Bytes → OutsideFile) → World
 empty_world host = record { groups = maps.empty; session = []; place = []; host = host }
 
 -- the groups that the images of an id may stand for

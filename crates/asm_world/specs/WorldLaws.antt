@@ -15,11 +15,11 @@ abbrev pub IsIn : SessionEntry → List SessionEntry → Type 0
 IsIn entry session = (before after : List SessionEntry) × (session ≡ before ++ entry ∷ after)
 
 -- The images of each group of the session stand for groups of its name, for one at least, and for one alone where it is mounted.
-pub record IsWhole (w : World) : Type 0 where
+pub record IsWholeWorld (w : World) : Type 0 where
   pub named : (entry : SessionEntry) → IsIn entry w.session → (g : Group) → MayStandFor w entry.id g → is_same_name g.name entry.name ≡ true
   pub some : (entry : SessionEntry) → IsIn entry w.session → groups_of w entry.id ≢ []
   pub one : (entry : SessionEntry) → IsIn entry w.session → entry.state ≡ Mounted → (g : Group) × (groups_of w entry.id ≡ g ∷ [])
 
 -- A command that is answered ok keeps this, as long as ids don't run out.
 abbrev pub DoneKeepsWhole : Type 0
-DoneKeepsWhole = (below : Below) (w new : World) (command : Command) (lines : List Bytes) → ForSome below.found.made (λ id. id < last_id) → IsWhole w → Step below w command (Done lines) new → IsWhole new
+DoneKeepsWhole = (below : Below) (w new : World) (command : Command) (lines : List Bytes) → ForSome below.found.made (λ id. id < last_id) → IsWholeWorld w → Step below w command (Done lines) new → IsWholeWorld new

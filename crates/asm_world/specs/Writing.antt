@@ -3,7 +3,7 @@ use Rattle.std.specs.Prelude.{ℕ, Bool, true, false, List, [], ◌∷◌, ◌++
 use Rattle.std.specs.Option.{option_map}
 use mathlib.Core.Logic.{inl, inr}
 use Rattle.asm_grammar.specs.Syntax.{Value}
-use Rattle.asm_grammar.specs.Writing.{pieces, written}
+use Rattle.asm_grammar.specs.Writing.{pieces, text_of_pieces}
 use Rattle.asm_group.specs.declared.GroupKind.{GroupKind}
 use Rattle.asm_group.specs.declared.GroupKind.TheVariants as kind
 use Rattle.asm_group.specs.declared.Stripe.{Stripe}
@@ -14,9 +14,9 @@ use Rattle.asm_world.specs.Statement.{AddDisks, AddTemplate, AddDirectory, AddAl
 use Rattle.asm_world.specs.Statement.{CreateDisk, CreateGroup, DropGroup, Alter}
 
 -- An option is written where it changes what is said.
-abbrev pub said : Bool → Value g.forced
-said true = Some (inl tt)
-said false = None
+abbrev pub forced_value : Bool → Value g.forced
+forced_value true = Some (inl tt)
+forced_value false = None
 
 abbrev pub after_word : {A : Type 0} → Option A → Option (Unit {0} × A)
 after_word o = option_map (λ a. (tt, a)) o
@@ -31,10 +31,10 @@ group_word_value Quorum = inl tt
 group_word_value Regular = inr tt
 
 abbrev pub dropped_value : DroppedDisk → Value (g.◌▸◌ g.name g.forced)
-dropped_value d = (d.name, said d.force)
+dropped_value d = (d.name, forced_value d.force)
 
 abbrev pub rebalance_value : Rebalance → Value g.rebalance
-rebalance_value r = (tt, (after_word r.power, said r.wait))
+rebalance_value r = (tt, (after_word r.power, forced_value r.wait))
 
 abbrev pub maybe_rebalance : Option Rebalance → Option (Value g.rebalance)
 maybe_rebalance o = option_map rebalance_value o
@@ -57,8 +57,8 @@ words_value None None = None
 abbrev pub after_value : Option ℕ → Option (Unit {0} × (Unit {0} × ℕ))
 after_value o = option_map (λ m. (tt, (tt, m))) o
 
-abbrev pub disk_value : NewDisk → Value g.disk
-disk_value d = (d.path, (after_word d.name, (after_word d.size, said d.force)))
+abbrev pub new_disk_value : NewDisk → Value g.disk
+new_disk_value d = (d.path, (after_word d.name, (after_word d.size, forced_value d.force)))
 
 abbrev pub quorum_value : Bool → Option (Value g.group_word)
 quorum_value true = Some (inl tt)
@@ -68,7 +68,7 @@ quorum_value false = None
 abbrev pub failgroup_value : NewFailgroup → List NewDisk → Option (Value g.failgroup)
 failgroup_value f [] = None
 failgroup_value f (d ∷ disks) =
-    Some (quorum_value f.quorum, (after_word f.name, (tt, (disk_value d, map (λ o. (tt, o)) (map disk_value disks)))))
+    Some (quorum_value f.quorum, (after_word f.name, (tt, (new_disk_value d, map (λ o. (tt, o)) (map new_disk_value disks)))))
 
 abbrev pub one_more : {A : Type 0} → Option A → Option (List A) → Option (List A)
 one_more None others = None
@@ -105,11 +105,11 @@ abbrev pub clause_value : Clause → Option (Value g.clause)
 clause_value (DropDisks (d ∷ disks) rebalance) =
     Some (inr (inl (tt, inl (tt, (list_value (dropped_value d) (map dropped_value (d ∷ disks)), maybe_rebalance rebalance)))))
 clause_value (DropFailgroup kind name force rebalance) =
-    Some (inr (inl (tt, inr (inl (tt, ((tt, (option_map group_word_value kind, (tt, name))), (said force, maybe_rebalance rebalance)))))))
+    Some (inr (inl (tt, inr (inl (tt, ((tt, (option_map group_word_value kind, (tt, name))), (forced_value force, maybe_rebalance rebalance)))))))
 clause_value UndropDisks = Some (inr (inr (inl (tt, tt))))
 clause_value (Rebalancing r) = Some (inr (inr (inr (inr (inl (rebalance_value r))))))
 clause_value Check = Some (inr (inr (inr (inr (inr (inl (tt, None)))))))
-clause_value (Mount force) = Some (inr (inr (inr (inr (inr (inr (inl (tt, said force))))))))
+clause_value (Mount force) = Some (inr (inr (inr (inr (inr (inr (inl (tt, forced_value force))))))))
 clause_value (SetAttribute a) = Some (inr (inr (inr (inr (inr (inr (inr (inr (inr (inr (inr (inr (tt, (tt, (a.name, (tt, a.value))))))))))))))))
 clause_value (AddDirectory path) = Some (inl (tt, inr (inr (inl (tt, path)))))
 clause_value (AddAlias alias path) = Some (inl (tt, inr (inr (inr (tt, (alias, (tt, path)))))))
@@ -119,12 +119,12 @@ clause_value (DropAlias path) = Some (inr (inl (tt, inr (inr (inr (inr (inl (tt,
 clause_value (DropFile path) = Some (inr (inl (tt, inr (inr (inr (inr (inr (tt, path))))))))
 clause_value (ResizeAll size rebalance) = Some (inr (inr (inr (inl (tt, (inl tt, (after_word size, maybe_rebalance rebalance)))))))
 clause_value (ResizeDisk name size rebalance) = Some (inr (inr (inr (inl (tt, (inr (tt, name), (after_word size, maybe_rebalance rebalance)))))))
-clause_value (Dismount force) = Some (inr (inr (inr (inr (inr (inr (inr (inl (tt, said force)))))))))
+clause_value (Dismount force) = Some (inr (inr (inr (inr (inr (inr (inr (inl (tt, forced_value force)))))))))
 clause_value (RenameDirectory old new) = Some (inr (inr (inr (inr (inr (inr (inr (inr (inr (inr (inr (inl (tt, (inl tt, (old, (tt, new))))))))))))))))
 clause_value (RenameAlias old new) = Some (inr (inr (inr (inr (inr (inr (inr (inr (inr (inr (inr (inl (tt, (inr tt, (old, (tt, new))))))))))))))))
-clause_value (Online All wait) = Some (inr (inr (inr (inr (inr (inr (inr (inr (inl (tt, (inl tt, said wait)))))))))))
-clause_value (Online (Named (n ∷ ns)) wait) = Some (inr (inr (inr (inr (inr (inr (inr (inr (inl (tt, (inr (inl (tt, list_value n (n ∷ ns))), said wait)))))))))))
-clause_value (Online (InFailgroup k n) wait) = Some (inr (inr (inr (inr (inr (inr (inr (inr (inl (tt, (inr (inr (tt, (tt, (option_map group_word_value k, (tt, n))))), said wait)))))))))))
+clause_value (Online All wait) = Some (inr (inr (inr (inr (inr (inr (inr (inr (inl (tt, (inl tt, forced_value wait)))))))))))
+clause_value (Online (Named (n ∷ ns)) wait) = Some (inr (inr (inr (inr (inr (inr (inr (inr (inl (tt, (inr (inl (tt, list_value n (n ∷ ns))), forced_value wait)))))))))))
+clause_value (Online (InFailgroup k n) wait) = Some (inr (inr (inr (inr (inr (inr (inr (inr (inl (tt, (inr (inr (tt, (tt, (option_map group_word_value k, (tt, n))))), forced_value wait)))))))))))
 clause_value (Offline (Named (n ∷ ns)) after) = Some (inr (inr (inr (inr (inr (inr (inr (inr (inr (inl (tt, (inl (tt, list_value n (n ∷ ns)), after_value after))))))))))))
 clause_value (Offline (InFailgroup k n) after) = Some (inr (inr (inr (inr (inr (inr (inr (inr (inr (inl (tt, (inr (tt, (tt, (option_map group_word_value k, (tt, n)))), after_value after))))))))))))
 clause_value (AddTemplate name words) = option_map (λ v. inl (tt, inr (inl (tt, (name, (tt, (tt, (v, tt)))))))) (words_value words.redundancy words.stripe)
@@ -142,7 +142,7 @@ statement_value (CreateGroup name kind groups attributes) =
 
 abbrev pub value_text : Option (Value g.statement) → List ℕ
 value_text None = []
-value_text (Some v) = written (pieces g.statement v) ++ 59 ∷ []
+value_text (Some v) = text_of_pieces (pieces g.statement v) ++ 59 ∷ []
 
 abbrev pub statement_text : Statement → List ℕ
 statement_text s = value_text (statement_value s)

@@ -1,6 +1,6 @@
 // Laws of all runs. Each function has an empty body: its contract is the law.
 ghost use Rattle.std.specs.Prelude.{ℕ};
-ghost use Rattle.asm_world.specs.Run.{Outside, Move};
+ghost use Rattle.asm_world.specs.Run.{Outside, SessionMove};
 ghost use Rattle.asm_world.specs.RunRows.{RunRows, WaitsAreOwed, IncarnationRows};
 ghost use Rattle.asm_world.specs.RunLaws.{RunsJoin, MomentsAreHeld, MountedAreThere, QuietMovesLeaveGroups, QuietMomentsAreHeld, HistoriesSplit, BetweenReplies, MarksRise};
 ghost use Rattle.asm_world.specs.RunLaws.{PremisesJoin, WhilesJoin, WhilesAreRuns, WhilesStay, CallsGrow, RunsCallMore, MemoryIsShortAnywhere};
@@ -12,7 +12,7 @@ pub trait Measure<C, I> {
 
 /// A premise on moves, up to the first of which that doesn't meet it something is said.
 pub trait Premise {
-    ghost meets: { Move → Type 0 };
+    ghost meets: { SessionMove → Type 0 };
 }
 
 /// Which images a stop may leave, as it is told later.

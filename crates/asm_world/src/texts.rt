@@ -1,8 +1,8 @@
 // Worked texts. Each function has an empty body: its contract is computed.
 ghost use Rattle.asm_world.specs.GeneratorRows.{GeneratorRows};
 ghost use Rattle.asm_world.specs.Below.{Below};
-ghost use Rattle.asm_world.specs.SettingRows.{PathRows, NameRows, AttributeRows, CauseRows};
-ghost use Rattle.asm_world.specs.TextRows.{TextRows, ReportRows, RefusalRows};
+ghost use Rattle.asm_world.specs.SettingRows.{PathRows, NewNameRows, AttributeRows, CauseRows};
+ghost use Rattle.asm_world.specs.TextRows.{TextRows, ReportRows, RefusedReplyRows};
 
 /// Replies and event lines as they are printed.
 pub fn text_rows()
@@ -26,7 +26,7 @@ pub fn path_rows()
 
 /// Names of disks and of files.
 pub fn name_rows()
-    ensures { NameRows }
+    ensures { NewNameRows }
 {}
 
 /// Values of attributes, and those of a creation.
@@ -41,5 +41,5 @@ pub fn cause_rows()
 
 /// Each refusal as it is printed.
 pub fn refusal_rows()
-    ensures { RefusalRows }
+    ensures { RefusedReplyRows }
 {}

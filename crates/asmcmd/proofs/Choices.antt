@@ -3,16 +3,16 @@ use Rattle.std.proofs.Common.{◌≡◌, ℕ, ◌-◌, min, inl, inr, List, [], 
 use Rattle.std.specs.Option.{option_map}
 use Rattle.asm_grammar.specs.Argument.{Exact}
 use Rattle.asm_grammar.specs.Word.{Word, Argument, Meaning, fit, near}
-use Rattle.asm_grammar.specs.Syntax.{Syntax, One, Then, Either, Maybe, Value}
+use Rattle.asm_grammar.specs.Syntax.{SyntaxRule, One, Then, Either, Maybe, Value}
 use Rattle.asm_grammar.specs.Reading.{Outcome, Took, Failed, mapped, parse, first, leads, miss}
-use Rattle.asm_grammar.specs.Reads.{Refuses}
+use Rattle.asm_grammar.specs.Reads.{RefusesReading}
 use Rattle.asm_grammar.specs.declared.words.ReadError.{ReadError}
 use Rattle.asm_grammar.specs.declared.words.ReadError.TheVariants.{Syntax as Miss, NoMemory}
 use Rattle.asm_grammar.proofs.Tests.{is_true_or_false}
 
 -- ---- an alternative that may be absent, and others
 
-module _ {C : Type 0} (a b : Syntax) (says : Value (Either a b) → C) (text : List ℕ) (left : ℕ) where
+module _ {C : Type 0} (a b : SyntaxRule) (says : Value (Either a b) → C) (text : List ℕ) (left : ℕ) where
   some_here : (x : C) (rest : List ℕ) (l : ℕ) (o : Outcome (Value a)) → mapped (λ v. option_map (λ u. says (inl u)) v) (mapped {A = Value a} (λ v. Some v) o) ≡ Took (Some x) rest l
       → mapped says (mapped {A = Value a} {B = Value (Either a b)} (λ v. inl v) o) ≡ Took x rest l
   some_here x rest l (Took v r m) e = cc
@@ -54,17 +54,17 @@ module _ {C : Type 0} (a b : Syntax) (says : Value (Either a b) → C) (text : L
     | inr h ↦ absurd (let f = rw h at e in cc)
   ]
 
-  pub either_refused : (e : ReadError) → Refuses e (mapped (λ v. option_map (λ u. says (inl u)) v) (parse (Maybe a) text left)) → Refuses e (mapped says (parse (Either a b) text left))
+  pub either_refused : (e : ReadError) → RefusesReading e (mapped (λ v. option_map (λ u. says (inl u)) v) (parse (Maybe a) text left)) → RefusesReading e (mapped says (parse (Either a b) text left))
   either_refused NoMemory r = tt
   either_refused (Miss l) r = either_failed l r
 
 -- ---- a row of alternatives that each begin with a word
 
-abbrev word : List ℕ → Syntax
+abbrev word : List ℕ → SyntaxRule
 word k = One (Argument (Exact k))
 
 module _ {C : Type 0} (k : List ℕ) where
-  pub taken : (r b : Syntax) (says : Value (Either (Then (word k) r) b) → C) (text next : List ℕ) (left l : ℕ) → (fit (Argument (Exact k)) text ≡ Some (tt, next)) × (l ≡ left)
+  pub taken : (r b : SyntaxRule) (says : Value (Either (Then (word k) r) b) → C) (text next : List ℕ) (left l : ℕ) → (fit (Argument (Exact k)) text ≡ Some (tt, next)) × (l ≡ left)
       → mapped (λ v. option_map says v) (parse (Maybe (Either (Then (word k) r) b)) text left) ≡ mapped (λ v. Some v) (mapped (λ v. says (inl (tt, v))) (parse r next l))
   taken r b says text next left l (e, q) = rw (q, e) (through (parse r next left)) where
     through : (o : Outcome (Value r)) → mapped (λ v. option_map says v) (mapped (λ v. Some v) (mapped {A = Value (Then (word k) r)} {B = Value (Either (Then (word k) r) b)} (λ v. inl v) (mapped {A = Value r} {B = Value (Then (word k) r)} (λ v. (tt, v)) o)))
@@ -72,7 +72,7 @@ module _ {C : Type 0} (k : List ℕ) where
     through (Took v rest m) = refl
     through (Failed m) = refl
 
-  pub taken_last : (r : Syntax) (says : Value (Then (word k) r) → C) (text next : List ℕ) (left l : ℕ) → (fit (Argument (Exact k)) text ≡ Some (tt, next)) × (l ≡ left)
+  pub taken_last : (r : SyntaxRule) (says : Value (Then (word k) r) → C) (text next : List ℕ) (left l : ℕ) → (fit (Argument (Exact k)) text ≡ Some (tt, next)) × (l ≡ left)
       → mapped (λ v. option_map says v) (parse (Maybe (Then (word k) r)) text left) ≡ mapped (λ v. Some v) (mapped (λ v. says (tt, v)) (parse r next l))
   taken_last r says text next left l (e, q) = rw (q, e) (through (parse r next left)) where
     through : (o : Outcome (Value r)) → mapped (λ v. option_map says v) (mapped (λ v. Some v) (mapped {A = Value r} {B = Value (Then (word k) r)} (λ v. (tt, v)) o))
@@ -80,7 +80,7 @@ module _ {C : Type 0} (k : List ℕ) where
     through (Took v rest m) = refl
     through (Failed m) = refl
 
-  pub passed : (a b : Syntax) (says : Value (Either a b) → C) (text rest : List ℕ) (left l : ℕ) → first a ≡ Argument (Exact k) ∷ []
+  pub passed : (a b : SyntaxRule) (says : Value (Either a b) → C) (text rest : List ℕ) (left l : ℕ) → first a ≡ Argument (Exact k) ∷ []
       → (fit (Argument (Exact k)) text ≡ None) × (rest ≡ text) × (l ≡ min left (length text - near (Argument (Exact k)) text))
       → mapped (λ v. option_map says v) (parse (Maybe (Either a b)) text left) ≡ mapped (λ v. option_map (λ u. says (inr u)) v) (parse (Maybe b) rest l)
   passed a b says text rest left l f (e, p, q) = rw (p, q, f, e) (elim (is_true_or_false (leads b text)) [
@@ -92,7 +92,7 @@ module _ {C : Type 0} (k : List ℕ) where
     through (Took v r m) = refl
     through (Failed m) = refl
 
-  pub passed_last : (r : Syntax) (says : Value (Then (word k) r) → C) (text rest : List ℕ) (left l : ℕ)
+  pub passed_last : (r : SyntaxRule) (says : Value (Then (word k) r) → C) (text rest : List ℕ) (left l : ℕ)
       → (fit (Argument (Exact k)) text ≡ None) × (rest ≡ text) × (l ≡ min left (length text - near (Argument (Exact k)) text))
       → mapped (λ v. option_map says v) (parse (Maybe (Then (word k) r)) text left) ≡ Took None rest l
   passed_last r says text rest left l (e, p, q) = rw (p, q, e) refl

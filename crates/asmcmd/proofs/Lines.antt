@@ -4,9 +4,9 @@ use Rattle.std.specs.Prelude.{◌==◌, max, Result, Ok, Err, codes}
 use Rattle.std.proofs.lemmas.Bool.{cases_lt}
 use Rattle.asm_grammar.specs.Bytes.{common, upper}
 use Rattle.asm_grammar.specs.Laws.{at_least, whole_from}
-use Rattle.asm_grammar.specs.Reading.{Outcome, Took, Failed, mapped, parse, whole, close, closed, finish, result_of}
-use Rattle.asm_grammar.specs.Reads.{Refuses}
-use Rattle.asm_grammar.specs.Syntax.{Syntax, Value}
+use Rattle.asm_grammar.specs.Reading.{Outcome, Took, Failed, mapped, parse, whole, close, ended_by_word, finish, result_of}
+use Rattle.asm_grammar.specs.Reads.{RefusesReading}
+use Rattle.asm_grammar.specs.Syntax.{SyntaxRule, Value}
 use Rattle.asm_grammar.specs.Word.{Word, End}
 use Rattle.asm_grammar.specs.declared.words.ReadError.{ReadError as Unread}
 use Rattle.asm_grammar.specs.declared.words.ReadError.TheVariants as unread
@@ -23,8 +23,8 @@ use Rattle.asm_world.specs.VerbMeaning.{SaysVerb, verb_of}
 use Rattle.asm_world.specs.Verbs as g
 use Rattle.asm_world.proofs.Commands.{verb_read, longest}
 use Rattle.asm_world.proofs.FirstWords.{verbs_alone}
-use Rattle.asmcmd.specs.Exact.{asked, placed, IsVerbRead, IsNoVerb, IsExact, IsCommand}
-use Rattle.asmcmd.specs.Verbs.{said}
+use Rattle.asmcmd.specs.Exact.{asked, read_error_of, IsVerbRead, IsNoVerb, IsExact, IsCommand}
+use Rattle.asmcmd.specs.Verbs.{meant_verb}
 use Rattle.asmcmd.specs.declared.verb.Verb.{Verb}
 use Rattle.asmcmd.specs.declared.verb.ReadError.{ReadError}
 use Rattle.asmcmd.specs.declared.verb.ReadError.TheVariants.{Syntax as Miss, NoMemory}
@@ -39,7 +39,7 @@ front_within (b ∷ key) (x ∷ text) = elim (is_true_or_false (b == upper x)) [
 -- ---- the end of a line
 
 module _ {A B : Type 0} (says : A → B) (last : Word) where
-  pub closed_took : (o : Outcome A) (x : B) (rest : List ℕ) (left : ℕ) → mapped says o ≡ Took x rest left → mapped says (closed last o) ≡ mapped (λ u. x) (close last rest left)
+  pub closed_took : (o : Outcome A) (x : B) (rest : List ℕ) (left : ℕ) → mapped says o ≡ Took x rest left → mapped says (ended_by_word last o) ≡ mapped (λ u. x) (close last rest left)
   closed_took (Took v r l) x rest left e =
       let p : says v ≡ x = cc in let q : r ≡ rest = cc in let m : l ≡ left = cc in rw (← q, ← m, ← p) (under v (close last r l)) where
         under : (v : A) (o : Outcome (Unit {0})) → mapped says (mapped (λ u. v) o) ≡ mapped (λ u. says v) o
@@ -47,11 +47,11 @@ module _ {A B : Type 0} (says : A → B) (last : Word) where
         under v (Failed l) = refl
   closed_took (Failed l) x rest left e = cc
 
-  closed_failed : (o : Outcome A) (left : ℕ) → mapped says o ≡ Failed left → mapped says (closed last o) ≡ Failed left
+  closed_failed : (o : Outcome A) (left : ℕ) → mapped says o ≡ Failed left → mapped says (ended_by_word last o) ≡ Failed left
   closed_failed (Took v r l) left e = cc
   closed_failed (Failed l) left e = cc
 
-  pub closed_refused : (e : Unread) (o : Outcome A) → Refuses e (mapped says o) → Refuses e (mapped says (closed last o))
+  pub closed_refused : (e : Unread) (o : Outcome A) → RefusesReading e (mapped says o) → RefusesReading e (mapped says (ended_by_word last o))
   closed_refused unread.NoMemory o r = tt
   closed_refused (unread.Syntax left) o r = closed_failed o left r
 
@@ -72,7 +72,7 @@ from_front text front within =
     subst (λ k. whole_from g.verb End text (length text - front) ≡ at_least k (whole g.verb End text)) n (from_fewer g.verb End text (length text - front) (omega arith))
 
 pub asked_ok : (text : Bytes) (front : ℕ) (x : c.Verb) (rest : List ℕ) (left : ℕ) → front ≡ keyword_front text → front ≤ length text
-    → mapped verb_of (closed End (parse g.verb text (length text - front))) ≡ Took x rest left → asked text ≡ c.Asked x
+    → mapped verb_of (ended_by_word End (parse g.verb text (length text - front))) ≡ Took x rest left → asked text ≡ c.Asked x
 unfolding asked
 asked_ok text front x rest left f within e =
     let k = finish_ok verb_of End (length text) (parse g.verb text (length text - front)) x rest left e in
@@ -80,7 +80,7 @@ asked_ok text front x rest left f within e =
     rw (← f) (taken front (whole g.verb End text) x m)
 
 asked_none : (text : Bytes) (front left : ℕ) → front ≡ keyword_front text → front ≤ length text
-    → mapped verb_of (closed End (parse g.verb text (length text - front))) ≡ Failed left → asked text ≡ c.Unreadable (length text - left)
+    → mapped verb_of (ended_by_word End (parse g.verb text (length text - front))) ≡ Failed left → asked text ≡ c.Unreadable (length text - left)
 unfolding asked
 asked_none text front left f within e =
     let k = finish_err verb_of End (length text) (parse g.verb text (length text - front)) left e in
@@ -88,7 +88,7 @@ asked_none text front left f within e =
     rw (← f) (refused front (whole g.verb End text) (length text - left) m)
 
 pub asked_refused : (text : Bytes) (front : ℕ) (e : Unread) → front ≡ keyword_front text → front ≤ length text
-    → Refuses e (mapped verb_of (closed End (parse g.verb text (length text - front)))) → IsVerbRead (Err (placed (length text) e)) text
+    → RefusesReading e (mapped verb_of (ended_by_word End (parse g.verb text (length text - front)))) → IsVerbRead (Err (read_error_of (length text) e)) text
 asked_refused text front unread.NoMemory f within r = tt
 asked_refused text front (unread.Syntax left) f within r = asked_none text front left f within r
 
@@ -114,7 +114,7 @@ is_none text at (Err n) e k = record {
 
 pub exact : (r : Result Verb ReadError) (text : Bytes) → IsVerbRead r text → IsExact r text
 unfolding asked
-exact (Ok x) text e = says_verb text (said x) (whole g.verb End text) refl e
+exact (Ok x) text e = says_verb text (meant_verb x) (whole g.verb End text) refl e
 exact (Err NoMemory) text e = tt
 exact (Err (Miss at)) text e = is_none text at (whole g.verb End text) refl e
 

@@ -7,10 +7,10 @@ use Rattle.std.proofs.lemmas.Bool.{leb-true, lt-ltb}
 use Rattle.std.proofs.lemmas.Slice.Eq.{bytes_eq-Decides}
 use Rattle.asm_group.specs.Names.{is_part, is_part_byte}
 use Rattle.asm_base.proofs.NameLaws.{Part, part_is}
-use Rattle.asm_grammar.specs.Argument.{TextKind, Text, Named, is_of, argument_of}
+use Rattle.asm_grammar.specs.Argument.{TextKind, Text, PlainName, is_of, argument_of}
 use Rattle.asm_grammar.specs.Bytes.{is_space, is_filled, is_word, run_of, after_run}
 use Rattle.asm_grammar.specs.Kinds.{is_group_name}
-use Rattle.asm_grammar.specs.Word.{Argument, fit, is_name, starts_with_letter}
+use Rattle.asm_grammar.specs.Word.{Argument, fit, is_name_word, starts_with_letter}
 use Rattle.asm_grammar.specs.Reading.{Took, one}
 use Rattle.asm_grammar.proofs.Consumes.{some_pair}
 use Rattle.asm_grammar.proofs.Parts.{text_is}
@@ -45,16 +45,16 @@ some_bytes (b ∷ word) e = lt-ltb 0 (length (b ∷ word)) (omega arith)
 
 name_part : (word : List ℕ) → is_group_name word ≡ true → is_part 30 word ≡ true
 name_part word e =
-    let p = both (is_name word) (list_all is_word word) e in
+    let p = both (is_name_word word) (list_all is_word word) e in
     let q = both (starts_with_letter word) (nat_le (length word) 30) p.0 in
     part_is 30 word (record { made = word_parts word p.1; some = some_bytes word q.0; few = leb-true (length word) 30 q.1; no_point = no_point word p.1 })
 
-pub named : (text word rest : List ℕ) → fit (Argument (Text Named)) text ≡ Some (word, rest) → is_part 30 word ≡ true
-named text word rest e = name_part word (sym (text_is Named word) ∙ fits_kind Named text word rest e)
+pub named : (text word rest : List ℕ) → fit (Argument (Text PlainName)) text ≡ Some (word, rest) → is_part 30 word ≡ true
+named text word rest e = name_part word (sym (text_is PlainName word) ∙ fits_kind PlainName text word rest e)
 
-one_fits : (text word rest : List ℕ) (left l : ℕ) (o : Option (List ℕ × List ℕ)) → one (Argument (Text Named)) text left o ≡ Took word rest l → o ≡ Some (word, rest)
+one_fits : (text word rest : List ℕ) (left l : ℕ) (o : Option (List ℕ × List ℕ)) → one (Argument (Text PlainName)) text left o ≡ Took word rest l → o ≡ Some (word, rest)
 one_fits text word rest left l None e = cc
 one_fits text word rest left l (Some (w, r)) e = let p : w ≡ word = cc in let q : r ≡ rest = cc in rw (p, q) refl
 
-pub named_next : (text word rest : List ℕ) (left l : ℕ) → one (Argument (Text Named)) text left (fit (Argument (Text Named)) text) ≡ Took word rest l → is_part 30 word ≡ true
-named_next text word rest left l e = named text word rest (one_fits text word rest left l (fit (Argument (Text Named)) text) e)
+pub named_next : (text word rest : List ℕ) (left l : ℕ) → one (Argument (Text PlainName)) text left (fit (Argument (Text PlainName)) text) ≡ Took word rest l → is_part 30 word ≡ true
+named_next text word rest left l e = named text word rest (one_fits text word rest left l (fit (Argument (Text PlainName)) text) e)

@@ -3,7 +3,7 @@ use Rattle.std.specs.Prelude.{◌≡◌, ℕ, ◌-◌, max, length, Result, Ok, 
 use mathlib.Core.Logic.{inr}
 use Rattle.asm_grammar.specs.Laws.{IsLongestLineFront}
 use Rattle.asm_grammar.specs.Reading.{whole}
-use Rattle.asm_grammar.specs.Syntax.{Syntax, Value}
+use Rattle.asm_grammar.specs.Syntax.{SyntaxRule, Value}
 use Rattle.asm_grammar.specs.Word.{End}
 use Rattle.asm_grammar.specs.declared.words.ReadError.{ReadError as Unread}
 use Rattle.asm_grammar.specs.declared.words.ReadError.TheVariants as unread
@@ -14,29 +14,29 @@ use Rattle.asm_world.specs.Grammar.{◌∣◌}
 use Rattle.asm_world.specs.Language.{command_of, verb_or_none, IsLongestCommandFront}
 use Rattle.asm_world.specs.VerbMeaning.{SaysVerb, verb_of}
 use Rattle.asm_world.specs.Verbs as g
-use Rattle.asmcmd.specs.Verbs.{said}
+use Rattle.asmcmd.specs.Verbs.{meant_verb}
 use Rattle.asmcmd.specs.declared.verb.Verb.{Verb}
 use Rattle.asmcmd.specs.declared.verb.ReadError.{ReadError}
 use Rattle.asmcmd.specs.declared.verb.ReadError.TheVariants.{Syntax as Miss, NoMemory}
 
 -- the verbs behind those of files
-abbrev pub other_verbs : Syntax
+abbrev pub other_verbs : SyntaxRule
 other_verbs = g.names ∣ g.reports ∣ g.disks
 
 abbrev pub other_of : Value other_verbs → c.Verb
 other_of v = verb_of (inr v)
 
 -- the verbs behind those of names
-abbrev pub last_verbs : Syntax
+abbrev pub last_verbs : SyntaxRule
 last_verbs = g.reports ∣ g.disks
 
 abbrev pub last_of : Value last_verbs → c.Verb
 last_of v = verb_of (inr (inr v))
 
 -- the place of a refusal, of a line of so many bytes
-abbrev pub placed : ℕ → Unread → ReadError
-placed len (unread.Syntax left) = Miss (len - left)
-placed len unread.NoMemory = NoMemory
+abbrev pub read_error_of : ℕ → Unread → ReadError
+read_error_of len (unread.Syntax left) = Miss (len - left)
+read_error_of len unread.NoMemory = NoMemory
 
 -- What the line asks for as a verb, where a front of CREATE, DROP or ALTER counts as the front of a command.
 unfoldable pub asked : Bytes → c.Command
@@ -44,7 +44,7 @@ asked text = verb_or_none (keyword_front text) (whole g.verb End text)
 
 -- A verb is read where the line asks for it, and else where it is unreadable is told, unless memory ran out.
 abbrev pub IsVerbRead : Result Verb ReadError → Bytes → Type 0
-IsVerbRead (Ok verb) text = asked text ≡ c.Asked (said verb)
+IsVerbRead (Ok verb) text = asked text ≡ c.Asked (meant_verb verb)
 IsVerbRead (Err NoMemory) text = Unit {0}
 IsVerbRead (Err (Miss at)) text = asked text ≡ c.Unreadable at
 
@@ -57,12 +57,12 @@ pub record IsNoVerb (text : Bytes) (at : ℕ) : Type 0 where
 
 -- A verb is given exactly where the line says it, and else how far the line is one.
 abbrev pub IsExact : Result Verb ReadError → Bytes → Type 0
-IsExact (Ok verb) text = SaysVerb text (said verb)
+IsExact (Ok verb) text = SaysVerb text (meant_verb verb)
 IsExact (Err NoMemory) text = Unit {0}
 IsExact (Err (Miss at)) text = IsNoVerb text at
 
 -- The same of the line as a command, where its first word isn't that of a statement.
 abbrev pub IsCommand : Result Verb ReadError → Bytes → Type 0
-IsCommand (Ok verb) text = command_of text ≡ c.Asked (said verb)
+IsCommand (Ok verb) text = command_of text ≡ c.Asked (meant_verb verb)
 IsCommand (Err NoMemory) text = Unit {0}
 IsCommand (Err (Miss at)) text = (command_of text ≡ c.Unreadable at) × IsLongestCommandFront text at

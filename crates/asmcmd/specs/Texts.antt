@@ -6,7 +6,7 @@ use Rattle.asm_group.specs.Group.{Template, Attributes}
 use Rattle.asm_group.specs.Names.{Bytes}
 use Rattle.asm_group.specs.Refusal.{spaced, mode_text}
 use Rattle.asm_group.specs.Shape.{Shape}
-use Rattle.asm_base.specs.Names.{path_text}
+use Rattle.asm_base.specs.Names.{path_text_in_group}
 use Rattle.asm_base.specs.declared.path.Path.{Path}
 use Rattle.asm_world.specs.Reports as r
 use Rattle.asmcmd.specs.declared.rows.LsRow.{LsRow}
@@ -26,8 +26,8 @@ printed (WideNumber n) = decimal n
 -- ---- ls
 
 -- a directory with / after it
-abbrev pub short_line : LsRow → Bytes
-short_line row = if row.dir then row.name ++ 47 ∷ [] else row.name
+abbrev pub short_row_line : LsRow → Bytes
+short_row_line row = if row.dir then row.name ++ 47 ∷ [] else row.name
 
 -- the columns of a file, and where an alias leads
 abbrev pub file_line : LsRow → Option Bytes → Bytes
@@ -37,54 +37,54 @@ file_line row (Some target) = spaced (row.kind ∷ row.redund ∷ row.striped �
 abbrev pub directory_line : Bytes → Bytes
 directory_line name = spaced (codes "DIR" ∷ codes "-" ∷ codes "-" ∷ codes "N" ∷ (name ++ 47 ∷ []) ∷ [])
 
-abbrev pub long_line : LsRow → Bytes
-long_line row = if row.dir then directory_line row.name else file_line row row.target
+abbrev pub long_row_line : LsRow → Bytes
+long_row_line row = if row.dir then directory_line row.name else file_line row row.target
 
-abbrev pub ls_lines : Bool → List LsRow → List Bytes
-ls_lines false rows = map short_line rows
-ls_lines true rows = codes "Type Redund Striped Sys Name" ∷ map long_line rows
+abbrev pub ls_row_lines : Bool → List LsRow → List Bytes
+ls_row_lines false rows = map short_row_line rows
+ls_row_lines true rows = codes "Type Redund Striped Sys Name" ∷ map long_row_line rows
 
 -- ---- find
 
 abbrev pub path_line : Path → Bytes
-path_line path = path_text path.group path.parts
+path_line path = path_text_in_group path.group path.parts
 
 -- ---- lsdg
 
-abbrev pub mounted_line : GroupRow → Bytes
-mounted_line row = spaced (row.state ∷ row.kind ∷ row.rebal ∷ decimal row.sector ∷ decimal row.block ∷ decimal row.au ∷ decimal row.total ∷ decimal row.free ∷ decimal row.offline ∷ row.name ∷ [])
+abbrev pub mounted_row_line : GroupRow → Bytes
+mounted_row_line row = spaced (row.state ∷ row.kind ∷ row.rebal ∷ decimal row.sector ∷ decimal row.block ∷ decimal row.au ∷ decimal row.total ∷ decimal row.free ∷ decimal row.offline ∷ row.name ∷ [])
 
-abbrev pub group_line : GroupRow → Bytes
-group_line row = if bytes_eq row.state (codes "DISMOUNTED") then r.dismounted_line row.name else mounted_line row
+abbrev pub group_row_line : GroupRow → Bytes
+group_row_line row = if bytes_eq row.state (codes "DISMOUNTED") then r.dismounted_line row.name else mounted_row_line row
 
 abbrev pub group_lines : List GroupRow → List Bytes
-group_lines rows = r.group_head ∷ map group_line rows
+group_lines rows = r.group_head ∷ map group_row_line rows
 
 -- ---- lsdsk, lstmpl and lsattr
 
-abbrev pub disk_line : DiskRow → Bytes
-disk_line row = spaced (decimal row.number ∷ row.mode ∷ row.failgroup ∷ row.kind ∷ decimal row.total ∷ decimal row.free ∷ row.name ∷ [])
+abbrev pub disk_row_line : DiskRow → Bytes
+disk_row_line row = spaced (decimal row.number ∷ row.mode ∷ row.failgroup ∷ row.kind ∷ decimal row.total ∷ decimal row.free ∷ row.name ∷ [])
 
-abbrev pub disk_lines : List DiskRow → List Bytes
-disk_lines rows = codes "Number Mode Failgroup Kind Total Free Name" ∷ map disk_line rows
+abbrev pub disk_row_lines : List DiskRow → List Bytes
+disk_row_lines rows = codes "Number Mode Failgroup Kind Total Free Name" ∷ map disk_row_line rows
 
-abbrev pub template_line : TemplateRow → Bytes
-template_line row = spaced (row.name ∷ row.redund ∷ row.striped ∷ row.sys ∷ [])
+abbrev pub template_row_line : TemplateRow → Bytes
+template_row_line row = spaced (row.name ∷ row.redund ∷ row.striped ∷ row.sys ∷ [])
 
-abbrev pub template_lines : List TemplateRow → List Bytes
-template_lines rows = codes "Name Redund Striped Sys" ∷ map template_line rows
+abbrev pub template_row_lines : List TemplateRow → List Bytes
+template_row_lines rows = codes "Name Redund Striped Sys" ∷ map template_row_line rows
 
 abbrev pub attribute_line : AttrRow → Bytes
 attribute_line row = spaced (row.name ∷ row.value ∷ [])
 
-abbrev pub attribute_lines : List AttrRow → List Bytes
-attribute_lines rows = codes "Name Value" ∷ map attribute_line rows
+abbrev pub attribute_row_lines : List AttrRow → List Bytes
+attribute_row_lines rows = codes "Name Value" ∷ map attribute_line rows
 
 -- ---- the rows of what the reports show
 
 abbrev pub listed_row : r.Listed → LsRow
 listed_row (r.Directory name) = record { kind = codes "DIR"; redund = codes "-"; striped = codes "-"; sys = codes "N"; name = name; dir = true; target = None }
-listed_row (r.SystemName type_name copies stripe name) =
+listed_row (r.ListedSystemName type_name copies stripe name) =
     record { kind = type_name; redund = r.copies_text copies; striped = r.stripe_text stripe; sys = codes "Y"; name = name; dir = false; target = None }
 listed_row (r.AliasName type_name copies stripe name target) =
     record { kind = type_name; redund = r.copies_text copies; striped = r.stripe_text stripe; sys = codes "N"; name = name; dir = false; target = Some target }
@@ -124,9 +124,9 @@ attribute_rows shape a =
 
 -- The lines of rows are those of what they show.
 pub record RowsAreLines : Type 0 where
-  pub listed : (long : Bool) (rows : List r.Listed) → ls_lines long (map listed_row rows) ≡ r.ls_lines long rows
-  pub mounted : (name : Bytes) (shape : Shape) (row : r.GroupRow) → group_line (mounted_row name shape row) ≡ r.mounted_line name shape row
-  pub dismounted : (row : GroupRow) → row.state ≡ codes "DISMOUNTED" → group_line row ≡ r.dismounted_line row.name
-  pub disks : (rows : List r.DiskRow) → disk_lines (map disk_row rows) ≡ r.disk_lines rows
-  pub templates : (rows : List Template) → template_lines (map template_row rows) ≡ r.template_lines rows
-  pub attributes : (shape : Shape) (a : Attributes) → attribute_lines (attribute_rows shape a) ≡ r.attribute_lines shape a
+  pub listed : (long : Bool) (rows : List r.Listed) → ls_row_lines long (map listed_row rows) ≡ r.ls_lines long rows
+  pub mounted : (name : Bytes) (shape : Shape) (row : r.GroupRow) → group_row_line (mounted_row name shape row) ≡ r.mounted_line name shape row
+  pub dismounted : (row : GroupRow) → row.state ≡ codes "DISMOUNTED" → group_row_line row ≡ r.dismounted_line row.name
+  pub disks : (rows : List r.DiskRow) → disk_row_lines (map disk_row rows) ≡ r.disk_lines rows
+  pub templates : (rows : List Template) → template_row_lines (map template_row rows) ≡ r.template_lines rows
+  pub attributes : (shape : Shape) (a : Attributes) → attribute_row_lines (attribute_rows shape a) ≡ r.attribute_lines shape a

@@ -4,8 +4,8 @@ ghost use Rattle.std.specs.Option.{option_map};
 ghost use Rattle.asm_grammar.specs.Reads.{Gives, reads};
 ghost use Rattle.asm_world.specs.VerbMeaning.{of_files};
 ghost use Rattle.asm_world.specs.Verbs.{files};
-ghost use Rattle.asmcmd.specs.Rows.{may_read, create_rest, create_of, write_rest, write_of, fill_rest, fill_of, read_rest, read_of, resize_rest, resize_of};
-ghost use Rattle.asmcmd.specs.Verbs.{said};
+ghost use Rattle.asmcmd.specs.Rows.{may_read, create_rest, create_of, write_rest, write_of, fill_rest, fill_of, read_rest, read_of, resize_verb_rest, resize_verb_of};
+ghost use Rattle.asmcmd.specs.Verbs.{meant_verb};
 
 use crate::verb::Verb;
 use crate::words::{bytes_word, maybe_name, present, text_word};
@@ -13,7 +13,7 @@ use asm_grammar::{Place, ReadError, TextKind, byte_word, size_word, try_exact};
 use std::alloc::Global;
 
 fn create<'a>(alloc: Global, place: Place<'a>) -> Result<(Verb, Place<'a>), ReadError>
-    ensures { Gives said result (reads create_rest create_of place.entry) }
+    ensures { Gives meant_verb result (reads create_rest create_of place.entry) }
 {
     let (path, place) = text_word(alloc, place, TextKind::Path)?;
     let (size, place) = size_word(place)?;
@@ -29,7 +29,7 @@ fn create<'a>(alloc: Global, place: Place<'a>) -> Result<(Verb, Place<'a>), Read
 }
 
 fn write<'a>(alloc: Global, place: Place<'a>) -> Result<(Verb, Place<'a>), ReadError>
-    ensures { Gives said result (reads write_rest write_of place.entry) }
+    ensures { Gives meant_verb result (reads write_rest write_of place.entry) }
 {
     let (path, place) = text_word(alloc, place, TextKind::Path)?;
     let (at, place) = size_word(place)?;
@@ -38,7 +38,7 @@ fn write<'a>(alloc: Global, place: Place<'a>) -> Result<(Verb, Place<'a>), ReadE
 }
 
 fn fill<'a>(alloc: Global, place: Place<'a>) -> Result<(Verb, Place<'a>), ReadError>
-    ensures { Gives said result (reads fill_rest fill_of place.entry) }
+    ensures { Gives meant_verb result (reads fill_rest fill_of place.entry) }
 {
     let (path, place) = text_word(alloc, place, TextKind::Path)?;
     let (at, place) = size_word(place)?;
@@ -56,7 +56,7 @@ fn fill<'a>(alloc: Global, place: Place<'a>) -> Result<(Verb, Place<'a>), ReadEr
 }
 
 fn read<'a>(alloc: Global, place: Place<'a>) -> Result<(Verb, Place<'a>), ReadError>
-    ensures { Gives said result (reads read_rest read_of place.entry) }
+    ensures { Gives meant_verb result (reads read_rest read_of place.entry) }
 {
     let (path, place) = text_word(alloc, place, TextKind::Path)?;
     let (at, place) = size_word(place)?;
@@ -65,7 +65,7 @@ fn read<'a>(alloc: Global, place: Place<'a>) -> Result<(Verb, Place<'a>), ReadEr
 }
 
 fn resize<'a>(alloc: Global, place: Place<'a>) -> Result<(Verb, Place<'a>), ReadError>
-    ensures { Gives said result (reads resize_rest resize_of place.entry) }
+    ensures { Gives meant_verb result (reads resize_verb_rest resize_verb_of place.entry) }
 {
     let (path, place) = text_word(alloc, place, TextKind::Path)?;
     let (size, place) = size_word(place)?;
@@ -77,7 +77,7 @@ pub fn file_verb<'a>(
     alloc: Global,
     place: Place<'a>,
 ) -> Result<(Option<Verb>, Place<'a>), ReadError>
-    ensures { Gives (λ v. option_map said v) result (may_read files of_files place.entry) }
+    ensures { Gives (λ v. option_map meant_verb v) result (may_read files of_files place.entry) }
 {
     let (creates, place) = try_exact(place, b"dbcreate");
     if creates {

@@ -3,7 +3,7 @@
 ghost use Rattle.std.specs.Prelude.{◌≡◌, ◌∷◌, [], codes, IfOk};
 ghost use Rattle.std.specs.Str.{bytes_eq};
 ghost use Rattle.asm_world.specs.Reports.{check_line, dismounted_line};
-ghost use Rattle.asmcmd.specs.Texts.{mounted_line, group_line, group_lines, disk_line, disk_lines, template_line, template_lines, attribute_line, attribute_lines, RowsAreLines};
+ghost use Rattle.asmcmd.specs.Texts.{mounted_row_line, group_row_line, group_lines, disk_row_line, disk_row_lines, template_row_line, template_row_lines, attribute_line, attribute_row_lines, RowsAreLines};
 
 use crate::rows::{AttrRow, DiskRow, GroupRow, TemplateRow};
 use crate::text::{Field, headed, line_of};
@@ -11,7 +11,7 @@ use asm_base::{List, NoMemory, Text};
 use std::alloc::Global;
 
 fn mounted_line(alloc: Global, row: &GroupRow) -> Result<Text, NoMemory>
-    ensures { IfOk result (λ line. line ≡ mounted_line row.now) }
+    ensures { IfOk result (λ line. line ≡ mounted_row_line row.now) }
 {
     line_of(
         alloc,
@@ -45,7 +45,7 @@ fn dismounted_line(alloc: Global, name: &[u8]) -> Result<Text, NoMemory>
 
 /// Of a dismounted group only the name is told.
 fn group_line(alloc: Global, row: &GroupRow) -> Result<Text, NoMemory>
-    ensures { IfOk result (λ line. line ≡ group_line row.now) }
+    ensures { IfOk result (λ line. line ≡ group_row_line row.now) }
 {
     if is_dismounted(row) {
         dismounted_line(alloc, row.name.as_slice())
@@ -67,7 +67,7 @@ pub fn group_lines(alloc: Global, rows: &[GroupRow]) -> Result<List<Text>, NoMem
 }
 
 fn disk_line(alloc: Global, row: &DiskRow) -> Result<Text, NoMemory>
-    ensures { IfOk result (λ line. line ≡ disk_line row.now) }
+    ensures { IfOk result (λ line. line ≡ disk_row_line row.now) }
 {
     line_of(
         alloc,
@@ -85,7 +85,7 @@ fn disk_line(alloc: Global, row: &DiskRow) -> Result<Text, NoMemory>
 
 /// A head line, and a line for each disk.
 pub fn disk_lines(alloc: Global, rows: &[DiskRow]) -> Result<List<Text>, NoMemory>
-    ensures { IfOk result (λ lines. lines ≡ disk_lines rows.now) }
+    ensures { IfOk result (λ lines. lines ≡ disk_row_lines rows.now) }
 {
     let mut lines = headed(alloc, b"Number Mode Failgroup Kind Total Free Name")?;
     for row in rows {
@@ -95,7 +95,7 @@ pub fn disk_lines(alloc: Global, rows: &[DiskRow]) -> Result<List<Text>, NoMemor
 }
 
 fn template_line(alloc: Global, row: &TemplateRow) -> Result<Text, NoMemory>
-    ensures { IfOk result (λ line. line ≡ template_line row.now) }
+    ensures { IfOk result (λ line. line ≡ template_row_line row.now) }
 {
     line_of(
         alloc,
@@ -110,7 +110,7 @@ fn template_line(alloc: Global, row: &TemplateRow) -> Result<Text, NoMemory>
 
 /// A head line, and a line for each template.
 pub fn template_lines(alloc: Global, rows: &[TemplateRow]) -> Result<List<Text>, NoMemory>
-    ensures { IfOk result (λ lines. lines ≡ template_lines rows.now) }
+    ensures { IfOk result (λ lines. lines ≡ template_row_lines rows.now) }
 {
     let mut lines = headed(alloc, b"Name Redund Striped Sys")?;
     for row in rows {
@@ -128,7 +128,7 @@ fn attribute_line(alloc: Global, row: &AttrRow) -> Result<Text, NoMemory>
 
 /// A head line, and a line for each attribute.
 pub fn attribute_lines(alloc: Global, rows: &[AttrRow]) -> Result<List<Text>, NoMemory>
-    ensures { IfOk result (λ lines. lines ≡ attribute_lines rows.now) }
+    ensures { IfOk result (λ lines. lines ≡ attribute_row_lines rows.now) }
 {
     let mut lines = headed(alloc, b"Name Value")?;
     for row in rows {

@@ -5,7 +5,7 @@ ghost use Rattle.asm_grammar.specs.Reads.{Gives, reads};
 ghost use Rattle.asm_world.specs.VerbMeaning.{of_reports, of_disks};
 ghost use Rattle.asm_world.specs.Verbs.{reports, disks};
 ghost use Rattle.asmcmd.specs.Rows.{may_read};
-ghost use Rattle.asmcmd.specs.Verbs.{said};
+ghost use Rattle.asmcmd.specs.Verbs.{meant_verb};
 
 use crate::verb::Verb;
 use crate::words::{maybe_name, name_word};
@@ -17,7 +17,7 @@ pub fn report_verb<'a>(
     alloc: Global,
     place: Place<'a>,
 ) -> Result<(Option<Verb>, Place<'a>), ReadError>
-    ensures { Gives (λ v. option_map said v) result (may_read reports of_reports place.entry) }
+    ensures { Gives (λ v. option_map meant_verb v) result (may_read reports of_reports place.entry) }
 {
     let (groups, place) = try_exact(place, b"lsdg");
     if groups {
@@ -44,7 +44,7 @@ pub fn report_verb<'a>(
 
 /// A verb on the disks of a group.
 pub fn disk_verb<'a>(alloc: Global, place: Place<'a>) -> Result<(Verb, Place<'a>), ReadError>
-    ensures { Gives said result (reads disks of_disks place.entry) }
+    ensures { Gives meant_verb result (reads disks of_disks place.entry) }
 {
     let (stops, place) = try_exact(place, b"offline");
     if stops {

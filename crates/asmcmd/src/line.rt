@@ -1,15 +1,15 @@
 //! Lines.
 
 ghost use Rattle.std.specs.Prelude.{◌≡◌, ◌≤◌, length, false};
-ghost use Rattle.asm_grammar.specs.Reading.{mapped, close, closed, parse};
+ghost use Rattle.asm_grammar.specs.Reading.{mapped, close, ended_by_word, parse};
 ghost use Rattle.asm_grammar.specs.Reads.{Gives, reads};
 ghost use Rattle.asm_grammar.specs.Word.{End};
 ghost use Rattle.asm_grammar.specs.FirstWord.{opens_statement};
 ghost use Rattle.asm_world.specs.FirstWord.{begins_blank, keyword_front};
 ghost use Rattle.asm_world.specs.VerbMeaning.{verb_of};
 ghost use Rattle.asm_world.specs.Verbs as g;
-ghost use Rattle.asmcmd.specs.Exact.{other_verbs, other_of, last_verbs, last_of, placed, IsVerbRead, IsExact, IsCommand};
-ghost use Rattle.asmcmd.specs.Verbs.{said};
+ghost use Rattle.asmcmd.specs.Exact.{other_verbs, other_of, last_verbs, last_of, read_error_of, IsVerbRead, IsExact, IsCommand};
+ghost use Rattle.asmcmd.specs.Verbs.{meant_verb};
 
 use crate::files::file_verb;
 use crate::groups::{disk_verb, report_verb};
@@ -32,7 +32,7 @@ fn keyword_front(text: &[u8]) -> usize
 
 /// A report of a group or a verb on its disks.
 fn last_verb<'a>(alloc: Global, place: Place<'a>) -> Result<(Verb, Place<'a>), Unread>
-    ensures { Gives said result (reads last_verbs last_of place.entry) }
+    ensures { Gives meant_verb result (reads last_verbs last_of place.entry) }
 {
     match report_verb(alloc, place) {
         Ok((read, place)) => match read {
@@ -45,7 +45,7 @@ fn last_verb<'a>(alloc: Global, place: Place<'a>) -> Result<(Verb, Place<'a>), U
 
 /// Any verb but those on the bytes of files.
 fn other_verb<'a>(alloc: Global, place: Place<'a>) -> Result<(Verb, Place<'a>), Unread>
-    ensures { Gives said result (reads other_verbs other_of place.entry) }
+    ensures { Gives meant_verb result (reads other_verbs other_of place.entry) }
 {
     match name_verb(alloc, place) {
         Ok((read, place)) => match read {
@@ -57,7 +57,7 @@ fn other_verb<'a>(alloc: Global, place: Place<'a>) -> Result<(Verb, Place<'a>), 
 }
 
 fn verb<'a>(alloc: Global, place: Place<'a>) -> Result<(Verb, Place<'a>), Unread>
-    ensures { Gives said result (reads g.verb verb_of place.entry) }
+    ensures { Gives meant_verb result (reads g.verb verb_of place.entry) }
 {
     match file_verb(alloc, place) {
         Ok((read, place)) => match read {
@@ -70,14 +70,14 @@ fn verb<'a>(alloc: Global, place: Place<'a>) -> Result<(Verb, Place<'a>), Unread
 
 /// The verb, where the line ends behind it.
 fn with_end<'a>(verb: Verb, place: Place<'a>) -> Result<(Verb, Place<'a>), Unread>
-    ensures { Gives said result (mapped (λ u. said verb) (close End place.entry.rest.now place.entry.left)) }
+    ensures { Gives meant_verb result (mapped (λ u. meant_verb verb) (close End place.entry.rest.now place.entry.left)) }
 {
     let place = line_end(place)?;
     Ok((verb, place))
 }
 
 fn whole_verb<'a>(alloc: Global, place: Place<'a>) -> Result<(Verb, Place<'a>), Unread>
-    ensures { Gives said result (mapped verb_of (closed End (parse g.verb place.entry.rest.now place.entry.left))) }
+    ensures { Gives meant_verb result (mapped verb_of (ended_by_word End (parse g.verb place.entry.rest.now place.entry.left))) }
 {
     match verb(alloc, place) {
         Ok((verb, place)) => with_end(verb, place),
@@ -87,7 +87,7 @@ fn whole_verb<'a>(alloc: Global, place: Place<'a>) -> Result<(Verb, Place<'a>), 
 
 /// Where a line of so many bytes is refused.
 fn place_of(error: Unread, text: &[u8]) -> ReadError
-    ensures { result ≡ placed (length text.now) error }
+    ensures { result ≡ read_error_of (length text.now) error }
 {
     match error {
         Unread::Syntax { left } => ReadError::Syntax {

@@ -2,7 +2,7 @@
 
 ghost use Rattle.std.specs.Prelude.{◌≡◌, true, map, IfOk};
 ghost use Rattle.asm_world.specs.Reports.{du_lines};
-ghost use Rattle.asmcmd.specs.Texts.{short_line, file_line, directory_line, long_line, ls_lines, path_line};
+ghost use Rattle.asmcmd.specs.Texts.{short_row_line, file_line, directory_line, long_row_line, ls_row_lines, path_line};
 
 use crate::paths::path_text;
 use crate::rows::LsRow;
@@ -11,7 +11,7 @@ use asm_base::{List, NoMemory, Path, Text};
 use std::alloc::Global;
 
 fn short_line(alloc: Global, row: &LsRow) -> Result<Text, NoMemory>
-    ensures { IfOk result (λ line. line ≡ short_line row.now) }
+    ensures { IfOk result (λ line. line ≡ short_row_line row.now) }
 {
     let name = row.name.as_slice();
     if row.dir {
@@ -22,7 +22,7 @@ fn short_line(alloc: Global, row: &LsRow) -> Result<Text, NoMemory>
 }
 
 fn short_lines(alloc: Global, rows: &[LsRow]) -> Result<List<Text>, NoMemory>
-    ensures { IfOk result (λ lines. lines ≡ map short_line rows.now) }
+    ensures { IfOk result (λ lines. lines ≡ map short_row_line rows.now) }
 {
     let mut lines = List::new(alloc);
     for row in rows {
@@ -77,7 +77,7 @@ fn file_line(alloc: Global, row: &LsRow) -> Result<Text, NoMemory>
 }
 
 fn long_line(alloc: Global, row: &LsRow) -> Result<Text, NoMemory>
-    ensures { IfOk result (λ line. line ≡ long_line row.now) }
+    ensures { IfOk result (λ line. line ≡ long_row_line row.now) }
 {
     if row.dir {
         directory_line(alloc, row.name.as_slice())
@@ -87,7 +87,7 @@ fn long_line(alloc: Global, row: &LsRow) -> Result<Text, NoMemory>
 }
 
 fn long_lines(alloc: Global, rows: &[LsRow]) -> Result<List<Text>, NoMemory>
-    ensures { IfOk result (λ lines. lines ≡ ls_lines true rows.now) }
+    ensures { IfOk result (λ lines. lines ≡ ls_row_lines true rows.now) }
 {
     let mut lines = headed(alloc, b"Type Redund Striped Sys Name")?;
     for row in rows {
@@ -98,7 +98,7 @@ fn long_lines(alloc: Global, rows: &[LsRow]) -> Result<List<Text>, NoMemory>
 
 /// The names of the rows, or with `long` their columns below a head line.
 pub fn ls_lines(alloc: Global, rows: &[LsRow], long: bool) -> Result<List<Text>, NoMemory>
-    ensures { IfOk result (λ lines. lines ≡ ls_lines long rows.now) }
+    ensures { IfOk result (λ lines. lines ≡ ls_row_lines long rows.now) }
 {
     if long {
         long_lines(alloc, rows)

@@ -3,11 +3,11 @@
 ghost use Rattle.std.specs.Option.{option_map};
 ghost use Rattle.asm_grammar.specs.Reads.{Gives, reads};
 ghost use Rattle.asm_group.specs.Names.{Bytes};
-ghost use Rattle.asm_world.specs.Command.{Copy};
+ghost use Rattle.asm_world.specs.Command.{CopyFile};
 ghost use Rattle.asm_world.specs.VerbMeaning.{of_names};
 ghost use Rattle.asm_world.specs.Verbs.{names};
-ghost use Rattle.asmcmd.specs.Rows.{may_read, list_rest, list_of, target, target_of, copy_rest, copy_of, find_rest, find_of, alias_rest, alias_of, later_names, later_names_of};
-ghost use Rattle.asmcmd.specs.Verbs.{said};
+ghost use Rattle.asmcmd.specs.Rows.{may_read, list_rest, list_verb_of, target, target_of, copy_rest, copy_verb_of, find_rest, find_of, alias_rest, alias_of, later_names, later_names_of};
+ghost use Rattle.asmcmd.specs.Verbs.{meant_verb};
 
 use crate::verb::Verb;
 use crate::words::{maybe_text, present, text_word};
@@ -17,7 +17,7 @@ use std::alloc::Global;
 
 /// `-l` is no path here.
 fn list<'a>(alloc: Global, place: Place<'a>) -> Result<(Verb, Place<'a>), ReadError>
-    ensures { Gives said result (reads list_rest list_of place.entry) }
+    ensures { Gives meant_verb result (reads list_rest list_verb_of place.entry) }
 {
     let (long, place) = try_exact(place, b"-l");
     let (path, place) = maybe_text(alloc, place, TextKind::NotLong)?;
@@ -41,7 +41,7 @@ fn copy_from<'a>(
     source: Text,
     place: Place<'a>,
 ) -> Result<(Verb, Place<'a>), ReadError>
-    ensures { Gives said result (reads target (λ v. Copy source (target_of v)) place.entry) }
+    ensures { Gives meant_verb result (reads target (λ v. CopyFile source (target_of v)) place.entry) }
 {
     let (target, place) = any_target(alloc, place)?;
     Ok((Verb::Copy { source, target }, place))
@@ -49,7 +49,7 @@ fn copy_from<'a>(
 
 /// One of the two paths at most is outside.
 fn copy<'a>(alloc: Global, place: Place<'a>) -> Result<(Verb, Place<'a>), ReadError>
-    ensures { Gives said result (reads copy_rest copy_of place.entry) }
+    ensures { Gives meant_verb result (reads copy_rest copy_verb_of place.entry) }
 {
     let (source, place) = maybe_text(alloc, place, TextKind::Path)?;
     if let Some(source) = source {
@@ -61,7 +61,7 @@ fn copy<'a>(alloc: Global, place: Place<'a>) -> Result<(Verb, Place<'a>), ReadEr
 }
 
 fn find<'a>(alloc: Global, place: Place<'a>) -> Result<(Verb, Place<'a>), ReadError>
-    ensures { Gives said result (reads find_rest find_of place.entry) }
+    ensures { Gives meant_verb result (reads find_rest find_of place.entry) }
 {
     let (path, place) = text_word(alloc, place, TextKind::Path)?;
     let (pattern, place) = text_word(alloc, place, TextKind::PartPattern)?;
@@ -69,7 +69,7 @@ fn find<'a>(alloc: Global, place: Place<'a>) -> Result<(Verb, Place<'a>), ReadEr
 }
 
 fn make_alias<'a>(alloc: Global, place: Place<'a>) -> Result<(Verb, Place<'a>), ReadError>
-    ensures { Gives said result (reads alias_rest alias_of place.entry) }
+    ensures { Gives meant_verb result (reads alias_rest alias_of place.entry) }
 {
     let (path, place) = text_word(alloc, place, TextKind::Path)?;
     let (alias, place) = text_word(alloc, place, TextKind::Path)?;
@@ -81,7 +81,7 @@ fn later_name_verb<'a>(
     alloc: Global,
     place: Place<'a>,
 ) -> Result<(Option<Verb>, Place<'a>), ReadError>
-    ensures { Gives (λ v. option_map said v) result (may_read later_names later_names_of place.entry) }
+    ensures { Gives (λ v. option_map meant_verb v) result (may_read later_names later_names_of place.entry) }
 {
     let (copies, place) = try_exact(place, b"cp");
     if copies {
@@ -113,7 +113,7 @@ pub fn name_verb<'a>(
     alloc: Global,
     place: Place<'a>,
 ) -> Result<(Option<Verb>, Place<'a>), ReadError>
-    ensures { Gives (λ v. option_map said v) result (may_read names of_names place.entry) }
+    ensures { Gives (λ v. option_map meant_verb v) result (may_read names of_names place.entry) }
 {
     let (lists, place) = try_exact(place, b"ls");
     if lists {

@@ -4,16 +4,16 @@ ghost use Rattle.std.specs.List.{list_all};
 ghost use Rattle.std.specs.Option.{option_map};
 ghost use Rattle.std.specs.Prelude.{◌≡◌, ◌++◌, true, IfOk, IfErr, Some};
 ghost use Rattle.asm_group.specs.Names.{is_part};
-ghost use Rattle.asm_grammar.specs.Argument.{Text as OfKind, Named, HexBytes, hex_bytes, is_hex};
+ghost use Rattle.asm_grammar.specs.Argument.{Text as OfKind, PlainName, HexBytes, hex_bytes, is_hex};
 ghost use Rattle.asm_grammar.specs.Reading.{Outcome, mapped, one};
 ghost use Rattle.asm_grammar.specs.Reads.{Gives};
-ghost use Rattle.asm_grammar.specs.Stages.{kind_of};
+ghost use Rattle.asm_grammar.specs.Stages.{text_kind_of};
 ghost use Rattle.asm_grammar.specs.Word.{Argument, fit};
 ghost use Rattle.asm_grammar.specs.declared.words.ReadError.TheVariants.{NoMemory};
 ghost use Rattle.asm_world.specs.Verbs.{name, argument};
 ghost use Rattle.asm_world.specs.Command as c;
 ghost use Rattle.asmcmd.specs.Rows.{may_read};
-ghost use Rattle.asmcmd.specs.Verbs.{said};
+ghost use Rattle.asmcmd.specs.Verbs.{meant_verb};
 
 use crate::verb::Verb;
 use asm_base::{List, Name, Text};
@@ -33,7 +33,7 @@ pub fn text_word<'a>(
     place: Place<'a>,
     kind: TextKind,
 ) -> Result<(Text, Place<'a>), ReadError>
-    ensures { Gives (λ t. t) result (one (Argument (OfKind (kind_of kind))) place.entry.rest.now place.entry.left (fit (Argument (OfKind (kind_of kind))) place.entry.rest.now)) }
+    ensures { Gives (λ t. t) result (one (Argument (OfKind (text_kind_of kind))) place.entry.rest.now place.entry.left (fit (Argument (OfKind (text_kind_of kind))) place.entry.rest.now)) }
 {
     let (word, place) = text(place, kind)?;
     let word = owned(alloc, word)?;
@@ -46,7 +46,7 @@ pub fn maybe_text<'a>(
     place: Place<'a>,
     kind: TextKind,
 ) -> Result<(Option<Text>, Place<'a>), ReadError>
-    ensures { Gives (λ t. t) result (may_read (argument (OfKind (kind_of kind))) (λ t. t) place.entry) }
+    ensures { Gives (λ t. t) result (may_read (argument (OfKind (text_kind_of kind))) (λ t. t) place.entry) }
 {
     let (word, place) = try_text(place, kind);
     let Some(word) = word else {
@@ -70,7 +70,7 @@ fn owned_name(alloc: Global, word: &[u8]) -> Result<Name, ReadError>
 
 /// The next word is a name.
 pub fn name_word<'a>(alloc: Global, place: Place<'a>) -> Result<(Name, Place<'a>), ReadError>
-    ensures { Gives (λ n. n) result (one (Argument (OfKind Named)) place.entry.rest.now place.entry.left (fit (Argument (OfKind Named)) place.entry.rest.now)) }
+    ensures { Gives (λ n. n) result (one (Argument (OfKind PlainName)) place.entry.rest.now place.entry.left (fit (Argument (OfKind PlainName)) place.entry.rest.now)) }
 {
     let (word, place) = text(place, TextKind::Named)?;
     let name = owned_name(alloc, word)?;
@@ -120,7 +120,7 @@ pub fn bytes_word<'a>(alloc: Global, place: Place<'a>) -> Result<(Text, Place<'a
 pub fn present<'a>(
     read: Result<(Verb, Place<'a>), ReadError>,
 ) -> Result<(Option<Verb>, Place<'a>), ReadError>
-    ensures { (o : Outcome c.Verb) → Gives said read.entry o → Gives (λ v. option_map said v) result (mapped (λ v. Some v) o) }
+    ensures { (o : Outcome c.Verb) → Gives meant_verb read.entry o → Gives (λ v. option_map meant_verb v) result (mapped (λ v. Some v) o) }
 {
     match read {
         Ok((verb, place)) => Ok((Some(verb), place)),

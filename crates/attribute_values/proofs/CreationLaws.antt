@@ -7,7 +7,7 @@ use Rattle.asm_group.specs.Shape.{Shape, is_dir_blocks, is_step, is_unit_size}
 use Rattle.asm_group.specs.Group.{Attributes}
 use Rattle.asm_group.specs.NewGroup.{usual_attributes}
 use Rattle.template_directory.specs.asm_formats.Items.{Settings, is_item, settings_item}
-use Rattle.asm_grammar.specs.Word.{number_of, size_of}
+use Rattle.asm_grammar.specs.Word.{number_of_text, size_of_text}
 use Rattle.asm_world.specs.Settings as world
 use Rattle.asm_grammar.specs.Word.{when}
 use Rattle.asm_world.specs.Settings.{with_attribute, with_creation_attribute, with_shape}
@@ -28,20 +28,20 @@ module _ (c : world.Creation) (name value : Bytes) where
   given = with_creation_attribute c (record { name = name; value = value })
 
   pub is_unit : is_same_name name (codes "au_size") ≡ true
-      → option_map (λ (s : Shape). record c { shape = s }) (shape_if is_unit_size (λ n. record c.shape { au = n }) (size_of value)) ≡ with_creation_attribute c (record { name = name; value = value })
-  is_unit unit = rw unit (shaped c is_unit_size (λ n. record c.shape { au = n }) (size_of value))
+      → option_map (λ (s : Shape). record c { shape = s }) (shape_if is_unit_size (λ n. record c.shape { au = n }) (size_of_text value)) ≡ with_creation_attribute c (record { name = name; value = value })
+  is_unit unit = rw unit (shaped c is_unit_size (λ n. record c.shape { au = n }) (size_of_text value))
 
   pub is_sector : is_same_name name (codes "au_size") ≡ false → is_same_name name (codes "sector_size") ≡ true
-      → option_map (λ (s : Shape). record c { shape = s }) (shape_if (λ n. n == 512 || n == 4096) (λ n. record c.shape { sector = n }) (size_of value)) ≡ with_creation_attribute c (record { name = name; value = value })
-  is_sector unit sector = rw (unit, sector) (shaped c (λ n. n == 512 || n == 4096) (λ n. record c.shape { sector = n }) (size_of value))
+      → option_map (λ (s : Shape). record c { shape = s }) (shape_if (λ n. n == 512 || n == 4096) (λ n. record c.shape { sector = n }) (size_of_text value)) ≡ with_creation_attribute c (record { name = name; value = value })
+  is_sector unit sector = rw (unit, sector) (shaped c (λ n. n == 512 || n == 4096) (λ n. record c.shape { sector = n }) (size_of_text value))
 
   pub is_step_of : is_same_name name (codes "au_size") ≡ false → is_same_name name (codes "sector_size") ≡ false → is_same_name name (codes "extent_step") ≡ true
-      → option_map (λ (s : Shape). record c { shape = s }) (shape_if is_step (λ n. record c.shape { step = n }) (number_of value)) ≡ with_creation_attribute c (record { name = name; value = value })
-  is_step_of unit sector step = rw (unit, sector, step) (shaped c is_step (λ n. record c.shape { step = n }) (number_of value))
+      → option_map (λ (s : Shape). record c { shape = s }) (shape_if is_step (λ n. record c.shape { step = n }) (number_of_text value)) ≡ with_creation_attribute c (record { name = name; value = value })
+  is_step_of unit sector step = rw (unit, sector, step) (shaped c is_step (λ n. record c.shape { step = n }) (number_of_text value))
 
   pub is_blocks : is_same_name name (codes "au_size") ≡ false → is_same_name name (codes "sector_size") ≡ false → is_same_name name (codes "extent_step") ≡ false → is_same_name name (codes "dir_blocks") ≡ true
-      → option_map (λ (s : Shape). record c { shape = s }) (shape_if is_dir_blocks (λ n. record c.shape { dir_blocks = n }) (number_of value)) ≡ with_creation_attribute c (record { name = name; value = value })
-  is_blocks unit sector step blocks = rw (unit, sector, step, blocks) (shaped c is_dir_blocks (λ n. record c.shape { dir_blocks = n }) (number_of value))
+      → option_map (λ (s : Shape). record c { shape = s }) (shape_if is_dir_blocks (λ n. record c.shape { dir_blocks = n }) (number_of_text value)) ≡ with_creation_attribute c (record { name = name; value = value })
+  is_blocks unit sector step blocks = rw (unit, sector, step, blocks) (shaped c is_dir_blocks (λ n. record c.shape { dir_blocks = n }) (number_of_text value))
 
   pub is_other : is_same_name name (codes "au_size") ≡ false → is_same_name name (codes "sector_size") ≡ false → is_same_name name (codes "extent_step") ≡ false → is_same_name name (codes "dir_blocks") ≡ false
       → option_map (λ (a : Attributes). record c { attributes = a }) (with_attribute c.attributes (record { name = name; value = value })) ≡ with_creation_attribute c (record { name = name; value = value })

@@ -6,8 +6,8 @@ use Rattle.std.proofs.lemmas.Bool.{lt-ltb, ltb-false, le-ltb, eqb-true, eqb-fals
 use Rattle.std.proofs.lemmas.List.{drop_all}
 use Rattle.std.proofs.lemmas.Option.{same_Some, none-some}
 use Rattle.asm_grammar.specs.Argument.{factor}
-use Rattle.asm_grammar.specs.Bytes.{after_run, is_digit, run_of}
-use Rattle.asm_grammar.specs.Word.{below, digits_after, number_of, size_after, size_of, unit_after}
+use Rattle.asm_grammar.specs.Bytes.{after_run, is_digit_byte, run_of}
+use Rattle.asm_grammar.specs.Word.{below, digits_after, number_of_text, size_after, size_of_text, unit_after}
 use Rattle.attribute_values.specs.Sizes.{size_behind}
 
 abbrev limit : ℕ
@@ -20,7 +20,7 @@ either false = inr refl
 -- digits behind a number that is too great
 too_many : (bytes : List ℕ) (n : ℕ) → limit ≤ n → below limit (digits_after n bytes) ≡ None
 too_many [] n more = ap (λ (b : Bool). cond b (Some n) None) (le-ltb n limit more)
-too_many (b ∷ bytes) n more = elim (either (is_digit b)) [
+too_many (b ∷ bytes) n more = elim (either (is_digit_byte b)) [
   | inl digit ↦ rw digit (too_many bytes (n * 10 + (b - 48)) (omega (arith, more)))
   | inr other ↦ rw other refl
 ]
@@ -33,10 +33,10 @@ at_place digits i b less at = drop-cons digits i 0 less ∙ (ap (λ (z : ℕ). z
 
 -- one more digit is read
 pub one_more : (digits : List ℕ) (i b number next : ℕ) → i < length digits → b ≡ get_or digits i 0 → Reads digits i number
-    → Some next ≡ (if is_digit b && nat_lt (number * 10 + (b - 48)) limit then Some (number * 10 + (b - 48)) else None) → Reads digits (i + 1) next
-one_more digits i b number next less at reads is = by (is_digit b) (nat_lt (number * 10 + (b - 48)) limit) refl is
+    → Some next ≡ (if is_digit_byte b && nat_lt (number * 10 + (b - 48)) limit then Some (number * 10 + (b - 48)) else None) → Reads digits (i + 1) next
+one_more digits i b number next less at reads is = by (is_digit_byte b) (nat_lt (number * 10 + (b - 48)) limit) refl is
   where
-    by : (d c : Bool) → is_digit b ≡ d → Some next ≡ (if d && c then Some (number * 10 + (b - 48)) else None) → Reads digits (i + 1) next
+    by : (d c : Bool) → is_digit_byte b ≡ d → Some next ≡ (if d && c then Some (number * 10 + (b - 48)) else None) → Reads digits (i + 1) next
     by false c other e = absurd (let same : Some next ≡ None = e in cc)
     by true false digit e = absurd (let same : Some next ≡ None = e in cc)
     by true true digit e =
@@ -46,18 +46,18 @@ one_more digits i b number next less at reads is = by (is_digit b) (nat_lt (numb
 
 -- another byte stands among the digits, or the number is too great
 pub no_more : (digits : List ℕ) (i b number : ℕ) → i < length digits → b ≡ get_or digits i 0 → Reads digits i number
-    → None ≡ (if is_digit b && nat_lt (number * 10 + (b - 48)) limit then Some (number * 10 + (b - 48)) else None) → None ≡ number_of digits
+    → None ≡ (if is_digit_byte b && nat_lt (number * 10 + (b - 48)) limit then Some (number * 10 + (b - 48)) else None) → None ≡ number_of_text digits
 no_more [] i b number less at reads is = absurd (omega (arith, less))
-no_more (d ∷ digits) i b number less at reads is = sym (sym reads ∙ ap (λ (bytes : List ℕ). below limit (digits_after number bytes)) (at_place (d ∷ digits) i b less at) ∙ by (is_digit b) (nat_lt (number * 10 + (b - 48)) limit) refl refl is)
+no_more (d ∷ digits) i b number less at reads is = sym (sym reads ∙ ap (λ (bytes : List ℕ). below limit (digits_after number bytes)) (at_place (d ∷ digits) i b less at) ∙ by (is_digit_byte b) (nat_lt (number * 10 + (b - 48)) limit) refl refl is)
   where
-    by : (e c : Bool) → is_digit b ≡ e → nat_lt (number * 10 + (b - 48)) limit ≡ c → None ≡ (if e && c then Some (number * 10 + (b - 48)) else None)
+    by : (e c : Bool) → is_digit_byte b ≡ e → nat_lt (number * 10 + (b - 48)) limit ≡ c → None ≡ (if e && c then Some (number * 10 + (b - 48)) else None)
         → below limit (if e then digits_after (number * 10 + (b - 48)) (drop (i + 1) (d ∷ digits)) else None) ≡ None
     by false c other great e = refl
     by true false digit great e = too_many (drop (i + 1) (d ∷ digits)) (number * 10 + (b - 48)) (ltb-false (number * 10 + (b - 48)) limit great)
     by true true digit small e = absurd (let same : None ≡ Some (number * 10 + (b - 48)) = e in cc)
 
 -- all are read
-pub all_read : (digits : List ℕ) (i number : ℕ) → eqb (length digits) 0 ≡ false → number < limit → length digits ≤ i → Reads digits i number → Some number ≡ number_of digits
+pub all_read : (digits : List ℕ) (i number : ℕ) → eqb (length digits) 0 ≡ false → number < limit → length digits ≤ i → Reads digits i number → Some number ≡ number_of_text digits
 all_read [] i number some less past reads = absurd cc
 all_read (d ∷ digits) i number some less past reads =
     sym (ap (λ (b : Bool). cond b (Some number) None) (lt-ltb number limit less))
@@ -71,9 +71,9 @@ sized None rest = None
 sized (Some n) [] = Some n
 sized (Some n) (b ∷ rest) = unit_after n b rest
 
-cut : (bytes : List ℕ) (n : ℕ) → size_after n bytes ≡ sized (digits_after n (run_of is_digit bytes)) (after_run is_digit bytes)
+cut : (bytes : List ℕ) (n : ℕ) → size_after n bytes ≡ sized (digits_after n (run_of is_digit_byte bytes)) (after_run is_digit_byte bytes)
 cut [] n = refl
-cut (b ∷ bytes) n = elim (either (is_digit b)) [
+cut (b ∷ bytes) n = elim (either (is_digit_byte b)) [
   | inl digit ↦ rw (digit, digit) (cut bytes (n * 10 + (b - 48)))
   | inr other ↦ rw other refl
 ]
@@ -117,23 +117,23 @@ some_sized (Some m) n rest is = by (nat_lt m limit) refl is rest
         sym (lettered n (factor b) (eqb (factor b) 0)) ∙ ap (λ (k : ℕ). below limit (unit_after k b [])) same
     by true small e (b ∷ c ∷ bytes) = refl
 
-module _ (b : ℕ) (bytes : List ℕ) (digit : is_digit b ≡ true) where
-  number_run : number_of (run_of is_digit (b ∷ bytes)) ≡ below limit (digits_after 0 (run_of is_digit (b ∷ bytes)))
+module _ (b : ℕ) (bytes : List ℕ) (digit : is_digit_byte b ≡ true) where
+  number_run : number_of_text (run_of is_digit_byte (b ∷ bytes)) ≡ below limit (digits_after 0 (run_of is_digit_byte (b ∷ bytes)))
   number_run = rw digit refl
 
-  size_digit : size_of (b ∷ bytes) ≡ below limit (sized (digits_after 0 (run_of is_digit (b ∷ bytes))) (after_run is_digit (b ∷ bytes)))
+  size_digit : size_of_text (b ∷ bytes) ≡ below limit (sized (digits_after 0 (run_of is_digit_byte (b ∷ bytes))) (after_run is_digit_byte (b ∷ bytes)))
   size_digit = ap (λ (d : Bool). cond d (below limit (size_after 0 (b ∷ bytes))) None) digit ∙ ap (below limit) (cut (b ∷ bytes) 0)
 
-pub no_size : (text : List ℕ) → None ≡ number_of (run_of is_digit text) → None ≡ size_of text
+pub no_size : (text : List ℕ) → None ≡ number_of_text (run_of is_digit_byte text) → None ≡ size_of_text text
 no_size [] none = refl
-no_size (b ∷ bytes) none = elim (either (is_digit b)) [
-  | inl digit ↦ no_sized (digits_after 0 (run_of is_digit (b ∷ bytes))) (after_run is_digit (b ∷ bytes)) (none ∙ number_run b bytes digit) ∙ sym (size_digit b bytes digit)
+no_size (b ∷ bytes) none = elim (either (is_digit_byte b)) [
+  | inl digit ↦ no_sized (digits_after 0 (run_of is_digit_byte (b ∷ bytes))) (after_run is_digit_byte (b ∷ bytes)) (none ∙ number_run b bytes digit) ∙ sym (size_digit b bytes digit)
   | inr other ↦ rw other refl
 ]
 
-pub size_is : (text : List ℕ) (n : ℕ) (size : Option ℕ) → Some n ≡ number_of (run_of is_digit text) → size ≡ size_behind n (after_run is_digit text) → size ≡ size_of text
+pub size_is : (text : List ℕ) (n : ℕ) (size : Option ℕ) → Some n ≡ number_of_text (run_of is_digit_byte text) → size ≡ size_behind n (after_run is_digit_byte text) → size ≡ size_of_text text
 size_is [] n size some is = absurd (let same : Some n ≡ None = some in cc)
-size_is (b ∷ bytes) n size some is = elim (either (is_digit b)) [
-  | inl digit ↦ is ∙ some_sized (digits_after 0 (run_of is_digit (b ∷ bytes))) n (after_run is_digit (b ∷ bytes)) (some ∙ number_run b bytes digit) ∙ sym (size_digit b bytes digit)
+size_is (b ∷ bytes) n size some is = elim (either (is_digit_byte b)) [
+  | inl digit ↦ is ∙ some_sized (digits_after 0 (run_of is_digit_byte (b ∷ bytes))) n (after_run is_digit_byte (b ∷ bytes)) (some ∙ number_run b bytes digit) ∙ sym (size_digit b bytes digit)
   | inr other ↦ absurd (let same : Some n ≡ None = rw other at some in cc)
 ]

@@ -2,8 +2,8 @@
 
 ghost use Rattle.std.specs.Prelude.{◌≡◌, ◌+◌, ◌-◌, ◌*◌, ◌^◌, ◌==◌, ◌&&◌, not, nat_lt, None, Some, if◌then◌else◌};
 ghost use Rattle.asm_grammar.specs.Argument.{factor};
-ghost use Rattle.asm_grammar.specs.Bytes.{is_digit};
-ghost use Rattle.asm_grammar.specs.Word.{number_of, size_of};
+ghost use Rattle.asm_grammar.specs.Bytes.{is_digit_byte};
+ghost use Rattle.asm_grammar.specs.Word.{number_of_text, size_of_text};
 ghost use Rattle.attribute_values.specs.Sizes.{size_behind};
 
 use crate::digits::{is_digit, split_digits};
@@ -11,7 +11,7 @@ use crate::digits::{is_digit, split_digits};
 /// The number below 2^64 that one digit or more spell.
 #[tactic(auto, using(crate::proofs::NumberLaws::one_more, crate::proofs::NumberLaws::no_more))]
 pub(crate) fn number_of(digits: &[u8]) -> Option<u64>
-    ensures { result ≡ number_of digits.now }
+    ensures { result ≡ number_of_text digits.now }
 {
     if digits.is_empty() {
         return None;
@@ -28,7 +28,7 @@ pub(crate) fn number_of(digits: &[u8]) -> Option<u64>
 
 /// The number with one more digit, where the byte is a digit and it stays below 2^64.
 fn with_digit(number: u64, b: u8) -> Option<u64>
-    ensures { result ≡ (if is_digit b && nat_lt (number * 10 + (b - 48)) (2 ^ 64) then Some (number * 10 + (b - 48)) else None) }
+    ensures { result ≡ (if is_digit_byte b && nat_lt (number * 10 + (b - 48)) (2 ^ 64) then Some (number * 10 + (b - 48)) else None) }
 {
     if !is_digit(b) {
         return None;
@@ -39,7 +39,7 @@ fn with_digit(number: u64, b: u8) -> Option<u64>
 /// The bytes below 2^64 that one digit or more spell, with K, M, G or T or nothing behind them.
 #[tactic(auto, using(crate::proofs::NumberLaws::no_size))]
 pub(crate) fn size_of(text: &[u8]) -> Option<u64>
-    ensures { result ≡ size_of text.now }
+    ensures { result ≡ size_of_text text.now }
 {
     let (digits, rest) = split_digits(text);
     match number_of(digits) {

@@ -8,7 +8,7 @@ use Rattle.bay.specs.Image.{Image, ChangesOnly}
 use Rattle.bay.specs.State.{BayState, IsSlot, KeepsAttached}
 use Rattle.bay.specs.Counts.{Rose}
 use Rattle.bay.specs.Moments.{Runs, Ends, Joins, Within}
-use Rattle.bay.specs.Calls.{AttachCall, Attaches, Cost, CostsAtMost, both_costs, cost, Calls, Call, DeviceCall, sends, sends_none, Settles, Done, Went}
+use Rattle.bay.specs.Calls.{AttachCall, Attaches, Cost, CostsAtMost, both_costs, cost, Calls, Call, DeviceCall, sends, sends_none, Settles, ChangesEachImage, Went}
 use Rattle.bay.proofs.Calls.{widened, goes_on, both_done, done_less, attached-trans, on_more, started, stops}
 use Rattle.bay.proofs.Images.{changes-trans}
 
@@ -77,7 +77,7 @@ module _ {slot : ℕ} {step : Image → Image → Type 0} {a b : BayState} where
   of_writing {bytes = bytes} call = of_device bytes (λ n. omega arith) call
 
   -- a sync that leaves what it settles to others
-  pub of_settling : {T E : Type 0} {result : Result T E} → DeviceCall result slot step (Settles slot) sends_none a b → Call result slot step (Done step) (cost 1 0) a b
+  pub of_settling : {T E : Type 0} {result : Result T E} → DeviceCall result slot step (Settles slot) sends_none a b → Call result slot step (ChangesEachImage step) (cost 1 0) a b
   of_settling {result = Ok value} call = record { calls = (of_reading call).calls; done = stops call.runs; cause = tt }
   of_settling {result = Err e} call = record { calls = (of_reading call).calls; done = tt; cause = call.cause }
 
@@ -92,7 +92,7 @@ pub record Follows (may done next_may next_done whole_may whole_done : Image →
 module _ {E : Type 0} {slot : ℕ} where
   -- a call in other words
   pub reworded : {T : Type 0} {result : Result T E} {step whole done less : Image → Image → Type 0} {cost most : Cost} {a b : BayState} → Within step whole → Within done less → CostsAtMost cost most
-      → Call result slot step (Done done) cost a b → Call result slot whole (Done less) most a b
+      → Call result slot step (ChangesEachImage done) cost a b → Call result slot whole (ChangesEachImage less) most a b
   reworded {result = Ok value} within weaker fits call = record { calls = cheaper fits (wider within call.calls); done = done_less weaker call.done; cause = tt }
   reworded {result = Err e} within weaker fits call = record { calls = cheaper fits (wider within call.calls); done = tt; cause = call.cause }
 
@@ -103,8 +103,8 @@ module _ {E : Type 0} {slot : ℕ} where
 
   -- a call that ended well, and the next, whose answer is that of both
   pub then : {S T F : Type 0} {value : S} {result : Result T E} {done : S → Image → Image → Type 0} {may next_may next_done whole_may whole_done : Image → Image → Type 0} {first second : Cost} {a b c : BayState}
-      → Follows may (done value) next_may next_done whole_may whole_done → Call {E = F} (Ok value) slot may (λ v. Ends (done v)) first a b → Call result slot next_may (Done next_done) second b c
-      → Call result slot whole_may (Done whole_done) (both_costs first second) a c
+      → Follows may (done value) next_may next_done whole_may whole_done → Call {E = F} (Ok value) slot may (λ v. Ends (done v)) first a b → Call result slot next_may (ChangesEachImage next_done) second b c
+      → Call result slot whole_may (ChangesEachImage whole_done) (both_costs first second) a c
   then {result = Ok v} {a = a} follows call more = record { calls = joined follows.goes (wider follows.starts call.calls) call.done more.calls; done = both_done follows.ends call.done more.done; cause = tt }
   then {result = Err e} follows call more = record {
     calls = joined follows.goes (wider follows.starts call.calls) call.done more.calls;

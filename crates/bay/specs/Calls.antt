@@ -49,8 +49,8 @@ pub record Call {T E : Type 0} (result : Result T E) (slot : ℕ) (step : Image 
   pub cause : OnErr result (Rose (old.faults slot) (new.faults slot))
 
 -- what a call does at Ok: a change of each image
-abbrev pub Done : {T : Type 0} → (Image → Image → Type 0) → T → BayState → BayState → Type 0
-Done change value = Ends change
+abbrev pub ChangesEachImage : {T : Type 0} → (Image → Image → Type 0) → T → BayState → BayState → Type 0
+ChangesEachImage change value = Ends change
 
 -- a change of what the disks hold, which no sync has settled yet
 abbrev pub Held : {T : Type 0} → (Image → Image → Type 0) → T → BayState → BayState → Type 0
@@ -67,7 +67,7 @@ Tells P old new = ForSome old.holds P
 -- calls on a slot one after the other, none of which failed
 abbrev pub Went : ℕ → (Image → Image → Type 0) → (Image → Image → Type 0) → Cost
     → BayState → BayState → Type 0
-Went slot step done = Call {T = Unit {0}} {E = Unit {0}} (Ok (tt {0})) slot step (Done done)
+Went slot step done = Call {T = Unit {0}} {E = Unit {0}} (Ok (tt {0})) slot step (ChangesEachImage done)
 
 -- what becomes of a slot's count of bytes in a call that hands none to `write`
 abbrev pub sends_none : ℕ → ℕ

@@ -3,8 +3,8 @@
 ghost use Rattle.std.specs.Prelude.{◌≡◌, ◌≢◌, ◌+◌, ◌-◌, ◌<◌, ◌≤◌, ◌++◌, ◌∷◌, [], ℕ, Bool, false, List, length, OnErr};
 ghost use Rattle.bay.specs.Image.{Image, Same};
 ghost use Rattle.bay.specs.Counts.{Rose};
-ghost use Rattle.bay.specs.Moments.{Runs, Ends, Holds, Durable, NowOnly, LeavesOnly, Joins, Within, Gives};
-ghost use Rattle.bay.specs.Calls.{Cost, cost, both_costs, CostsAtMost, Calls, Call, DeviceCall, Done, Went};
+ghost use Rattle.bay.specs.Moments.{Runs, Ends, Holds, Durable, NowOnly, LeavesOnly, Joins, Within, StepGives};
+ghost use Rattle.bay.specs.Calls.{Cost, cost, both_costs, CostsAtMost, Calls, Call, DeviceCall, ChangesEachImage, Went};
 ghost use Rattle.bay.specs.State.{BayState};
 ghost use Rattle.bay.specs.Lists.{Tasks, Claims, OneMore, IsLocal, HasOwnSlot, own_cost, DoesOne, DoesEach};
 ghost use Rattle.bay.specs.Marks.{AtMarks};
@@ -41,13 +41,13 @@ pub fn calls_go_on<B: Bay, T: Slots, D: Step, S: Step, W: Step>(start: &B, middl
 /// What holds of each image that a stop before the calls may leave, and is kept by their step, holds of each image
 /// of each moment of the calls.
 pub fn claims_are_kept<B: Bay, T: Slots, S: Step, P: Claim, Q: Claim>(start: &B, end: &B)
-    ensures { Gives (P.says 0) S.leads (Q.says 0) → Runs T.among S.leads (B.state start.now) (B.state end.now)
+    ensures { StepGives (P.says 0) S.leads (Q.says 0) → Runs T.among S.leads (B.state start.now) (B.state end.now)
         → NowOnly (B.state start.now) (P.says 0) → LeavesOnly (B.state start.now) (B.state end.now) (Q.says 0) }
 {}
 
 /// What calls that ended well make of a claim holds of each image that a stop may leave from then on.
 pub fn claims_are_reached<B: Bay, D: Step, P: Claim, Q: Claim>(start: &B, end: &B)
-    ensures { Gives (P.says 0) D.leads (Q.says 0) → Ends D.leads (B.state start.now) (B.state end.now)
+    ensures { StepGives (P.says 0) D.leads (Q.says 0) → Ends D.leads (B.state start.now) (B.state end.now)
         → NowOnly (B.state start.now) (P.says 0) → NowOnly (B.state end.now) (Q.says 0) }
 {}
 
@@ -129,12 +129,12 @@ pub fn calls_stay_on_their_slot<B: Bay, S: Step, D: Step>(
     answer: Result<(), Fault>,
 )
     ensures others { (most : Cost)
-        → Call answer slot S.leads (Done D.leads) most (B.state start.now) (B.state end.now)
+        → Call answer slot S.leads (ChangesEachImage D.leads) most (B.state start.now) (B.state end.now)
         → (s : ℕ) → s ≢ slot
         → ((B.state end.now).faults s ≡ (B.state start.now).faults s)
         × ((B.state end.now).written s ≡ (B.state start.now).written s) }
     ensures cause { (most : Cost)
-        → Call answer slot S.leads (Done D.leads) most (B.state start.now) (B.state end.now)
+        → Call answer slot S.leads (ChangesEachImage D.leads) most (B.state start.now) (B.state end.now)
         → OnErr answer (Rose ((B.state start.now).faults slot) ((B.state end.now).faults slot)) }
 {}
 
@@ -151,8 +151,8 @@ pub fn two_calls_are_one<B: Bay, M: Step, D: Step, N: Step, E: Step, W: Step, F:
     ensures { (first second : Cost) → Within M.leads W.leads
         → Joins D.leads N.leads W.leads → Joins D.leads E.leads F.leads
         → Went slot M.leads D.leads first (B.state start.now) (B.state middle.now)
-        → Call answer slot N.leads (Done E.leads) second (B.state middle.now) (B.state end.now)
-        → Call answer slot W.leads (Done F.leads) (both_costs first second)
+        → Call answer slot N.leads (ChangesEachImage E.leads) second (B.state middle.now) (B.state end.now)
+        → Call answer slot W.leads (ChangesEachImage F.leads) (both_costs first second)
         (B.state start.now) (B.state end.now) }
 {}
 

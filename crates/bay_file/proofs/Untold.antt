@@ -4,12 +4,12 @@ use Rattle.std.proofs.lemmas.Bool.{cases_eq}
 use Rattle.bay.specs.Image.{Image}
 use Rattle.bay.specs.State.{IsSlot}
 use Rattle.bay.specs.Moments.{Runs}
-use Rattle.bay_file.specs.Slots.{SlotMap, faults_in, OthersStay}
+use Rattle.bay_file.specs.Slots.{SlotMap, faults_in, OtherSlotsStay}
 use Rattle.bay_file.specs.FileBays.{state_with}
 
 module _ {old new : SlotMap} {before after slot : ℕ} {step : Image → Image → Type 0} where
   -- a call on one slot, with no count taken back, runs by any step
-  pub runs_untold : OthersStay slot old new → faults_in old slot ≤ faults_in new slot → before ≤ after
+  pub runs_untold : OtherSlotsStay slot old new → faults_in old slot ≤ faults_in new slot → before ≤ after
       → Runs (IsSlot slot) step (state_with old before) (state_with new after)
   runs_untold others rises later = record {
     later = later;

@@ -14,5 +14,5 @@ state_with slots calls = record {
   written = written_in slots;
 }
 
-abbrev pub state_of : FileBay → BayState
-state_of bay = state_with bay.slots bay.calls
+abbrev pub file_bay_state : FileBay → BayState
+file_bay_state bay = state_with bay.slots bay.calls

@@ -5,7 +5,7 @@ use Rattle.std.specs.BTreeMap.{get}
 use Rattle.std.proofs.Common.{arith}
 use Rattle.bay.specs.State.{IsSound}
 use Rattle.bay_file.specs.Slots.{size_in}
-use Rattle.bay_file.specs.FileBays.{state_of}
+use Rattle.bay_file.specs.FileBays.{file_bay_state}
 use Rattle.bay_file.specs.declared.file_bay.FileBay.{FileBay}
 use Rattle.bay_file.specs.declared.image.Image.{Image}
 use Rattle.bay_file.specs.declared.slot.Slot.{Slot}
@@ -18,8 +18,8 @@ fits_slot : (slot : Option Slot) (size : ℕ) → option_and_then size_in slot �
 fits_slot None size is = cc
 fits_slot (Some slot) size is = fits_image slot.image size is
 
-pub sound : (bay : FileBay) → IsSound (state_of bay)
-sound bay = record {
+pub file_bay_is_sound : (bay : FileBay) → IsSound (file_bay_state bay)
+file_bay_is_sound bay = record {
   held = λ image is. cc;
   told = λ image left. absurd left;
   fits = λ slot size is. fits_slot (get nat_cmp bay.slots slot) size is;

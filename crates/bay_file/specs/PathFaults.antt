@@ -4,9 +4,9 @@ use Rattle.std.specs.BTreeMap.{get_by_text, BTreeMap}
 
 module _ {Y : Type 0} where
   -- how often calls on a path failed; a path that isn't kept never failed
-  abbrev pub faults_of : BTreeMap (String Y) ℕ → List ℕ → ℕ
-  faults_of faults path = unwrap_or (get_by_text faults path) 0
+  abbrev pub faults_of_path : BTreeMap (String Y) ℕ → List ℕ → ℕ
+  faults_of_path faults path = unwrap_or (get_by_text faults path) 0
 
   -- the counts of the other paths stay
   abbrev pub OthersKeep : List ℕ → BTreeMap (String Y) ℕ → BTreeMap (String Y) ℕ → Type 0
-  OthersKeep path old new = (other : List ℕ) → other ≢ path → faults_of new other ≡ faults_of old other
+  OthersKeep path old new = (other : List ℕ) → other ≢ path → faults_of_path new other ≡ faults_of_path old other

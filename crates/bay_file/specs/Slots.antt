@@ -23,13 +23,13 @@ abbrev pub written_in : SlotMap → ℕ → ℕ
 written_in slots s = option_map_or (λ slot. slot.written) (get nat_cmp slots s) 0
 
 -- the slots but one say what they said
-pub record OthersStay (slot : ℕ) (old new : SlotMap) : Type 0 where
+pub record OtherSlotsStay (slot : ℕ) (old new : SlotMap) : Type 0 where
   pub attached : (s : ℕ) → s ≢ slot → attached_in new s ≡ attached_in old s
   pub faults : (s : ℕ) → s ≢ slot → faults_in new s ≡ faults_in old s
   pub written : (s : ℕ) → s ≢ slot → written_in new s ≡ written_in old s
 
 -- each slot says what it said
-pub record AllStay (old new : SlotMap) : Type 0 where
+pub record AllSlotsStay (old new : SlotMap) : Type 0 where
   pub attached : (s : ℕ) → attached_in new s ≡ attached_in old s
   pub faults : (s : ℕ) → faults_in new s ≡ faults_in old s
   pub written : (s : ℕ) → written_in new s ≡ written_in old s

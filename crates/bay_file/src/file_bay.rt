@@ -16,14 +16,14 @@ pub struct FileBay {
 }
 
 impl FileBay {
-    ghost use Rattle.bay_file.specs.FileBays.{state_of};
+    ghost use Rattle.bay_file.specs.FileBays.{file_bay_state};
 
     /// A bay with no image attached.
     pub fn new(runtime: HostRuntime) -> Self
-        ensures calls { (state_of result).calls ≡ 0 }
-        ensures detached { (s : ℕ) → (state_of result).attached s ≡ None }
-        ensures faults { (s : ℕ) → (state_of result).faults s ≡ 0 }
-        ensures written { (s : ℕ) → (state_of result).written s ≡ 0 }
+        ensures calls { (file_bay_state result).calls ≡ 0 }
+        ensures detached { (s : ℕ) → (file_bay_state result).attached s ≡ None }
+        ensures faults { (s : ℕ) → (file_bay_state result).faults s ≡ 0 }
+        ensures written { (s : ℕ) → (file_bay_state result).written s ≡ 0 }
     {
         FileBay {
             runtime,
@@ -34,12 +34,12 @@ impl FileBay {
 }
 
 impl Bay for FileBay {
-    ghost use Rattle.bay_file.specs.FileBays.{state_of};
-    ghost use Rattle.bay_file.specs.FileSound.{sound};
+    ghost use Rattle.bay_file.specs.FileBays.{file_bay_state};
+    ghost use Rattle.bay_file.specs.FileSound.{file_bay_is_sound};
 
-    ghost state = { state_of };
+    ghost state = { file_bay_state };
 
-    ghost sound = { sound };
+    ghost sound = { file_bay_is_sound };
 
     fn attach(&mut self, slot: u32, path: &str) -> Result<u64, BayError> {
         self.calls = self.calls.saturating_add(1);

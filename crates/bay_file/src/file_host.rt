@@ -4,7 +4,7 @@ ghost use Rattle.bay.specs.Counts.{Rose};
 ghost use Rattle.bay.specs.declared.fault.HostError.TheVariants.{Fault};
 ghost use Rattle.bay.specs.Hosts.{CountsAt, untold};
 ghost use Rattle.bay_file.specs.Outside.{IsFaultTold};
-ghost use Rattle.bay_file.specs.PathFaults.{faults_of};
+ghost use Rattle.bay_file.specs.PathFaults.{faults_of_path};
 
 use crate::path_faults::{PathFaults, count_fault};
 use crate::whole::{lacks_memory, read_whole};
@@ -25,7 +25,7 @@ pub struct FileHost {
 impl FileHost {
     /// The files of this system. No call failed so far.
     pub fn new(runtime: HostRuntime) -> Self
-        ensures { (path : List ℕ) → faults_of result.faults path ≡ 0 }
+        ensures { (path : List ℕ) → faults_of_path result.faults path ≡ 0 }
     {
         FileHost {
             runtime,
@@ -37,9 +37,9 @@ impl FileHost {
     // for the count it is NoMemory too.
     fn passed<T: Drop>(&mut self, answer: io::Result<T>, path: &str) -> Result<T, HostError>
         ensures ok { IfOk answer (λ value. result ≡ Ok value) }
-        ensures counts { CountsAt path.now (faults_of self.old.faults) (faults_of self.new.faults) }
-        ensures err { IfErr answer (λ error. IsFaultTold error path.now result (faults_of self.old.faults) (faults_of self.new.faults)) }
-        ensures cause { IsErrOf result HostError.Fault → Rose (faults_of self.old.faults path.now) (faults_of self.new.faults path.now) }
+        ensures counts { CountsAt path.now (faults_of_path self.old.faults) (faults_of_path self.new.faults) }
+        ensures err { IfErr answer (λ error. IsFaultTold error path.now result (faults_of_path self.old.faults) (faults_of_path self.new.faults)) }
+        ensures cause { IsErrOf result HostError.Fault → Rose (faults_of_path self.old.faults path.now) (faults_of_path self.new.faults path.now) }
     {
         match answer {
             Ok(value) => Ok(value),
@@ -58,11 +58,11 @@ impl FileHost {
 
 impl Host for FileHost {
     ghost use Rattle.bay.specs.Hosts.{untold};
-    ghost use Rattle.bay_file.specs.PathFaults.{faults_of};
+    ghost use Rattle.bay_file.specs.PathFaults.{faults_of_path};
 
     ghost file = { λ _ _. untold };
 
-    ghost faults = { λ s. faults_of s.faults };
+    ghost faults = { λ s. faults_of_path s.faults };
 
     fn size(&mut self, path: &str) -> Result<u64, HostError> {
         let answer = size_of(&self.runtime, path);

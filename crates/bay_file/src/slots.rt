@@ -5,7 +5,7 @@ ghost use Rattle.std.specs.BTreeMap.{get};
 ghost use Rattle.std.specs.Option.{ForSome};
 ghost use Rattle.bay.specs.declared.fault.BayError.TheVariants.{Fault};
 ghost use Rattle.bay.specs.Counts.{counted, Rose};
-ghost use Rattle.bay_file.specs.Slots.{attached_in, faults_in, written_in, OthersStay, AllStay};
+ghost use Rattle.bay_file.specs.Slots.{attached_in, faults_in, written_in, OtherSlotsStay, AllSlotsStay};
 
 use crate::slot::Slot;
 use bay::{BayError, Fault};
@@ -16,7 +16,7 @@ pub type SlotMap = BTreeMap<u32, Slot>;
 
 // Makes sure that a slot is kept, so that its faults can be counted.
 fn keep_slot(slots: &mut SlotMap, slot: u32) -> Result<(), AllocError>
-    ensures same { AllStay slots.old slots.new }
+    ensures same { AllSlotsStay slots.old slots.new }
     ensures kept { OnOk result (IsSome (get nat_cmp slots.new slot)) }
     ensures unkept { OnErr result (attached_in slots.new slot ≡ None) }
 {
@@ -37,7 +37,7 @@ fn attach_kept(
     ensures attached { IfOk result (λ size. attached_in slots.new slot ≡ Some size) }
     ensures has { ForSome (attached_in slots.old slot) (λ size. attached_in slots.new slot ≡ Some size) }
     ensures refused { OnErr result (attached_in slots.new slot ≡ attached_in slots.old slot) }
-    ensures others { OthersStay slot slots.old slots.new }
+    ensures others { OtherSlotsStay slot slots.old slots.new }
     ensures written { written_in slots.new slot ≡ written_in slots.old slot }
     ensures later { faults_in slots.old slot ≤ faults_in slots.new slot }
     ensures cause { IsErrOf result BayError.Fault → Rose (faults_in slots.old slot) (faults_in slots.new slot) }
@@ -55,7 +55,7 @@ fn make_kept(
     requires { IsSome (get nat_cmp slots.old slot) }
     ensures attached { OnOk result (attached_in slots.new slot ≡ Some size) }
     ensures refused { OnErr result (attached_in slots.new slot ≡ None) }
-    ensures others { OthersStay slot slots.old slots.new }
+    ensures others { OtherSlotsStay slot slots.old slots.new }
     ensures written { written_in slots.new slot ≡ written_in slots.old slot }
     ensures later { faults_in slots.old slot ≤ faults_in slots.new slot }
     ensures cause { IsErrOf result BayError.Fault → Rose (faults_in slots.old slot) (faults_in slots.new slot) }
@@ -73,7 +73,7 @@ pub fn attach_in(
     ensures attached { IfOk result (λ size. attached_in slots.new slot ≡ Some size) }
     ensures has { ForSome (attached_in slots.old slot) (λ size. attached_in slots.new slot ≡ Some size) }
     ensures refused { OnErr result (attached_in slots.new slot ≡ attached_in slots.old slot) }
-    ensures others { OthersStay slot slots.old slots.new }
+    ensures others { OtherSlotsStay slot slots.old slots.new }
     ensures written { written_in slots.new slot ≡ written_in slots.old slot }
     ensures later { faults_in slots.old slot ≤ faults_in slots.new slot }
     ensures cause { IsErrOf result BayError.Fault → Rose (faults_in slots.old slot) (faults_in slots.new slot) }
@@ -94,7 +94,7 @@ pub fn make_in(
 ) -> Result<(), BayError>
     ensures attached { OnOk result (attached_in slots.new slot ≡ Some size) }
     ensures refused { OnErr result (attached_in slots.new slot ≡ None) }
-    ensures others { OthersStay slot slots.old slots.new }
+    ensures others { OtherSlotsStay slot slots.old slots.new }
     ensures written { written_in slots.new slot ≡ written_in slots.old slot }
     ensures later { faults_in slots.old slot ≤ faults_in slots.new slot }
     ensures cause { IsErrOf result BayError.Fault → Rose (faults_in slots.old slot) (faults_in slots.new slot) }
@@ -108,7 +108,7 @@ pub fn make_in(
 pub fn read_in(slots: &mut SlotMap, slot: u32, at: u64, buf: &mut [u8]) -> Result<(), Fault>
     requires { IsSome (attached_in slots.old slot) }
     ensures attached { attached_in slots.new slot ≡ attached_in slots.old slot }
-    ensures others { OthersStay slot slots.old slots.new }
+    ensures others { OtherSlotsStay slot slots.old slots.new }
     ensures written { written_in slots.new slot ≡ written_in slots.old slot }
     ensures later { faults_in slots.old slot ≤ faults_in slots.new slot }
     ensures cause { OnErr result (Rose (faults_in slots.old slot) (faults_in slots.new slot)) }
@@ -119,7 +119,7 @@ pub fn read_in(slots: &mut SlotMap, slot: u32, at: u64, buf: &mut [u8]) -> Resul
 pub fn write_in(slots: &mut SlotMap, slot: u32, at: u64, bytes: &[u8]) -> Result<(), Fault>
     requires { IsSome (attached_in slots.old slot) }
     ensures attached { attached_in slots.new slot ≡ attached_in slots.old slot }
-    ensures others { OthersStay slot slots.old slots.new }
+    ensures others { OtherSlotsStay slot slots.old slots.new }
     ensures written { written_in slots.new slot ≡ counted (written_in slots.old slot) (length bytes.now) }
     ensures later { faults_in slots.old slot ≤ faults_in slots.new slot }
     ensures cause { OnErr result (Rose (faults_in slots.old slot) (faults_in slots.new slot)) }
@@ -130,7 +130,7 @@ pub fn write_in(slots: &mut SlotMap, slot: u32, at: u64, bytes: &[u8]) -> Result
 pub fn sync_in(slots: &mut SlotMap, slot: u32) -> Result<(), Fault>
     requires { IsSome (attached_in slots.old slot) }
     ensures attached { attached_in slots.new slot ≡ attached_in slots.old slot }
-    ensures others { OthersStay slot slots.old slots.new }
+    ensures others { OtherSlotsStay slot slots.old slots.new }
     ensures written { written_in slots.new slot ≡ written_in slots.old slot }
     ensures later { faults_in slots.old slot ≤ faults_in slots.new slot }
     ensures cause { OnErr result (Rose (faults_in slots.old slot) (faults_in slots.new slot)) }

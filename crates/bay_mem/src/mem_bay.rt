@@ -36,12 +36,12 @@ pub struct MemBay {
 }
 
 impl MemBay {
-    ghost use Rattle.bay_mem.specs.MemState.{state_of, plan_of, fails_now, IsQuiet, Begins};
+    ghost use Rattle.bay_mem.specs.MemState.{state_of, plan_of, fails_now, IsQuiet, IsNewBay};
 
     /// Disks of zeros of these sizes in bytes, by slot, none of them attached. A slot without a size has no disk. No
     /// call is to fail.
     pub fn new(alloc: Global, sizes: &[Option<u64>]) -> Result<Self, NoMemory>
-        ensures begins { IfOk result (λ bay. Begins sizes.now (state_of bay)) }
+        ensures begins { IfOk result (λ bay. IsNewBay sizes.now (state_of bay)) }
         ensures slots { IfOk result (λ bay. (s : ℕ) → is_absent (plan_of bay) s ≡ not (nat_lt s (length sizes.now))) }
         ensures unlisted { IfOk result (λ bay. (n : ℕ) → is_listed (plan_of bay) n ≡ false) }
         ensures runs_on { IfOk result (λ bay. (n : ℕ) → is_past_stop (plan_of bay) n ≡ false) }

@@ -14,11 +14,11 @@ use Rattle.asm_formats.specs.Sets.{has_bit}
 use Rattle.asm_formats.specs.Status.{Entry as StatusEntry}
 use Rattle.asm_placement.specs.Layout.{units_of}
 use Rattle.asm_placement.specs.Placed.{Placed, placed_copies, placed_extents}
-use Rattle.asm_base.specs.Records.{Entry}
+use Rattle.asm_base.specs.Records.{DirectoryRecord}
 use Rattle.asm_base.proofs.Exact.{AreFitting, bind_some, some_is}
 use Rattle.plan_records.specs.allocator.UnitMaps.{UnitMap, with_run}
 use Rattle.plan_records.specs.file_directory.Files.{head_at}
-use Rattle.plan_records.specs.extent_map.Extents.{Chunked, absent, chunk_at, chunk_or_blank, count_in, has_home, is_blank, record_of, with_chunk, with_more}
+use Rattle.plan_records.specs.extent_map.Extents.{Chunked, absent_homes, chunk_at, chunk_or_blank, count_in, has_home, is_blank, record_of_chunk, with_chunk, with_more}
 use Rattle.asm_base.specs.Chunks.{Chunk, chunk_cmp}
 use Rattle.plan_records.proofs.extent_map.ChunkEnds.{base_fits, base_stands, fills_chunks, front, more_long, none_from, two}
 use Rattle.plan_records.proofs.extent_map.FileEnds.{blank_by, has_at}
@@ -253,7 +253,7 @@ extents_fit step f i (x ∷ xs) ms z long small e =
 
 -- ---- the plan
 
-pub new_marks_right : list_all are_marks_of (zip (replicate 256 0) (replicate 256 absent)) ≡ true
+pub new_marks_right : list_all are_marks_of (zip (replicate 256 0) (replicate 256 absent_homes)) ≡ true
 unfolding has_bit
 new_marks_right = refl
 
@@ -322,10 +322,10 @@ module _ (c : Catalogued) (is : IsCatalog c) (f n : ℕ) (homes : List Homes) (m
     by None e None g = inr (e, g)
 
   base_old : (w : List Homes) → chunk_at c.tables.extents (f, n) ≡ Some w → base ≡ w
-  base_old w e = ap (λ (o : Option (List Homes)). unwrap_or o (replicate 256 absent)) e
+  base_old w e = ap (λ (o : Option (List Homes)). unwrap_or o (replicate 256 absent_homes)) e
 
-  base_new : chunk_at c.tables.extents (f, n) ≡ None → base ≡ replicate 256 absent
-  base_new e = ap (λ (o : Option (List Homes)). unwrap_or o (replicate 256 absent)) e
+  base_new : chunk_at c.tables.extents (f, n) ≡ None → base ≡ replicate 256 absent_homes
+  base_new e = ap (λ (o : Option (List Homes)). unwrap_or o (replicate 256 absent_homes)) e
 
   marks_old : (m : List ℕ) → marks_at c.tables.stale (f, n) ≡ Some m → old_marks ≡ m
   marks_old m e = ap (λ (o : Option (List ℕ)). unwrap_or o (replicate 256 0)) e
@@ -334,7 +334,7 @@ module _ (c : Catalogued) (is : IsCatalog c) (f n : ℕ) (homes : List Homes) (m
   marks_new e = ap (λ (o : Option (List ℕ)). unwrap_or o (replicate 256 0)) e
 
   -- what holds of the chunk as it was, and of one without extents
-  of_base : (P : List Homes → Type 0) → ((w : List Homes) → IsRightChunk c.tables c.tables.stale (f, n) w → P w) → P (replicate 256 absent) → P base
+  of_base : (P : List Homes → Type 0) → ((w : List Homes) → IsRightChunk c.tables c.tables.stale (f, n) w → P w) → P (replicate 256 absent_homes) → P base
   of_base P old new = elim old_or_new [
     | inl s ↦ subst P (sym (base_old s.0 s.2.homes)) (old s.0 (chunk_right c.shape c.tables (f, n) s.0 is.rules s.2.homes))
     | inr none ↦ subst P (sym (base_new none.0)) new
@@ -390,19 +390,19 @@ module _ (c : Catalogued) (is : IsCatalog c) (f n : ℕ) (homes : List Homes) (m
 
   within : are_within_head (head_at c.tables.files f) more ≡ true
   within = by (head_at c.tables.files f) may.copies (of_base (λ w. are_within_head (head_at c.tables.files f) w ≡ true) (λ w r. r.copies) (none_within (head_at c.tables.files f))) where
-    none_within : (o : Option FileHead) → are_within_head o (replicate 256 absent) ≡ true
+    none_within : (o : Option FileHead) → are_within_head o (replicate 256 absent_homes) ≡ true
     none_within None = refl
     none_within (Some head) =
-        let one : are_within head.copies absent ≡ true =
+        let one : are_within head.copies absent_homes ≡ true =
         three_true (ltb 0 head.copies || true) (ltb 1 head.copies || true) (ltb 2 head.copies || true) (or_true (ltb 0 head.copies)) (or_true (ltb 1 head.copies)) (or_true (ltb 2 head.copies)) in
-        all_same (are_within head.copies) 256 absent one
+        all_same (are_within head.copies) 256 absent_homes one
 
     by : (o : Option FileHead) → are_within_head o homes ≡ true → are_within_head o base ≡ true → are_within_head o more ≡ true
     by None come had = refl
     by (Some head) come had = all_more (are_within head.copies) base homes had come
 
   apart : list_all are_on_disks more ≡ true
-  apart = all_more are_on_disks base homes (of_base (λ w. list_all are_on_disks w ≡ true) (λ w r. r.apart) (all_same are_on_disks 256 absent refl)) may.apart
+  apart = all_more are_on_disks base homes (of_base (λ w. list_all are_on_disks w ≡ true) (λ w r. r.apart) (all_same are_on_disks 256 absent_homes refl)) may.apart
 
   chunk_is : (x : List Homes) → chunk_at xs k ≡ Some x → IsRightChunk c.tables ms k x
   chunk_is x there = subst (λ (y : List Homes). IsRightChunk c.tables ms k y) (some_is more x (sym here ∙ there)) (record {
@@ -454,15 +454,15 @@ module _ (c : Catalogued) (is : IsCatalog c) (f n : ℕ) (homes : List Homes) (m
           (λ b e. behind b (ap (λ (w : List Homes). after_homes b (placed_extents c.shape.step f (n * 256) w)) (base_old s.0 s.2.homes) ∙ e))
       | inr none ↦
           let nothing : after_homes c.units (placed_extents c.shape.step f (n * 256) base) ≡ Some c.units =
-          ap (after_homes c.units) (blank_homes c.shape.step f (n * 256) base fits.1 (ap is_blank (base_new none.0) ∙ all_same (λ (h : Homes). not (has_home h)) 256 absent refl)) ∙ no_extents c.units c.shape.step f (n * 256) in
+          ap (after_homes c.units) (blank_homes c.shape.step f (n * 256) base fits.1 (ap is_blank (base_new none.0) ∙ all_same (λ (h : Homes). not (has_home h)) 256 absent_homes refl)) ∙ no_extents c.units c.shape.step f (n * 256) in
           units_new c.shape.step (unused_maps c.shape es) c.units k c.tables.extents xs is.rules.tables.extents.0.0 edit.extents.0.0 others has more none.0 here (behind c.units nothing)
     ]
 
-    abbrev chunk_entry : Entry
-    chunk_entry = record_of ((f, n), more)
+    abbrev chunk_entry : DirectoryRecord
+    chunk_entry = record_of_chunk ((f, n), more)
 
-    abbrev marks_entry : Entry
-    marks_entry = stale.record_of ((f, n), new_marks)
+    abbrev marks_entry : DirectoryRecord
+    marks_entry = stale.record_of_marks ((f, n), new_marks)
 
     two_records : AreTables (changed c.tables xs ms) → IsAfter c.tables (chunk_entry ∷ marks_entry ∷ []) [] (changed c.tables xs ms)
     two_records are =
@@ -475,10 +475,10 @@ module _ (c : Catalogued) (is : IsCatalog c) (f n : ℕ) (homes : List Homes) (m
       | inr none ↦ two_room c chunk_entry marks_entry (room none.0)
     ]
 
-  pub append_planned : (put : List Entry) (gone : List Key) → HasChunkRoom c f n → put ≡ record_of ((f, n), homes_appended c.tables f n homes) ∷ stale.record_of ((f, n), marks_appended c.tables f n marks) ∷ [] → gone ≡ []
+  pub append_planned : (put : List DirectoryRecord) (gone : List Key) → HasChunkRoom c f n → put ≡ record_of_chunk ((f, n), homes_appended c.tables f n homes) ∷ stale.record_of_marks ((f, n), marks_appended c.tables f n marks) ∷ [] → gone ≡ []
       → IsPlan c put gone (with_appended c.tables f n homes marks)
   append_planned put gone blocks e g =
-      rw (e, g) (edited_plan c k xs ms (record_of ((f, n), more) ∷ stale.record_of ((f, n), new_marks) ∷ []) [] is (edit blocks.room) (two_records blocks.room) (units blocks.room) (omega arith) refl (free blocks.room))
+      rw (e, g) (edited_plan c k xs ms (record_of_chunk ((f, n), more) ∷ stale.record_of_marks ((f, n), new_marks) ∷ []) [] is (edit blocks.room) (two_records blocks.room) (units blocks.room) (omega arith) refl (free blocks.room))
 
 -- ---- whether blocks are wanting
 

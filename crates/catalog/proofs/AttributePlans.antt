@@ -3,7 +3,7 @@ use Rattle.std.proofs.Common.{◌≡◌, true, List, [], ◌∷◌, Some, refl, 
 use Rattle.asm_group.specs.Names.{Bytes}
 use Rattle.asm_formats.specs.Items.{Key, Settings, is_item, settings_item}
 use Rattle.asm_formats.specs.Values.{value}
-use Rattle.asm_base.specs.Records.{Entry}
+use Rattle.asm_base.specs.Records.{DirectoryRecord}
 use Rattle.asm_base.specs.Tables.{item_record}
 use Rattle.plan_records.specs.attribute_values.Edits.{settings_with}
 use Rattle.plan_records.specs.template_directory.Tables as templates
@@ -18,7 +18,7 @@ use Rattle.plan_records.proofs.catalog_tables.SetLaws.{templates_set}
 use Rattle.catalog.proofs.TemplatePlans.{with_templates}
 use Rattle.catalog.proofs.PutItems.{plan_is}
 
-pub settings_planned : (c : Catalogued) (put : List Entry) (gone : List Key) → IsCatalog c → (s : Settings) → is_item (settings_item s) ≡ true → put ≡ item_record (settings_item s) ∷ [] → gone ≡ []
+pub settings_planned : (c : Catalogued) (put : List DirectoryRecord) (gone : List Key) → IsCatalog c → (s : Settings) → is_item (settings_item s) ≡ true → put ≡ item_record (settings_item s) ∷ [] → gone ≡ []
     → IsPlan c put gone (record c.tables { templates = record { templates = c.tables.templates.templates; settings = s } })
 settings_planned c put gone is s ok p g =
     let old = c.tables.templates in
@@ -44,6 +44,6 @@ settings_planned c put gone is s ok p g =
     (λ es has. (c.units, has))
     (omega arith) refl (old_room c (item_record (settings_item s)) is (settings_there c.tables)))
 
-pub edit_planned : (c : Catalogued) (put : List Entry) (gone : List Key) (name v : Bytes) (s : Settings) → Some s ≡ settings_with c.tables.templates.settings name v
+pub edit_planned : (c : Catalogued) (put : List DirectoryRecord) (gone : List Key) (name v : Bytes) (s : Settings) → Some s ≡ settings_with c.tables.templates.settings name v
     → IsPlan c put gone (record c.tables { templates = record { templates = c.tables.templates.templates; settings = s } }) → IsAttributePlan c name v put gone
 edit_planned c put gone name v s edited plan = record { settings = s; edited = sym edited; plan = plan }

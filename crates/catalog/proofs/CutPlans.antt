@@ -11,11 +11,11 @@ use Rattle.asm_formats.specs.Items.{FileHead, Homes, Key, is_item, marks_item}
 use Rattle.asm_formats.specs.Sets.{has_bit}
 use Rattle.asm_formats.specs.Status.{Entry as StatusEntry}
 use Rattle.asm_placement.specs.Placed.{Placed, placed_extents}
-use Rattle.asm_base.specs.Records.{Entry}
+use Rattle.asm_base.specs.Records.{DirectoryRecord}
 use Rattle.asm_base.proofs.Exact.{some_is}
 use Rattle.plan_records.specs.allocator.UnitMaps.{UnitMap}
 use Rattle.plan_records.specs.file_directory.Files.{head_at}
-use Rattle.plan_records.specs.extent_map.Extents.{Chunked, IsTable, absent, chunk_at, chunk_or_blank, cut_to, has_home, record_of, with_chunk}
+use Rattle.plan_records.specs.extent_map.Extents.{Chunked, IsExtentTable, absent_homes, chunk_at, chunk_or_blank, cut_to, has_home, record_of_chunk, with_chunk}
 use Rattle.asm_base.specs.Chunks.{Chunk, chunk_cmp}
 use Rattle.plan_records.proofs.extent_map.CutChunks.{cuts_chunks}
 use Rattle.plan_records.proofs.extent_map.Laws.{chunk_total, same_chunk}
@@ -57,21 +57,21 @@ gone_at kept p xs x d size few inside past =
     ∙ get_or-drop kept (replicate 256 x) (p - kept) d ∙ get_or-replicate 256 (kept + (p - kept)) x d (omega (arith, at, inside))
 
 -- no copy has a mark where there is none
-no_marks : are_marks_of (0, absent) ≡ true
+no_marks : are_marks_of (0, absent_homes) ≡ true
 unfolding has_bit
 no_marks = refl
 
 marks_cut : (kept : ℕ) (m : List ℕ) (w : List Homes) → length m ≡ 256 → length w ≡ 256 → kept ≤ 256 → list_all are_marks_of (zip m w) ≡ true → list_all are_marks_of (zip (marks_to kept m) (cut_to kept w)) ≡ true
-marks_cut kept m w marks size few all = zip_all (marks_to kept m) (cut_to kept w) (λ p lt less. at p (omega (arith, less, cut_long kept w (replicate 256 absent) size (length-replicate {A = Homes} 256 absent)))) where
+marks_cut kept m w marks size few all = zip_all (marks_to kept m) (cut_to kept w) (λ p lt less. at p (omega (arith, less, cut_long kept w (replicate 256 absent_homes) size (length-replicate {A = Homes} 256 absent_homes)))) where
   at : (p : ℕ) → p < 256 → are_marks_of (get_or (marks_to kept m) p 0, get_or (cut_to kept w) p []) ≡ true
   at p lt = elim (cases_lt p kept) [
     | inl below ↦
         ap (λ (b : ℕ). are_marks_of (b, get_or (cut_to kept w) p [])) (kept_at kept p m (replicate 256 0) 0 marks lt below)
-        ∙ ap (λ (h : Homes). are_marks_of (get_or m p 0, h)) (kept_at kept p w (replicate 256 absent) [] size lt below)
+        ∙ ap (λ (h : Homes). are_marks_of (get_or m p 0, h)) (kept_at kept p w (replicate 256 absent_homes) [] size lt below)
         ∙ zip_at m w p all (omega (arith, lt, marks)) (omega (arith, lt, size))
     | inr past ↦
         ap (λ (b : ℕ). are_marks_of (b, get_or (cut_to kept w) p [])) (gone_at kept p m 0 0 marks few lt past)
-        ∙ ap (λ (h : Homes). are_marks_of (0, h)) (gone_at kept p w absent [] size few lt past) ∙ no_marks
+        ∙ ap (λ (h : Homes). are_marks_of (0, h)) (gone_at kept p w absent_homes [] size few lt past) ∙ no_marks
   ]
 
 marks_allowed : (f n kept : ℕ) (m : List ℕ) → is_item (marks_item f n m) ≡ true → is_item (marks_item f n (marks_to kept m)) ≡ true
@@ -83,10 +83,10 @@ marks_allowed f n kept m ok =
     let size = cut_long kept m (replicate 256 0) (eqb-true (length m) 256 d.0) (length-replicate {A = ℕ} 256 0) in
     rw (a.0, b.0, eq-eqb (length (marks_to kept m)) 256 size) (all_cut (λ (b : ℕ). ltb b 8) kept m (replicate 256 0) d.1 (all_same (λ (b : ℕ). ltb b 8) 256 0 refl))
 
-none_within : (o : Option FileHead) → are_within_head o (replicate 256 absent) ≡ true
+none_within : (o : Option FileHead) → are_within_head o (replicate 256 absent_homes) ≡ true
 none_within None = refl
 none_within (Some head) =
-    all_same (are_within head.copies) 256 absent
+    all_same (are_within head.copies) 256 absent_homes
     (three_true (ltb 0 head.copies || true) (ltb 1 head.copies || true) (ltb 2 head.copies || true) (or_true (ltb 0 head.copies)) (or_true (ltb 1 head.copies)) (or_true (ltb 2 head.copies)))
   where
     or_true : (b : Bool) → (b || true) ≡ true
@@ -95,7 +95,7 @@ none_within (Some head) =
 
 within_cut : (o : Option FileHead) (kept : ℕ) (w : List Homes) → are_within_head o w ≡ true → are_within_head o (cut_to kept w) ≡ true
 within_cut None kept w ok = refl
-within_cut (Some head) kept w ok = all_cut (are_within head.copies) kept w (replicate 256 absent) ok (none_within (Some head))
+within_cut (Some head) kept w ok = all_cut (are_within head.copies) kept w (replicate 256 absent_homes) ok (none_within (Some head))
 
 -- ---- the plan
 
@@ -135,7 +135,7 @@ module _ (c : Catalogued) (is : IsCatalog c) (f n kept : ℕ) (may : MayCut c.sh
     marked = ap is_some marks_here;
     owned = old.owned;
     copies = within_cut (head_at c.tables.files f) kept w old.copies;
-    apart = all_cut are_on_disks kept w (replicate 256 absent) old.apart (all_same are_on_disks 256 absent refl);
+    apart = all_cut are_on_disks kept w (replicate 256 absent_homes) old.apart (all_same are_on_disks 256 absent_homes refl);
     stale = λ y has. subst (λ (z : List ℕ). list_all are_marks_of (zip z new) ≡ true) (some_is new_marks y (sym marks_here ∙ has)) (marks_cut kept m w s.are.size s.long may.few (old.stale m s.marks));
   })
 
@@ -151,7 +151,7 @@ module _ (c : Catalogued) (is : IsCatalog c) (f n kept : ℕ) (may : MayCut c.sh
           | inl below ↦
               ap (λ (q : Chunk). has_copies head.copies (extent_in (chunk_at xs q) (i % 256))) same
               ∙ ap (λ (o : Option (List Homes)). has_copies head.copies (extent_in o (i % 256))) here
-              ∙ ap (λ (h : Homes). has_copies head.copies (cond (has_home h) (Some h) None)) (kept_at kept (i % 256) w (replicate 256 absent) [] s.long (omega arith) below)
+              ∙ ap (λ (h : Homes). has_copies head.copies (cond (has_home h) (Some h) None)) (kept_at kept (i % 256) w (replicate 256 absent_homes) [] s.long (omega arith) below)
               ∙ ap (λ (o : Option (List Homes)). has_copies head.copies (extent_in o (i % 256))) (sym s.homes)
               ∙ ap (λ (q : Chunk). has_copies head.copies (extent_in (chunk_at c.tables.extents q) (i % 256))) (sym same) ∙ all i wanted
           | inr past ↦ absurd (true≢false (sym wanted ∙ never_due head (head_at c.tables.files f) file may.undue i (ap (λ (q : Chunk). q.1) same) past))
@@ -160,14 +160,14 @@ module _ (c : Catalogued) (is : IsCatalog c) (f n kept : ℕ) (may : MayCut c.sh
   ]
 
   extents_are : with_chunk c.tables.extents (f, n) (cut_to kept (chunk_or_blank c.tables.extents (f, n))) ≡ xs
-  extents_are = ap (λ (o : Option (List Homes)). with_chunk c.tables.extents (f, n) (cut_to kept (unwrap_or o (replicate 256 absent)))) s.homes
+  extents_are = ap (λ (o : Option (List Homes)). with_chunk c.tables.extents (f, n) (cut_to kept (unwrap_or o (replicate 256 absent_homes)))) s.homes
 
   marks_are : with_marks c.tables.stale (f, n) (marks_to kept (marks_or_none c.tables.stale (f, n))) ≡ ms
   marks_are = ap (λ (o : Option (List ℕ)). with_marks c.tables.stale (f, n) (marks_to kept (unwrap_or o (replicate 256 0)))) s.marks
 
   edit : IsEdited c.shape c.tables k xs ms
   edit = record {
-    extents = subst (λ (ys : List Chunked). IsTable ys) extents_are (cuts_chunks c.tables.extents f n kept is.rules.tables.extents may.there may.last);
+    extents = subst (λ (ys : List Chunked). IsExtentTable ys) extents_are (cuts_chunks c.tables.extents f n kept is.rules.tables.extents may.there may.last);
     stale = stale_laws.put_keeps_table c.tables.stale k new_marks (marks_allowed f n kept m s.item) is.rules.tables.stale;
     homes = others;
     marks = marks_others;
@@ -182,11 +182,11 @@ module _ (c : Catalogued) (is : IsCatalog c) (f n kept : ℕ) (may : MayCut c.sh
     marks_as_long : length ms ≡ length c.tables.stale
     marks_as_long = there_as_long chunk_cmp same_chunk chunk_total k new_marks m c.tables.stale is.rules.tables.stale.0 s.marks
 
-  abbrev chunk_entry : Entry
-  chunk_entry = record_of ((f, n), cut_to kept w)
+  abbrev chunk_entry : DirectoryRecord
+  chunk_entry = record_of_chunk ((f, n), cut_to kept w)
 
-  abbrev marks_entry : Entry
-  marks_entry = stale.record_of ((f, n), marks_to kept m)
+  abbrev marks_entry : DirectoryRecord
+  marks_entry = stale.record_of_marks ((f, n), marks_to kept m)
 
   after : AreTables (changed c.tables xs ms) → IsAfter c.tables (chunk_entry ∷ marks_entry ∷ []) [] (changed c.tables xs ms)
   after are =
@@ -198,12 +198,12 @@ module _ (c : Catalogued) (is : IsCatalog c) (f n kept : ℕ) (may : MayCut c.sh
   follows b e =
       let step = c.shape.step in
       let i = n * 256 in
-      let blank : List Homes = replicate 256 absent in
+      let blank : List Homes = replicate 256 absent_homes in
       let whole : placed_extents step f i w ≡ placed_extents step f i (take kept w) ++ placed_extents step f (i + length (take kept w)) (drop kept w) =
       ap (placed_extents step f i) (sym (take-append-drop kept w)) ∙ homes_joined step f i (take kept w) (drop kept w) in
       let front = cut b c.units (placed_extents step f i (take kept w)) (placed_extents step f (i + length (take kept w)) (drop kept w)) (ap (after_homes b) (sym whole) ∙ e) in
       let nothing : placed_extents step f (i + length (take kept w)) (drop kept blank) ≡ [] =
-      blank_homes step f (i + length (take kept w)) (drop kept blank) (fits_later kept blank blank_fits.1) (all_later (λ (h : Homes). not (has_home h)) kept blank (all_same (λ (h : Homes). not (has_home h)) 256 absent refl)) in
+      blank_homes step f (i + length (take kept w)) (drop kept blank) (fits_later kept blank blank_fits.1) (all_later (λ (h : Homes). not (has_home h)) kept blank (all_same (λ (h : Homes). not (has_home h)) 256 absent_homes refl)) in
       let rest : placed_extents step f i (cut_to kept w) ≡ placed_extents step f i (take kept w) =
       homes_joined step f i (take kept w) (drop kept blank) ∙ ap (λ (ps : List Placed). placed_extents step f i (take kept w) ++ ps) nothing ∙ append-nil (placed_extents step f i (take kept w)) in
       (front.0, ap (after_homes b) rest ∙ front.1)
@@ -214,8 +214,8 @@ module _ (c : Catalogued) (is : IsCatalog c) (f n kept : ℕ) (may : MayCut c.sh
   fewer_planned : IsPlan c (chunk_entry ∷ marks_entry ∷ []) [] (changed c.tables xs ms)
   fewer_planned = edited_plan c k xs ms (chunk_entry ∷ marks_entry ∷ []) [] is edit after units (omega arith) refl (two_old_room c chunk_entry marks_entry is (chunk_there c.tables f n w s.homes) (marks_there c.tables (f, n) m s.marks))
 
-pub cut_planned : (c : Catalogued) (f n kept : ℕ) (put : List Entry) (gone : List Key) → IsCatalog c → MayCut c.shape c.tables f n kept → (kept ≡ 0 → ⊥)
-    → put ≡ record_of ((f, n), cut_to kept (chunk_or_blank c.tables.extents (f, n))) ∷ stale.record_of ((f, n), marks_to kept (marks_or_none c.tables.stale (f, n))) ∷ [] → gone ≡ []
+pub cut_planned : (c : Catalogued) (f n kept : ℕ) (put : List DirectoryRecord) (gone : List Key) → IsCatalog c → MayCut c.shape c.tables f n kept → (kept ≡ 0 → ⊥)
+    → put ≡ record_of_chunk ((f, n), cut_to kept (chunk_or_blank c.tables.extents (f, n))) ∷ stale.record_of_marks ((f, n), marks_to kept (marks_or_none c.tables.stale (f, n))) ∷ [] → gone ≡ []
     → IsPlan c put gone (with_cut c.tables f n kept)
 cut_planned c f n kept put gone is may some p g = by (stands c (f, n) is may.there) where
   kept_some : eqb kept 0 ≡ false
@@ -223,6 +223,6 @@ cut_planned c f n kept put gone is may some p g = by (stands c (f, n) is may.the
 
   by : (w : List Homes) × (m : List ℕ) × Stands c.tables (f, n) w m → IsPlan c put gone (with_cut c.tables f n kept)
   by (w, m, s) =
-      let homes : chunk_or_blank c.tables.extents (f, n) ≡ w = ap (λ (o : Option (List Homes)). unwrap_or o (replicate 256 absent)) s.homes in
+      let homes : chunk_or_blank c.tables.extents (f, n) ≡ w = ap (λ (o : Option (List Homes)). unwrap_or o (replicate 256 absent_homes)) s.homes in
       let marks : marks_or_none c.tables.stale (f, n) ≡ m = ap (λ (o : Option (List ℕ)). unwrap_or o (replicate 256 0)) s.marks in
       rw (p, g, kept_some, homes, marks) (fewer_planned c is f n kept may w m s)

@@ -7,10 +7,10 @@ use Rattle.std.proofs.lemmas.Option.{none-some}
 use Rattle.asm_group.specs.Shape.{Shape}
 use Rattle.asm_formats.specs.Items.{DiskInfo, Key, disk_item, is_item}
 use Rattle.asm_formats.specs.Values.{value}
-use Rattle.asm_base.specs.Records.{Entry}
+use Rattle.asm_base.specs.Records.{DirectoryRecord}
 use Rattle.asm_base.specs.Tables.{item_record}
 use Rattle.plan_records.proofs.extent_map.Lookups.{put_here, put_other}
-use Rattle.plan_records.specs.disk_directory.Disks.{Disk, IsTable, info_at, value_at, with_info, without_disk}
+use Rattle.plan_records.specs.disk_directory.Disks.{Disk, IsDiskTable, info_at, disk_value_at, with_info, without_disk}
 use Rattle.plan_records.specs.catalog_tables.Faults.{IsCatalog, disk_key}
 use Rattle.catalog.specs.Plans.{IsPlan, LacksBlock}
 use Rattle.plan_records.specs.catalog_tables.Rules.{KeepsRules, blocks_used}
@@ -24,11 +24,11 @@ use Rattle.catalog.proofs.PutItems.{plan_is}
 
 -- ---- what stands at each number then
 
-pub put_at : (disks : List Disk) (d : ℕ) (info : DiskInfo) (n : ℕ) → value_at (with_info disks d info) n ≡ cond (is_at (nat_cmp d) n) (Some (value (disk_item d info))) (value_at disks n)
+pub put_at : (disks : List Disk) (d : ℕ) (info : DiskInfo) (n : ℕ) → disk_value_at (with_info disks d info) n ≡ cond (is_at (nat_cmp d) n) (Some (value (disk_item d info))) (disk_value_at disks n)
 put_at disks d info n = elim (either (is_at (nat_cmp d) n)) [
   | inl hit ↦
       let here : info_at (with_info disks d info) d ≡ Some info = put_here nat_cmp nat_cmp-IsAntisymmetric d info (number_itself d) disks in
-      rw hit (subst (λ (m : ℕ). value_at (with_info disks d info) m ≡ Some (value (disk_item d info))) (number_is d n hit) (rw here refl))
+      rw hit (subst (λ (m : ℕ). disk_value_at (with_info disks d info) m ≡ Some (value (disk_item d info))) (number_is d n hit) (rw here refl))
   | inr miss ↦
       let there : info_at (with_info disks d info) n ≡ info_at disks n = put_other nat_cmp nat_cmp-IsAntisymmetric d info n (not_at d n d (number_itself d) miss) disks in
       rw (miss, there) refl
@@ -36,10 +36,10 @@ put_at disks d info n = elim (either (is_at (nat_cmp d) n)) [
 
 -- ---- plans
 
-pub with_disks : (t : Tables) (new : List Disk) → AreTables t → IsTable new → AreTables (record t { disks = new })
+pub with_disks : (t : Tables) (new : List Disk) → AreTables t → IsDiskTable new → AreTables (record t { disks = new })
 with_disks t new a is = record { files = a.files; extents = a.extents; nodes = a.nodes; templates = a.templates; stale = a.stale; operations = a.operations; disks = is }
 
-pub disk_rules : (s : Shape) (t : Tables) (new : List Disk) → KeepsRules s t → IsTable new → blocks_used (record t { disks = new }) + 2 ≤ s.dir_blocks → KeepsRules s (record t { disks = new })
+pub disk_rules : (s : Shape) (t : Tables) (new : List Disk) → KeepsRules s t → IsDiskTable new → blocks_used (record t { disks = new }) + 2 ≤ s.dir_blocks → KeepsRules s (record t { disks = new })
 disk_rules s t new r is room = record {
   tables = with_disks t new r.tables is;
   marked = r.marked;
@@ -64,7 +64,7 @@ put_room c d info is room = by (info_at c.tables.disks d) refl where
       let same = there_as_long d info x c.tables.disks is.rules.tables.disks.0 e in
       omega (arith, same, is.rules.room)
 
-module _ (c : Catalogued) (put : List Entry) (gone : List Key) (is : IsCatalog c) where
+module _ (c : Catalogued) (put : List DirectoryRecord) (gone : List Key) (is : IsCatalog c) where
   abbrev old : List Disk
   old = c.tables.disks
 

@@ -11,9 +11,9 @@ use Rattle.asm_group.specs.Shape.{Shape}
 use Rattle.asm_formats.specs.Items.{FileHead, Homes, Key, chunk_item, marks_item}
 use Rattle.asm_formats.specs.Status as status
 use Rattle.asm_formats.specs.Values.{value}
-use Rattle.asm_base.specs.Records.{Entry, is_key}
+use Rattle.asm_base.specs.Records.{DirectoryRecord, is_key}
 use Rattle.plan_records.specs.allocator.UnitMaps.{UnitMap}
-use Rattle.plan_records.specs.file_directory.Files.{head_at, is_file}
+use Rattle.plan_records.specs.file_directory.Files.{head_at, is_file_number}
 use Rattle.plan_records.specs.extent_map.Changing as extents
 use Rattle.plan_records.specs.extent_map.Extents.{Chunked, chunk_at, chunk_key, has_home}
 use Rattle.asm_base.specs.Chunks.{Chunk, chunk_cmp}
@@ -44,15 +44,15 @@ changed t xs ms = record t { extents = xs; stale = ms }
 -- the chunk with these extents keeps the rules, where the marks are these
 pub record IsRightChunk (t : Tables) (ms : List Marked) (k : Chunk) (w : List Homes) : Type 0 where
   pub marked : is_some (marks_at ms k) ≡ true
-  pub owned : (is_file t.files k.0 || is_pending k.0 t.operations.pending) ≡ true
+  pub owned : (is_file_number t.files k.0 || is_pending k.0 t.operations.pending) ≡ true
   pub copies : are_within_head (head_at t.files k.0) w ≡ true
   pub apart : list_all are_on_disks w ≡ true
   pub stale : (m : List ℕ) → marks_at ms k ≡ Some m → list_all are_marks_of (zip m w) ≡ true
 
 -- the tables differ in the extents and the marks of one chunk, and that is right
 pub record IsEdited (s : Shape) (t : Tables) (k : Chunk) (xs : List Chunked) (ms : List Marked) : Type 0 where
-  pub extents : extent_map.IsTable xs
-  pub stale : stale_map.IsTable ms
+  pub extents : extent_map.IsExtentTable xs
+  pub stale : stale_map.IsMarkTable ms
   pub homes : (q : Chunk) → is_at (chunk_cmp q) k ≡ false → chunk_at xs q ≡ chunk_at t.extents q
   pub marks : (q : Chunk) → is_at (chunk_cmp q) k ≡ false → marks_at ms q ≡ marks_at t.stale q
   pub right : (w : List Homes) → chunk_at xs k ≡ Some w → IsRightChunk t ms k w
@@ -131,19 +131,19 @@ by_key {X} old new k v here others q = elim (either (is_at (chunk_cmp k) q)) [
 pub homes_set : (t : Tables) (f c : ℕ) (xs : List Chunked) (v : Option (List Homes)) → chunk_at xs (f, c) ≡ v → ((q : Chunk) → is_at (chunk_cmp q) (f, c) ≡ false → chunk_at xs q ≡ chunk_at t.extents q)
     → Sets t (record t { extents = xs }) (chunk_key f c) (option_map value (option_map (chunk_item f c) v))
 homes_set t f c xs v here others =
-    extents_set t xs f c (option_map value (option_map (chunk_item f c) v)) (by_key (extents.value_at t.extents) (extents.value_at xs) (f, c) (option_map value (option_map (chunk_item f c) v))
+    extents_set t xs f c (option_map value (option_map (chunk_item f c) v)) (by_key (extents.chunk_value_at t.extents) (extents.chunk_value_at xs) (f, c) (option_map value (option_map (chunk_item f c) v))
     (ap (λ (o : Option (List Homes)). option_map value (option_map (chunk_item f c) o)) here)
     (λ q miss. ap (λ (o : Option (List Homes)). option_map value (option_map (chunk_item q.0 q.1) o)) (others q miss)))
 
 pub marks_set : (t : Tables) (f c : ℕ) (ms : List Marked) (v : Option (List ℕ)) → marks_at ms (f, c) ≡ v → ((q : Chunk) → is_at (chunk_cmp q) (f, c) ≡ false → marks_at ms q ≡ marks_at t.stale q)
     → Sets t (record t { stale = ms }) (key_of_marks (f, c)) (option_map value (option_map (marks_item f c) v))
 marks_set t f c ms v here others =
-    stale_set t ms (key_of_marks (f, c)) (option_map value (option_map (marks_item f c) v)) refl (by_key (stale.value_at t.stale) (stale.value_at ms) (f, c) (option_map value (option_map (marks_item f c) v))
+    stale_set t ms (key_of_marks (f, c)) (option_map value (option_map (marks_item f c) v)) refl (by_key (stale.marks_value_at t.stale) (stale.marks_value_at ms) (f, c) (option_map value (option_map (marks_item f c) v))
     (ap (λ (o : Option (List ℕ)). option_map value (option_map (marks_item f c) o)) here)
     (λ q miss. ap (λ (o : Option (List ℕ)). option_map value (option_map (marks_item q.0 q.1) o)) (others q miss)))
 
 -- two records that are put, and two that go
-pub after_two : (t mid u : Tables) (e g : Entry) → AreTables u → Sets t mid e.0 (Some e.1) → Sets mid u g.0 (Some g.1) → IsAfter t (e ∷ g ∷ []) [] u
+pub after_two : (t mid u : Tables) (e g : DirectoryRecord) → AreTables u → Sets t mid e.0 (Some e.1) → Sets mid u g.0 (Some g.1) → IsAfter t (e ∷ g ∷ []) [] u
 after_two t mid u e g are first second = record { tables = are; records = λ k. second k ∙ ap (λ (r : Option (List ℕ)). cond (is_key g.0 k) (Some g.1) r) (first k) }
 
 both_gone : (a b : Bool) (r : Option (List ℕ)) → cond b None (cond a None r) ≡ cond (a || (b || false)) None r
@@ -157,7 +157,7 @@ after_two_gone t mid u j l are first second = record { tables = are; records = �
 
 -- ---- plans
 
-pub edited_plan : (c : Catalogued) (k : Chunk) (xs : List Chunked) (ms : List Marked) (put : List Entry) (gone : List Key) → IsCatalog c → IsEdited c.shape c.tables k xs ms
+pub edited_plan : (c : Catalogued) (k : Chunk) (xs : List Chunked) (ms : List Marked) (put : List DirectoryRecord) (gone : List Key) → IsCatalog c → IsEdited c.shape c.tables k xs ms
     → (AreTables (changed c.tables xs ms) → IsAfter c.tables put gone (changed c.tables xs ms))
     → ((entries : List status.Entry) → HasUnits c.shape entries c.tables c.units → (us : List UnitMap) × HasUnits c.shape entries (changed c.tables xs ms) us)
     → length put + length gone ≤ 64 → is_once put gone ≡ true → HasRoom c put → IsPlan c put gone (changed c.tables xs ms)

@@ -17,7 +17,7 @@ use Rattle.asm_placement.specs.Layout.{units_of}
 use Rattle.asm_placement.specs.Placed.{Placed, placed_copies, placed_extents}
 use Rattle.plan_records.specs.allocator.UnitMaps.{UnitMap, unused, used_of, with_run}
 use Rattle.asm_base.proofs.Exact.{bind_some, some_is}
-use Rattle.plan_records.specs.file_directory.Files.{File, IsTable, head_at, item_of}
+use Rattle.plan_records.specs.file_directory.Files.{NumberedFile, IsFileTable, head_at, item_of_file_head}
 use Rattle.plan_records.specs.extent_map.Extents.{Chunked, has_home, has_no_gap, is_behind, is_blank, is_full, opened, stand_first, stands_at}
 use Rattle.asm_base.specs.Chunks.{Chunk}
 use Rattle.plan_records.specs.extent_map.Extents as extents
@@ -37,9 +37,9 @@ redundancy f h ok =
     let q = and_parts (leb 1 h.copies && leb h.copies 3) _ p.1 in
     leb-true h.copies 3 (and_parts (leb 1 h.copies) (leb h.copies 3) q.0).1
 
-pub few_copies : (fs : List File) (f : ℕ) {v h : FileHead} → v ≡ h → IsTable fs → Some h ≡ head_at fs f → v.copies ≤ 3
+pub few_copies : (fs : List NumberedFile) (f : ℕ) {v h : FileHead} → v ≡ h → IsFileTable fs → Some h ≡ head_at fs f → v.copies ≤ 3
 few_copies fs f {v} {h} same table e =
-    subst (λ (g : FileHead). g.copies ≤ 3) (sym same) (redundancy f h (each_of (λ (x : File). is_item (item_of x) ≡ true) fs (f, h) table.1 (found_is nat_cmp nat_cmp_total numbers_exact f fs h (sym e))))
+    subst (λ (g : FileHead). g.copies ≤ 3) (sym same) (redundancy f h (each_of (λ (x : NumberedFile). is_item (item_of_file_head x) ≡ true) fs (f, h) table.1 (found_is nat_cmp nat_cmp_total numbers_exact f fs h (sym e))))
 
 -- ---- units of all maps
 
@@ -174,7 +174,7 @@ chunk_size f c homes ok =
     let q = and_parts (ltb (c + 1) (2 ^ 32)) _ p.1 in
     eqb-true (length homes) 256 (and_parts (eqb (length homes) 256) (list_all is_homes homes) q.1).0
 
-low_chunks : (step : ℕ) (xs : List Chunked) (past : Option Chunk) (ms next : List UnitMap) → AllByRecursion (λ (x : Chunked). is_item (extents.item_of x) ≡ true) xs → has_no_gap past xs ≡ true → AreWhole ms → Paid past (used_in_all ms)
+low_chunks : (step : ℕ) (xs : List Chunked) (past : Option Chunk) (ms next : List UnitMap) → AllByRecursion (λ (x : Chunked). is_item (extents.item_of_chunk x) ≡ true) xs → has_no_gap past xs ≡ true → AreWhole ms → Paid past (used_in_all ms)
     → after_chunks step ms xs ≡ Some next → AllByRecursion (IsLow (used_in_all next)) xs × IsMore ms next (used_in_all next - used_in_all ms) × (used_in_all ms ≤ used_in_all next)
 unfolding after_chunks
 low_chunks step [] past ms next items gap whole paid e =

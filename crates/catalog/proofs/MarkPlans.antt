@@ -10,14 +10,14 @@ use Rattle.std.proofs.lemmas.Nat.{and_le_l, or_lt}
 use Rattle.std.proofs.lemmas.Nat.Bits.{bit_at-lt, bit_at_and, bit_at_or}
 use Rattle.asm_formats.specs.Items.{Homes, Key, is_item, marks_item}
 use Rattle.asm_formats.specs.Sets.{has_bit}
-use Rattle.asm_base.specs.Records.{Entry}
+use Rattle.asm_base.specs.Records.{DirectoryRecord}
 use Rattle.asm_base.proofs.Exact.{some_is}
 use Rattle.plan_records.specs.extent_map.Extents.{chunk_at}
 use Rattle.asm_base.specs.Chunks.{Chunk, chunk_cmp}
 use Rattle.plan_records.proofs.extent_map.Laws.{chunk_total, same_chunk}
 use Rattle.plan_records.proofs.extent_map.Lookups.{put_here, put_other, there_as_long}
 use Rattle.plan_records.proofs.extent_map.Numbering.{found_self, size_of}
-use Rattle.plan_records.specs.staleness_directory.Marks.{Marked, item_of, marks_at, record_of, with_marks}
+use Rattle.plan_records.specs.staleness_directory.Marks.{Marked, item_of_marks, marks_at, record_of_marks, with_marks}
 use Rattle.plan_records.proofs.staleness_directory.Laws as stale_laws
 use Rattle.catalog.specs.ExtentPlans.{MayMark, marks_changed, marks_or_none, with_marks_changed}
 use Rattle.plan_records.specs.catalog_tables.Changing.{IsAfter}
@@ -87,7 +87,7 @@ pub record Stands (t : Tables) (k : Chunk) (w : List Homes) (m : List ℕ) : Typ
   pub homes : chunk_at t.extents k ≡ Some w
   pub marks : marks_at t.stale k ≡ Some m
   pub long : length w ≡ 256
-  pub item : is_item (item_of (k, m)) ≡ true
+  pub item : is_item (item_of_marks (k, m)) ≡ true
   pub are : AreMarks m
 
 pub some_of : {A : Type 0} (o : Option A) → is_some o ≡ true → (x : A) × (o ≡ Some x)
@@ -98,7 +98,7 @@ pub stands : (c : Catalogued) (k : Chunk) → IsCatalog c → is_some (chunk_at 
 stands c k is there =
     let w = some_of (chunk_at c.tables.extents k) there in
     let m = some_of (marks_at c.tables.stale k) (chunk_right c.shape c.tables k w.0 is.rules w.1).marked in
-    let item = holds_at chunk_cmp same_chunk chunk_total (λ (x : Marked). is_item (item_of x) ≡ true) c.tables.stale k m.0 is.rules.tables.stale.1 m.1 in
+    let item = holds_at chunk_cmp same_chunk chunk_total (λ (x : Marked). is_item (item_of_marks x) ≡ true) c.tables.stale k m.0 is.rules.tables.stale.1 m.1 in
     (w.0, m.0, record { homes = w.1; marks = m.1; long = size_of c.tables.extents k w.0 is.rules.tables.extents.0.1 w.1; item = item; are = are_marks k.0 k.1 m.0 item })
 
 pub marks_edited : (c : Catalogued) (k : Chunk) (w : List Homes) (m : List ℕ) (p v : ℕ) → IsCatalog c → Stands c.tables k w m → v < 8 → are_marks_of (v, get_or w p []) ≡ true
@@ -184,8 +184,8 @@ module _ (c : Catalogued) (is : IsCatalog c) (f i set clear : ℕ) (may : MayMar
     abbrev ms : List Marked
     ms = with_marks c.tables.stale k (slice_set m (i % 256) new)
 
-    abbrev entry : Entry
-    entry = record_of (k, slice_set m (i % 256) new)
+    abbrev entry : DirectoryRecord
+    entry = record_of_marks (k, slice_set m (i % 256) new)
 
     old : marks_of c.tables f i ≡ get_or m (i % 256) 0
     old = ap (λ (o : Option (List ℕ)). get_or (unwrap_or o []) (i % 256) 0) s.marks
@@ -208,13 +208,13 @@ module _ (c : Catalogued) (is : IsCatalog c) (f i set clear : ℕ) (may : MayMar
     after are = after_put c.tables (changed c.tables c.tables.extents ms) entry are
         (marks_set c.tables f (i / 256) ms (Some (slice_set m (i % 256) new)) (put_here chunk_cmp same_chunk k (slice_set m (i % 256) new) (found_self f (i / 256)) c.tables.stale) edit.marks)
 
-    plan_at : (put : List Entry) (gone : List Key) → put ≡ entry ∷ [] → gone ≡ [] → IsPlan c put gone (changed c.tables c.tables.extents ms)
+    plan_at : (put : List DirectoryRecord) (gone : List Key) → put ≡ entry ∷ [] → gone ≡ [] → IsPlan c put gone (changed c.tables c.tables.extents ms)
     plan_at put gone p g = rw (p, g) (edited_plan c k c.tables.extents ms (entry ∷ []) [] is edit after (λ es has. (c.units, has)) (omega arith) refl (old_room c entry is (marks_there c.tables k m s.marks)))
 
-  pub marks_planned : (put : List Entry) (gone : List Key) → put ≡ record_of ((f, i / 256), slice_set (marks_or_none c.tables.stale (f, i / 256)) (i % 256) new) ∷ [] → gone ≡ []
+  pub marks_planned : (put : List DirectoryRecord) (gone : List Key) → put ≡ record_of_marks ((f, i / 256), slice_set (marks_or_none c.tables.stale (f, i / 256)) (i % 256) new) ∷ [] → gone ≡ []
       → IsPlan c put gone (with_marks_changed c.tables f i set clear)
   marks_planned put gone p g =
       let s = stands c k is may.chunk in
       let its : marks_or_none c.tables.stale k ≡ s.1 = ap (λ (o : Option (List ℕ)). unwrap_or o (replicate 256 0)) s.2.marks in
-      subst (λ (m : List ℕ). put ≡ record_of (k, slice_set m (i % 256) new) ∷ [] → IsPlan c put gone (changed c.tables c.tables.extents (with_marks c.tables.stale k (slice_set m (i % 256) new)))) (sym its)
+      subst (λ (m : List ℕ). put ≡ record_of_marks (k, slice_set m (i % 256) new) ∷ [] → IsPlan c put gone (changed c.tables c.tables.extents (with_marks c.tables.stale k (slice_set m (i % 256) new)))) (sym its)
       (λ q. plan_at s.0 s.1 s.2 put gone q g) p

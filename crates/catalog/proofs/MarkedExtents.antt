@@ -15,7 +15,7 @@ use Rattle.asm_formats.specs.Sets.{has_bit}
 use Rattle.asm_base.specs.Records.{Ascend}
 use Rattle.asm_base.proofs.Exact.{some_is}
 use Rattle.plan_records.specs.extent_map.Extents.{chunk_at}
-use Rattle.asm_base.specs.Chunks.{Chunk, chunk_cmp, is_before}
+use Rattle.asm_base.specs.Chunks.{Chunk, chunk_cmp, is_chunk_before}
 use Rattle.plan_records.proofs.extent_map.Ends.{Lower, lower}
 use Rattle.plan_records.proofs.extent_map.Laws.{chunk_total, same_chunk}
 use Rattle.plan_records.proofs.extent_map.Numbering.{less_is, size_of}
@@ -141,19 +141,19 @@ none_passes {A} test (y ∷ xs) e x m = by (test y) refl e (none_passes test xs)
 record IsFound (test : Marked → Bool) (xs : List Marked) (x : Marked) : Type 0 where
   among : IsAmong xs x
   passes : test x ≡ true
-  before : (y : Marked) → IsAmong xs y → is_before y.0 x.0 ≡ true → test y ≡ false
+  before : (y : Marked) → IsAmong xs y → is_chunk_before y.0 x.0 ≡ true → test y ≡ false
 
-not_both : (p q : Chunk) → chunk_cmp p q ≡ Less → is_before q p ≡ true → ⊥
+not_both : (p q : Chunk) → chunk_cmp p q ≡ Less → is_chunk_before q p ≡ true → ⊥
 not_both p q less more = true≢false (sym more ∙ ap is_lt (chunk_total.antisymm q p ∙ ap ordering_reverse less))
 
-not_itself : (p : Chunk) → is_before p p ≡ true → ⊥
+not_itself : (p : Chunk) → is_chunk_before p p ≡ true → ⊥
 not_itself p lt = not_both p p (less_is (chunk_cmp p p) lt) lt
 
-tail_of : (y : Marked) (xs : List Marked) → Ascend is_before (y ∷ xs) → Ascend is_before xs
+tail_of : (y : Marked) (xs : List Marked) → Ascend is_chunk_before (y ∷ xs) → Ascend is_chunk_before xs
 tail_of y [] up = tt
 tail_of y (z ∷ xs) up = up.1
 
-found_first : (test : Marked → Bool) (xs : List Marked) (x : Marked) → Ascend is_before xs → find test xs ≡ Some x → IsFound test xs x
+found_first : (test : Marked → Bool) (xs : List Marked) (x : Marked) → Ascend is_chunk_before xs → find test xs ≡ Some x → IsFound test xs x
 found_first test [] x up e = absurd (none-some x e)
 found_first test (y ∷ xs) x up e = by (test y) refl e (found_first test xs x (tail_of y xs up)) where
   by : (b : Bool) → test y ≡ b → cond b (Some y) (find test xs) ≡ Some x → (find test xs ≡ Some x → IsFound test xs x) → IsFound test (y ∷ xs) x
@@ -162,7 +162,7 @@ found_first test (y ∷ xs) x up e = by (test y) refl e (found_first test xs x (
       subst (λ (z : Marked). IsFound test (y ∷ xs) z) same (record {
         among = inl refl;
         passes = is;
-        before = λ z h less. elim h [ inl its ↦ absurd (not_itself y.0 (subst (λ (v : Marked). is_before v.0 y.0 ≡ true) its less)) | inr later ↦ absurd (not_both y.0 z.0 (below chunk_cmp chunk_total chunks_exact y xs z up later) less) ];
+        before = λ z h less. elim h [ inl its ↦ absurd (not_itself y.0 (subst (λ (v : Marked). is_chunk_before v.0 y.0 ≡ true) its less)) | inr later ↦ absurd (not_both y.0 z.0 (below chunk_cmp chunk_total chunks_exact y xs z up later) less) ];
       })
   by false is f more =
       let r = more f in
@@ -198,7 +198,7 @@ from_kept from q late = by (chunk_cmp from q) refl where
   by Equal is = refl
   by Greater is = absurd (apart from q late (lower q from (chunk_total.antisymm q from ∙ ap ordering_reverse is)))
 
-not_before : (p q : Chunk) → is_before q p ≡ false → IsFrom p q
+not_before : (p q : Chunk) → is_chunk_before q p ≡ false → IsFrom p q
 not_before p q e = by (chunk_cmp q p) refl e where
   of_lower : Lower p q → IsFrom p q
   of_lower (inl file) = inl file
@@ -224,7 +224,7 @@ record IsLater (t : Tables) (d : ℕ) (next later : Chunk) : Type 0 where
   marked : has_marked t d (later, marks) ≡ true
   at : IsAmong t.stale (later, marks)
   from : IsFrom next later
-  before : (y : Marked) → IsAmong t.stale y → IsFrom next y.0 → is_before y.0 later ≡ true → has_marked t d y ≡ false
+  before : (y : Marked) → IsAmong t.stale y → IsFrom next y.0 → is_chunk_before y.0 later ≡ true → has_marked t d y ≡ false
 
 module _ (t : Tables) (d : ℕ) (next : Chunk) where
   abbrev both_tests : Marked → Bool
@@ -360,7 +360,7 @@ module _ (c : Catalogued) (d f i : ℕ) (later : Chunk) (is : IsCatalog c) (none
       | inl p ↦ absurd (true≢false (sym marked ∙ none_first t d f i y none p.0 p.1 p.2))
       | inr b ↦
           let m = marked_entry t d y.0 y.1 small marked in
-          elim (either (is_before (y.0, y.1 / 256) later)) [
+          elim (either (is_chunk_before (y.0, y.1 / 256) later)) [
             | inl before ↦ absurd (true≢false (sym m.2 ∙ is_later.before ((y.0, y.1 / 256), m.0) m.1 b before))
             | inr other ↦ past y (not_before later (y.0, y.1 / 256) other) marked
           ]

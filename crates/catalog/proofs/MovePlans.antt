@@ -19,11 +19,11 @@ use Rattle.asm_formats.specs.Sets.{has_bit}
 use Rattle.asm_formats.specs.Status.{Entry as StatusEntry}
 use Rattle.asm_placement.specs.Layout.{units_of}
 use Rattle.asm_placement.specs.Moves.{without_bit}
-use Rattle.asm_base.specs.Records.{Entry}
+use Rattle.asm_base.specs.Records.{DirectoryRecord}
 use Rattle.asm_base.proofs.Exact.{some_is}
 use Rattle.plan_records.specs.allocator.UnitMaps.{UnitMap, unused}
 use Rattle.plan_records.specs.file_directory.Files.{head_at}
-use Rattle.plan_records.specs.extent_map.Extents.{Chunked, IsTable, absent, chunk_at, chunk_or_blank, has_home, record_of, with_extent}
+use Rattle.plan_records.specs.extent_map.Extents.{Chunked, IsExtentTable, absent_homes, chunk_at, chunk_or_blank, has_home, record_of_chunk, with_extent}
 use Rattle.asm_base.specs.Chunks.{Chunk, chunk_cmp}
 use Rattle.plan_records.proofs.extent_map.ChunkEnds.{replaces_extents}
 use Rattle.plan_records.proofs.extent_map.FileEnds.{item_at}
@@ -263,10 +263,10 @@ module _ (c : Catalogued) (is : IsCatalog c) (f i copy : ℕ) (h : Home) (may : 
   marks_others q miss = put_other chunk_cmp same_chunk k new_marks q miss c.tables.stale
 
   as_extent : with_extent c.tables.extents f i new_homes ≡ xs
-  as_extent = ap (λ (o : Option (List Homes)). cond (is_some o) (set_value (is_at (chunk_cmp k)) c.tables.extents (slice_set (unwrap_or o []) (i % 256) new_homes)) (insert_entry chunk_cmp c.tables.extents (f, i / 256) (slice_set (replicate 256 absent) (i % 256) new_homes))) s.homes
+  as_extent = ap (λ (o : Option (List Homes)). cond (is_some o) (set_value (is_at (chunk_cmp k)) c.tables.extents (slice_set (unwrap_or o []) (i % 256) new_homes)) (insert_entry chunk_cmp c.tables.extents (f, i / 256) (slice_set (replicate 256 absent_homes) (i % 256) new_homes))) s.homes
 
-  extents_table : IsTable xs
-  extents_table = subst IsTable as_extent (replaces_extents c.tables.extents f i new_homes is.rules.tables.extents may.there
+  extents_table : IsExtentTable xs
+  extents_table = subst IsExtentTable as_extent (replaces_extents c.tables.extents f i new_homes is.rules.tables.extents may.there
       (both (is_homes new_homes) (has_home new_homes) (moved_allowed hs copy h hs_allowed home_allowed) (moved_home hs copy h three may.three)))
 
   mark_few : mark < 8
@@ -340,11 +340,11 @@ module _ (c : Catalogued) (is : IsCatalog c) (f i copy : ℕ) (h : Home) (may : 
           moved c.shape.step f (i / 256 * 256) w p copy h b c.units z.0 place (omega (arith, three, may.three)) e z.1
     ]
 
-  abbrev chunk_entry : Entry
-  chunk_entry = record_of (k, new)
+  abbrev chunk_entry : DirectoryRecord
+  chunk_entry = record_of_chunk (k, new)
 
-  abbrev marks_entry : Entry
-  marks_entry = stale.record_of (k, new_marks)
+  abbrev marks_entry : DirectoryRecord
+  marks_entry = stale.record_of_marks (k, new_marks)
 
   two_records : AreTables (changed c.tables xs ms) → IsAfter c.tables (chunk_entry ∷ marks_entry ∷ []) [] (changed c.tables xs ms)
   two_records are =
@@ -375,22 +375,22 @@ module _ (c : Catalogued) (is : IsCatalog c) (f i copy : ℕ) (h : Home) (may : 
   old_chunk = chunk_or_blank c.tables.extents (f, i / 256)
 
   -- the record of the chunk, and that of its marks
-  abbrev pub moved_entry : Entry
-  moved_entry = record_of ((f, i / 256), slice_set old_chunk (i % 256) (slice_set (get_or old_chunk (i % 256) []) copy (Some h)))
+  abbrev pub moved_entry : DirectoryRecord
+  moved_entry = record_of_chunk ((f, i / 256), slice_set old_chunk (i % 256) (slice_set (get_or old_chunk (i % 256) []) copy (Some h)))
 
-  abbrev pub unmarked_entry : Entry
-  unmarked_entry = stale.record_of ((f, i / 256), slice_set (marks_or_none c.tables.stale (f, i / 256)) (i % 256) (without_bit (marks_of c.tables f i) copy))
+  abbrev pub unmarked_entry : DirectoryRecord
+  unmarked_entry = stale.record_of_marks ((f, i / 256), slice_set (marks_or_none c.tables.stale (f, i / 256)) (i % 256) (without_bit (marks_of c.tables f i) copy))
 
   pub it_stands : (w : List Homes) × (m : List ℕ) × Stands c.tables (f, i / 256) w m
   it_stands = let x = the_chunk (chunk_at c.tables.extents (f, i / 256)) (i % 256) may.there in stands c (f, i / 256) is (ap is_some x.1)
 
   module _ (w : List Homes) (m : List ℕ) (s : Stands c.tables (f, i / 256) w m) where
     same_chunk_entry : moved_entry ≡ chunk_entry c is f i copy h may unit w m s
-    same_chunk_entry = ap (λ (o : Option (List Homes)). record_of ((f, i / 256), slice_set (unwrap_or o (replicate 256 absent)) (i % 256) (slice_set (get_or (unwrap_or o (replicate 256 absent)) (i % 256) []) copy (Some h)))) s.homes
+    same_chunk_entry = ap (λ (o : Option (List Homes)). record_of_chunk ((f, i / 256), slice_set (unwrap_or o (replicate 256 absent_homes)) (i % 256) (slice_set (get_or (unwrap_or o (replicate 256 absent_homes)) (i % 256) []) copy (Some h)))) s.homes
 
     same_marks_entry : unmarked_entry ≡ marks_entry c is f i copy h may unit w m s
     same_marks_entry =
-        ap (λ (o : Option (List ℕ)). stale.record_of ((f, i / 256), slice_set (unwrap_or o (replicate 256 0)) (i % 256) (without_bit (get_or (unwrap_or o []) (i % 256) 0) copy))) s.marks
+        ap (λ (o : Option (List ℕ)). stale.record_of_marks ((f, i / 256), slice_set (unwrap_or o (replicate 256 0)) (i % 256) (without_bit (get_or (unwrap_or o []) (i % 256) 0) copy))) s.marks
 
     pub same_tables : changed c.tables (xs c is f i copy h may unit w m s) (ms c is f i copy h may unit w m s) ≡ with_move c.tables f i copy h
     same_tables =
@@ -398,17 +398,17 @@ module _ (c : Catalogued) (is : IsCatalog c) (f i copy : ℕ) (h : Home) (may : 
         ∙ ap (λ (y : List Marked). changed c.tables (with_extent c.tables.extents f i (homes_moved c.tables f i copy h)) y)
         (sym (ap (λ (o : Option (List ℕ)). with_marks c.tables.stale (f, i / 256) (slice_set (unwrap_or o (replicate 256 0)) (i % 256) (without_bit (get_or (unwrap_or o []) (i % 256) 0) copy))) s.marks))
 
-  pub move_planned : (put : List Entry) (gone : List Key) → put ≡ moved_entry ∷ unmarked_entry ∷ [] → gone ≡ [] → IsPlan c put gone (with_move c.tables f i copy h)
+  pub move_planned : (put : List DirectoryRecord) (gone : List Key) → put ≡ moved_entry ∷ unmarked_entry ∷ [] → gone ≡ [] → IsPlan c put gone (with_move c.tables f i copy h)
   move_planned put gone e g =
       let s = it_stands in
       rw (e, g) (subst (λ (u : Tables). IsPlan c (moved_entry ∷ unmarked_entry ∷ []) [] u) (same_tables s.0 s.1 s.2)
-      (subst (λ (x : Entry). IsPlan c (x ∷ unmarked_entry ∷ []) [] (changed c.tables (xs c is f i copy h may unit s.0 s.1 s.2) (ms c is f i copy h may unit s.0 s.1 s.2))) (sym (same_chunk_entry s.0 s.1 s.2))
-      (subst (λ (x : Entry). IsPlan c (chunk_entry c is f i copy h may unit s.0 s.1 s.2 ∷ x ∷ []) [] (changed c.tables (xs c is f i copy h may unit s.0 s.1 s.2) (ms c is f i copy h may unit s.0 s.1 s.2))) (sym (same_marks_entry s.0 s.1 s.2))
+      (subst (λ (x : DirectoryRecord). IsPlan c (x ∷ unmarked_entry ∷ []) [] (changed c.tables (xs c is f i copy h may unit s.0 s.1 s.2) (ms c is f i copy h may unit s.0 s.1 s.2))) (sym (same_chunk_entry s.0 s.1 s.2))
+      (subst (λ (x : DirectoryRecord). IsPlan c (chunk_entry c is f i copy h may unit s.0 s.1 s.2 ∷ x ∷ []) [] (changed c.tables (xs c is f i copy h may unit s.0 s.1 s.2) (ms c is f i copy h may unit s.0 s.1 s.2))) (sym (same_marks_entry s.0 s.1 s.2))
       (two_planned c is f i copy h may unit s.0 s.1 s.2))))
 
-  pub unmarked_planned : has_bit (marks_of c.tables f i) copy ≡ false → (put : List Entry) (gone : List Key) → put ≡ moved_entry ∷ [] → gone ≡ [] → IsPlan c put gone (with_move c.tables f i copy h)
+  pub unmarked_planned : has_bit (marks_of c.tables f i) copy ≡ false → (put : List DirectoryRecord) (gone : List Key) → put ≡ moved_entry ∷ [] → gone ≡ [] → IsPlan c put gone (with_move c.tables f i copy h)
   unmarked_planned none put gone e g =
       let s = it_stands in
       rw (e, g) (subst (λ (u : Tables). IsPlan c (moved_entry ∷ []) [] u) (same_tables s.0 s.1 s.2)
-      (subst (λ (x : Entry). IsPlan c (x ∷ []) [] (changed c.tables (xs c is f i copy h may unit s.0 s.1 s.2) (ms c is f i copy h may unit s.0 s.1 s.2))) (sym (same_chunk_entry s.0 s.1 s.2))
+      (subst (λ (x : DirectoryRecord). IsPlan c (x ∷ []) [] (changed c.tables (xs c is f i copy h may unit s.0 s.1 s.2) (ms c is f i copy h may unit s.0 s.1 s.2))) (sym (same_chunk_entry s.0 s.1 s.2))
       (one_planned c is f i copy h may unit s.0 s.1 s.2 (ap (λ (n : ℕ). has_bit n copy) (sym (at_marks c is f i copy h may unit s.0 s.1 s.2)) ∙ none))))

@@ -19,7 +19,7 @@ use Rattle.asm_group.specs.declared.Stripe.{Stripe}
 use Rattle.asm_formats.specs.Among.{IsAmong}
 use Rattle.asm_formats.specs.Items.{FileHead, Item, Key, Node, Pending, Settings, file_item, is_item, node_item, pending_item, rebalance_item, settings_item}
 use Rattle.asm_formats.specs.Values.{value}
-use Rattle.asm_base.specs.Records.{Entry, is_key}
+use Rattle.asm_base.specs.Records.{DirectoryRecord, is_key}
 use Rattle.asm_base.specs.Tables.{item_record}
 use Rattle.asm_base.specs.Refusals.{said}
 use Rattle.asm_base.specs.declared.refusal.Refusal.{Refusal}
@@ -27,14 +27,14 @@ use Rattle.asm_base.specs.declared.refusal.Refusal.TheVariants as cause
 use Rattle.asm_base.proofs.Exact.{some_is}
 use Rattle.plan_records.specs.asm_world.Files.{NewName, new_path, next_incarnation}
 use Rattle.plan_records.specs.page_map.Changes.{last_put, value_after}
-use Rattle.plan_records.specs.file_directory.Files.{File, head_at, record_of, with_head}
+use Rattle.plan_records.specs.file_directory.Files.{NumberedFile, head_at, record_of_file, with_head}
 use Rattle.plan_records.proofs.file_directory.Laws.{put_keeps_table}
 use Rattle.plan_records.specs.extent_map.Extents.{Chunked}
 use Rattle.plan_records.specs.alias_edits.Filing.{filed, with_nodes}
 use Rattle.plan_records.specs.alias_edits.declared.editing.TreeError.{TreeError}
 use Rattle.plan_records.specs.alias_edits.Edits.{IsRefusal, cause_said}
 use Rattle.plan_records.specs.alias_tree.Nodes as nodes
-use Rattle.plan_records.specs.alias_tree.Nodes.{Numbered, node_at, with_node}
+use Rattle.plan_records.specs.alias_tree.Nodes.{Numbered, node_at, with_numbered_node}
 use Rattle.plan_records.specs.alias_tree.Trees.{tree_of}
 use Rattle.plan_records.proofs.alias_tree.Keeping.{at_with}
 use Rattle.plan_records.proofs.alias_edits.NewNodes.{with_more}
@@ -44,10 +44,10 @@ use Rattle.plan_records.proofs.template_directory.ChangeLaws as template_laws
 use Rattle.plan_records.specs.catalog_tables.Faults.{IsCatalog, file_key, settings_key}
 use Rattle.plan_records.specs.NewNames.{HasParts, name_at}
 use Rattle.plan_records.specs.NextSettings.{settings_next}
-use Rattle.catalog.specs.NamePlans.{AreNewNodes, IsFileBeingMade, IsNamePlan, IsNameRefusal, file_of, is_within_file, made_file, named, new_head, system_path}
+use Rattle.catalog.specs.NamePlans.{AreNewNodes, IsFileBeingMade, IsNamePlan, IsNameRefusal, operation_file, is_within_file, made_file, named, new_head, system_path}
 use Rattle.catalog.specs.Plans.{ArePlannedItems, IsPlan}
-use Rattle.asm_placement.specs.Naming.{is_directory, is_named_as, is_pending, names_back}
-use Rattle.plan_records.specs.catalog_tables.Rules.{HasExtents, KeepsRules, are_within_head, blocks_used, first_wrong, has_names, is_named_back, is_owned, keeps_copies, names_file}
+use Rattle.asm_placement.specs.Naming.{is_kind_directory, is_named_as, is_pending, names_back}
+use Rattle.plan_records.specs.catalog_tables.Rules.{HasExtents, KeepsRules, are_within_head, blocks_used, first_wrong, has_names, is_named_back, is_owned, keeps_copies, names_file_in_tables}
 use Rattle.plan_records.specs.catalog_tables.Tables.{AreTables, Catalogued, Tables, records_of}
 use Rattle.plan_records.proofs.catalog_tables.NewRecords.{HasRoom, all_but_last, settings_there}
 use Rattle.catalog.proofs.NumberedEntries.{passes_each, passes_where, put_all}
@@ -72,12 +72,12 @@ fresh_apart old (x ∷ made) m there fresh = (
 
 stays_there : (made old : List Numbered) (m : ℕ) → AllByRecursion (λ (x : Numbered). is_at (nat_cmp x.0) m ≡ false) made → node_at (with_nodes old made) m ≡ node_at old m
 stays_there [] old m apart = refl
-stays_there (x ∷ made) old m apart = stays_there made (with_node old x.0 x.1) m apart.1 ∙ (at_with old x.0 x.1 m ∙ rw apart.0 refl)
+stays_there (x ∷ made) old m apart = stays_there made (with_numbered_node old x.0 x.1) m apart.1 ∙ (at_with old x.0 x.1 m ∙ rw apart.0 refl)
 
 -- what stands where directories were put is one of them or was there
 dir_or_old : (dirs old : List Numbered) → AllByRecursion (λ (x : Numbered). x.1.kind ≡ Directory) dirs → (m : ℕ) (y : Node) → node_at (with_nodes old dirs) m ≡ Some y → (y.kind ≡ Directory) ⊎ (node_at old m ≡ Some y)
 dir_or_old [] old all m y e = inr e
-dir_or_old (x ∷ dirs) old all m y e = elim (dir_or_old dirs (with_node old x.0 x.1) all.1 m y e) [
+dir_or_old (x ∷ dirs) old all m y e = elim (dir_or_old dirs (with_numbered_node old x.0 x.1) all.1 m y e) [
   | inl dir ↦ inl dir
   | inr put ↦ elim (either (is_at (nat_cmp x.0) m)) [
     | inl hit ↦ inl (subst (λ (z : Node). z.kind ≡ Directory) (some_is x.1 y (sym (at_with old x.0 x.1 m ∙ rw hit refl) ∙ put)) all.0)
@@ -88,21 +88,21 @@ dir_or_old (x ∷ dirs) old all m y e = elim (dir_or_old dirs (with_node old x.0
 nodes_few : (made old : List Numbered) → length (with_nodes old made) ≤ length old + length made
 nodes_few [] old = omega arith
 nodes_few (x ∷ made) old =
-    let more = nodes_few made (with_node old x.0 x.1) in
+    let more = nodes_few made (with_numbered_node old x.0 x.1) in
     let one = put_few x.0 x.1 old in
     omega (arith, more, one)
 
 -- ---- the records
 
-last_more : (put : List Entry) (e : Entry) (k : Key) (before : Option (List ℕ)) → last_put (put ++ e ∷ []) k before ≡ cond (is_key e.0 k) (Some e.1) (last_put put k before)
+last_more : (put : List DirectoryRecord) (e : DirectoryRecord) (k : Key) (before : Option (List ℕ)) → last_put (put ++ e ∷ []) k before ≡ cond (is_key e.0 k) (Some e.1) (last_put put k before)
 last_more [] e k before = refl
 last_more (p ∷ put) e k before = last_more put e k (cond (is_key p.0 k) (Some p.1) before)
 
-nodes_put : (made : List Numbered) (t : Tables) (k : Key) → records_of (record t { nodes = with_nodes t.nodes made }) k ≡ last_put (map nodes.record_of made) k (records_of t k)
+nodes_put : (made : List Numbered) (t : Tables) (k : Key) → records_of (record t { nodes = with_nodes t.nodes made }) k ≡ last_put (map nodes.record_of_node made) k (records_of t k)
 nodes_put [] t k = refl
 nodes_put (x ∷ made) t k =
-    nodes_put made (record t { nodes = with_node t.nodes x.0 x.1 }) k
-    ∙ ap (λ (o : Option (List ℕ)). last_put (map nodes.record_of made) k o) (node_put t x.0 x.1 k)
+    nodes_put made (record t { nodes = with_numbered_node t.nodes x.0 x.1 }) k
+    ∙ ap (λ (o : Option (List ℕ)). last_put (map nodes.record_of_node made) k o) (node_put t x.0 x.1 k)
 
 -- ---- a file that is made
 
@@ -114,7 +114,7 @@ pub record IsMade (s : Shape) (t : Tables) (f : ℕ) (head : FileHead) (made : L
   pub within : first_wrong (is_within_file f head.copies) t.extents ≡ None
   pub item : is_item (file_item f head) ≡ true
   pub alias : head.alias ≡ 0
-  pub table : nodes.IsTable (with_nodes t.nodes made)
+  pub table : nodes.IsNodeTable (with_nodes t.nodes made)
   pub fresh : AllByRecursion (λ (x : Numbered). node_at t.nodes x.0 ≡ None) made
   pub items : AllByRecursion (λ (x : Numbered). is_item (node_item x.0 x.1) ≡ true) made
   pub dirs : List Numbered
@@ -152,7 +152,7 @@ module _ (s : Shape) (t : Tables) (f : ℕ) (head : FileHead) (made : List Numbe
   none_was g hit = ap (λ (n : ℕ). head_at t.files n) (sym (number_is f g hit)) ∙ is.new
 
   -- the name is put last
-  last : u.nodes ≡ with_node (with_nodes t.nodes is.dirs) head.system is.node
+  last : u.nodes ≡ with_numbered_node (with_nodes t.nodes is.dirs) head.system is.node
   last = ap (λ (ns : List Numbered). with_nodes t.nodes ns) is.split ∙ with_more t.nodes is.dirs head.system is.node
 
   at_number : (m : ℕ) → node_at u.nodes m ≡ cond (is_at (nat_cmp head.system) m) (Some is.node) (node_at (with_nodes t.nodes is.dirs) m)
@@ -166,10 +166,10 @@ module _ (s : Shape) (t : Tables) (f : ℕ) (head : FileHead) (made : List Numbe
   -- a node that was there names what it named
   old_named : (m : ℕ) (y : Node) → node_at t.nodes m ≡ Some y → is_named_back u (m, y) ≡ true
   old_named m y at = elim (either (is_at (nat_cmp f) y.file)) [
-    | inr miss ↦ ap (λ (o : Option FileHead). is_directory y.kind || names_back y.kind m o) (head_else y.file miss) ∙ named_of s t r m y at
-    | inl hit ↦ named_dir u m y (loose y.kind (ap (λ (o : Option FileHead). is_directory y.kind || names_back y.kind m o) (sym (none_was y.file hit)) ∙ named_of s t r m y at))
+    | inr miss ↦ ap (λ (o : Option FileHead). is_kind_directory y.kind || names_back y.kind m o) (head_else y.file miss) ∙ named_of s t r m y at
+    | inl hit ↦ named_dir u m y (loose y.kind (ap (λ (o : Option FileHead). is_kind_directory y.kind || names_back y.kind m o) (sym (none_was y.file hit)) ∙ named_of s t r m y at))
   ] where
-    loose : (kind : NodeKind) → (is_directory kind || names_back kind m None) ≡ true → kind ≡ Directory
+    loose : (kind : NodeKind) → (is_kind_directory kind || names_back kind m None) ≡ true → kind ≡ Directory
     loose Directory e = refl
     loose System e = absurd (true≢false (sym e))
     loose Alias e = absurd (true≢false (sym e))
@@ -192,8 +192,8 @@ module _ (s : Shape) (t : Tables) (f : ℕ) (head : FileHead) (made : List Numbe
     there none = true≢false (sym e ∙ ap (λ (o : Option Node). is_named_as kind g o) none)
 
   own_names : has_names u (f, head) ≡ true
-  own_names = both_true (names_file u f System head.system) (names_file u f Alias head.alias) system (rw is.alias refl) where
-    system : names_file u f System head.system ≡ true
+  own_names = both_true (names_file_in_tables u f System head.system) (names_file_in_tables u f Alias head.alias) system (rw is.alias refl) where
+    system : names_file_in_tables u f System head.system ≡ true
     system = or_more (eqb head.system 0) true (is_named_as System f (node_at u.nodes head.system)) (λ i. rw at_name (rw is.kind_is (eq-eqb is.node.file f is.file_is))) (or_true (eqb head.system 0))
 
   has : (g : ℕ) (h : FileHead) → head_at u.files g ≡ Some h → has_names u (g, h) ≡ true
@@ -253,7 +253,7 @@ module _ (s : Shape) (t : Tables) (f : ℕ) (head : FileHead) (made : List Numbe
     apart = r.apart;
     stale = r.stale;
     nodes = first_right (is_named_back u) u.nodes (there_all (λ (x : Numbered). is_named_back u x ≡ true) u.nodes is.table.items.0 now_named);
-    names = first_right (has_names u) u.files (there_all (λ (x : File). has_names u x ≡ true) u.files tables.files.0 has);
+    names = first_right (has_names u) u.files (there_all (λ (x : NumberedFile). has_names u x ≡ true) u.files tables.files.0 has);
     extents = put_all (HasExtents u s) t.files f head r.extents is.extents;
     room = (let one = put_few f head t.files in let more = nodes_few made t.nodes in let room = is.room in omega arith);
   }
@@ -272,8 +272,8 @@ module _ (s : Shape) (t : Tables) (f : ℕ) (head : FileHead) (made : List Numbe
   abbrev next_value : List ℕ
   next_value = value (settings_item (settings_next t.templates.settings))
 
-  abbrev entries : List Entry
-  entries = record_of (f, head) ∷ (map nodes.record_of made ++ item_record (settings_item (settings_next t.templates.settings)) ∷ [])
+  abbrev entries : List DirectoryRecord
+  entries = record_of_file (f, head) ∷ (map nodes.record_of_node made ++ item_record (settings_item (settings_next t.templates.settings)) ∷ [])
 
   pub records_after : (k : Key) → records_of u k ≡ value_after entries (pending_key ∷ []) k (records_of t k)
   records_after k =
@@ -283,28 +283,28 @@ module _ (s : Shape) (t : Tables) (f : ℕ) (head : FileHead) (made : List Numbe
         puts : records_of with_next k ≡ last_put entries k (records_of t k)
         puts =
             templates_set with_names with_next.templates settings_key (Some next_value) refl (template_laws.settings_set t.templates (settings_next t.templates.settings)) k
-            ∙ (ap (λ (o : Option (List ℕ)). cond (is_key settings_key k) (Some next_value) o) (nodes_put made with_file k ∙ ap (λ (o : Option (List ℕ)). last_put (map nodes.record_of made) k o) (head_put t f head k))
-            ∙ sym (last_more (map nodes.record_of made) (item_record (settings_item (settings_next t.templates.settings))) k (cond (is_key (file_key f) k) (Some (value (file_item f head))) (records_of t k))))
+            ∙ (ap (λ (o : Option (List ℕ)). cond (is_key settings_key k) (Some next_value) o) (nodes_put made with_file k ∙ ap (λ (o : Option (List ℕ)). last_put (map nodes.record_of_node made) k o) (head_put t f head k))
+            ∙ sym (last_more (map nodes.record_of_node made) (item_record (settings_item (settings_next t.templates.settings))) k (cond (is_key (file_key f) k) (Some (value (file_item f head))) (records_of t k))))
 
 -- ---- the plan
 
 puts_items : (f : ℕ) (head : FileHead) (made : List Numbered) (s : Settings) → is_item (file_item f head) ≡ true → AllByRecursion (λ (x : Numbered). is_item (node_item x.0 x.1) ≡ true) made → is_item (settings_item s) ≡ true
-    → ArePlannedItems (record_of (f, head) ∷ (map nodes.record_of made ++ item_record (settings_item (settings_next s)) ∷ []))
+    → ArePlannedItems (record_of_file (f, head) ∷ (map nodes.record_of_node made ++ item_record (settings_item (settings_next s)) ∷ []))
 puts_items f head made s file_ok nodes_ok settings_ok e among = elim among [
-  | inl same ↦ (file_item f head, record { is = file_ok; key = ap (λ (y : Entry). y.0) (sym same); value = ap (λ (y : Entry). y.1) (sym same) })
-  | inr later ↦ elim (append_among (map nodes.record_of made) (item_record (settings_item (settings_next s)) ∷ []) e later) [
+  | inl same ↦ (file_item f head, record { is = file_ok; key = ap (λ (y : DirectoryRecord). y.0) (sym same); value = ap (λ (y : DirectoryRecord). y.1) (sym same) })
+  | inr later ↦ elim (append_among (map nodes.record_of_node made) (item_record (settings_item (settings_next s)) ∷ []) e later) [
     | inl node ↦
-        let x = map_among nodes.record_of made e node in
-        (node_item x.0.0 x.0.1, record { is = each_of (λ (y : Numbered). is_item (node_item y.0 y.1) ≡ true) made x.0 nodes_ok x.1; key = ap (λ (y : Entry). y.0) (sym x.2); value = ap (λ (y : Entry). y.1) (sym x.2) })
+        let x = map_among nodes.record_of_node made e node in
+        (node_item x.0.0 x.0.1, record { is = each_of (λ (y : Numbered). is_item (node_item y.0 y.1) ≡ true) made x.0 nodes_ok x.1; key = ap (λ (y : DirectoryRecord). y.0) (sym x.2); value = ap (λ (y : DirectoryRecord). y.1) (sym x.2) })
     | inr last ↦ elim last [
-      | inl same ↦ (settings_item (settings_next s), record { is = settings_fit s settings_ok; key = ap (λ (y : Entry). y.0) (sym same); value = ap (λ (y : Entry). y.1) (sym same) })
+      | inl same ↦ (settings_item (settings_next s), record { is = settings_fit s settings_ok; key = ap (λ (y : DirectoryRecord). y.0) (sym same); value = ap (λ (y : DirectoryRecord). y.1) (sym same) })
       | inr none ↦ absurd none
     ]
   ]
 ]
 
-pub made_planned : (c : Catalogued) (f : ℕ) (head : FileHead) (made : List Numbered) (put : List Entry) (gone : List Key) → IsCatalog c → IsMade c.shape c.tables f head made → length made ≤ 3
-    → put ≡ record_of (f, head) ∷ (map nodes.record_of made ++ item_record (settings_item (settings_next c.tables.templates.settings)) ∷ []) → gone ≡ pending_key ∷ []
+pub made_planned : (c : Catalogued) (f : ℕ) (head : FileHead) (made : List Numbered) (put : List DirectoryRecord) (gone : List Key) → IsCatalog c → IsMade c.shape c.tables f head made → length made ≤ 3
+    → put ≡ record_of_file (f, head) ∷ (map nodes.record_of_node made ++ item_record (settings_item (settings_next c.tables.templates.settings)) ∷ []) → gone ≡ pending_key ∷ []
     → IsPlan c put gone (named c.tables f head made) × (length put ≤ 5)
 made_planned c f head made put gone is new few p g = (
   record {
@@ -317,18 +317,18 @@ made_planned c f head made put gone is new few p g = (
   },
   five,
 ) where
-  last : Entry
+  last : DirectoryRecord
   last = item_record (settings_item (settings_next c.tables.templates.settings))
 
-  free : HasRoom c (record_of (f, head) ∷ (map nodes.record_of made ++ last ∷ []))
+  free : HasRoom c (record_of_file (f, head) ∷ (map nodes.record_of_node made ++ last ∷ []))
   free =
       let room = new.room in
-      all_but_last c (record_of (f, head)) (map nodes.record_of made) last (omega (arith, length-map made nodes.record_of, room)) (settings_there c.tables)
+      all_but_last c (record_of_file (f, head)) (map nodes.record_of_node made) last (omega (arith, length-map made nodes.record_of_node, room)) (settings_there c.tables)
 
   five : length put ≤ 5
   five =
-      let all : length put ≡ 1 + (length (map nodes.record_of made) + 1) = ap (λ (es : List Entry). length es) p ∙ omega (arith, length-append (map nodes.record_of made) (item_record (settings_item (settings_next c.tables.templates.settings)) ∷ [])) in
-      omega (arith, all, length-map made nodes.record_of, few)
+      let all : length put ≡ 1 + (length (map nodes.record_of_node made) + 1) = ap (λ (es : List DirectoryRecord). length es) p ∙ omega (arith, length-append (map nodes.record_of_node made) (item_record (settings_item (settings_next c.tables.templates.settings)) ∷ [])) in
+      omega (arith, all, length-map made nodes.record_of_node, few)
 
 -- ---- the file of the pending operation
 
@@ -342,7 +342,7 @@ module _ (c : Catalogued) (name : NewName) (size copies : ℕ) (stripe : Stripe)
   t = c.tables
 
   file_is : made_file t ≡ created.file
-  file_is = ap file_of created.pending
+  file_is = ap operation_file created.pending
 
   abbrev new : FileHead
   new = new_head t name size copies stripe nodes_are.filing.number
@@ -389,7 +389,7 @@ module _ (c : Catalogued) (name : NewName) (size copies : ℕ) (stripe : Stripe)
   } where
     pending : (g : ℕ) → is_pending g t.operations.pending ≡ true → made_file t ≡ g
     pending g e = by t.operations.pending e where
-      by : (o : Option Pending) → is_pending g o ≡ true → file_of o ≡ g
+      by : (o : Option Pending) → is_pending g o ≡ true → operation_file o ≡ g
       by None q = absurd (true≢false (sym q))
       by (Some op) q = eqb-true op.file g q
 
@@ -401,11 +401,11 @@ module _ (c : Catalogued) (name : NewName) (size copies : ℕ) (stripe : Stripe)
     pub head_fits : is_item (file_item f head) ≡ true
     head_fits = subst (λ (n : ℕ). is_item (file_item n head) ≡ true) (sym file) (subst (λ (h : FileHead). is_item (file_item (made_file t) h) ≡ true) (sym head_is) head_item)
 
-    pub name_planned : (path : Path) (put : List Entry) (before gone : List Key) → name_at path ≡ Some name → put ≡ record_of (f, head) ∷ (map nodes.record_of made ++ item_record (settings_item (settings_next t.templates.settings)) ∷ []) → before ≡ []
+    pub name_planned : (path : Path) (put : List DirectoryRecord) (before gone : List Key) → name_at path ≡ Some name → put ≡ record_of_file (f, head) ∷ (map nodes.record_of_node made ++ item_record (settings_item (settings_next t.templates.settings)) ∷ []) → before ≡ []
         → gone ≡ before ++ pending_key ∷ [] → IsNamePlan c path size copies stripe put gone
     name_planned path put before gone at p none g =
-        let written : put ≡ record_of (made_file t, new) ∷ (map nodes.record_of made ++ item_record (settings_item (settings_next t.templates.settings)) ∷ []) =
-        p ∙ ap (λ (e : Entry). e ∷ (map nodes.record_of made ++ item_record (settings_item (settings_next t.templates.settings)) ∷ [])) (ap (λ (n : ℕ). record_of (n, head)) file ∙ ap (λ (h : FileHead). record_of (made_file t, h)) head_is) in
+        let written : put ≡ record_of_file (made_file t, new) ∷ (map nodes.record_of_node made ++ item_record (settings_item (settings_next t.templates.settings)) ∷ []) =
+        p ∙ ap (λ (e : DirectoryRecord). e ∷ (map nodes.record_of_node made ++ item_record (settings_item (settings_next t.templates.settings)) ∷ [])) (ap (λ (n : ℕ). record_of_file (n, head)) file ∙ ap (λ (h : FileHead). record_of_file (made_file t, h)) head_is) in
         let goes : gone ≡ pending_key ∷ [] = g ∙ ap (λ (ks : List Key). ks ++ pending_key ∷ []) none in
         let planned = made_planned c (made_file t) new made put gone is is_made nodes_are.few written goes in
         record {

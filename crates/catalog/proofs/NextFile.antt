@@ -2,7 +2,7 @@
 use Rattle.std.proofs.Common.{◌≡◌, ◌<◌, ◌≤◌, ◌+◌, ◌^◌, ℕ, zero, suc, Bool, true, false, Option, Some, None, refl, sym, ap, subst, ◌∙◌, arith, inl, inr, ◌⊎◌}
 use Rattle.std.proofs.lemmas.Bool.{eqb-true, ne_eqb, true≢false}
 use Rattle.asm_formats.specs.Items.{Pending}
-use Rattle.plan_records.specs.file_directory.Files.{IsFreeFrom, is_file}
+use Rattle.plan_records.specs.file_directory.Files.{IsFreeFrom, is_file_number}
 use Rattle.catalog.specs.Numbers.{IsNextFile, IsUntaken, is_taken}
 use Rattle.asm_placement.specs.Naming.{is_pending}
 use Rattle.plan_records.specs.catalog_tables.Tables.{Tables}
@@ -16,12 +16,12 @@ three (suc a) (suc b) = elim (three a b) [
   | inr other ↦ elim other [ inl same ↦ inr (inl (ap suc same)) | inr more ↦ inr (inr (omega (arith, more))) ]
 ]
 
-file_taken : (t : Tables) (k : ℕ) → is_file t.files k ≡ true → is_taken t k ≡ true
+file_taken : (t : Tables) (k : ℕ) → is_file_number t.files k ≡ true → is_taken t k ≡ true
 file_taken t k e = rw e refl
 
 pending_taken : (t : Tables) (k : ℕ) → is_pending k t.operations.pending ≡ true → is_taken t k ≡ true
-pending_taken t k e = by (is_file t.files k) refl where
-  by : (b : Bool) → is_file t.files k ≡ b → is_taken t k ≡ true
+pending_taken t k e = by (is_file_number t.files k) refl where
+  by : (b : Bool) → is_file_number t.files k ≡ b → is_taken t k ≡ true
   by true q = rw q refl
   by false q = rw (q, e) refl
 
@@ -55,11 +55,11 @@ module _ (t : Tables) (f : ℕ) (first : IsFreeFrom t.files 256 f) where
         free = rw (second.free, not_pending t.operations.pending f g p less) refl;
       }
 
-  pub none_behind : (n : ℕ) → n ≡ f + 1 → is_pending f t.operations.pending ≡ true → ((k : ℕ) → n ≤ k → k < 2 ^ 32 → is_file t.files k ≡ true) → (k : ℕ) → 256 ≤ k → k < 2 ^ 32 → is_taken t k ≡ true
+  pub none_behind : (n : ℕ) → n ≡ f + 1 → is_pending f t.operations.pending ≡ true → ((k : ℕ) → n ≤ k → k < 2 ^ 32 → is_file_number t.files k ≡ true) → (k : ℕ) → 256 ≤ k → k < 2 ^ 32 → is_taken t k ≡ true
   none_behind n next p all k le lt = up_to p k le (λ above. file_taken t k (all k (omega (arith, above, next)) lt))
 
   pub at_end : 4294967295 ≤ f → is_pending f t.operations.pending ≡ true → (k : ℕ) → 256 ≤ k → k < 2 ^ 32 → is_taken t k ≡ true
   at_end end p k le lt = up_to p k le (λ above. absurd (omega (arith, above, end, lt)))
 
-pub none_at_all : (t : Tables) → ((k : ℕ) → 256 ≤ k → k < 2 ^ 32 → is_file t.files k ≡ true) → (k : ℕ) → 256 ≤ k → k < 2 ^ 32 → is_taken t k ≡ true
+pub none_at_all : (t : Tables) → ((k : ℕ) → 256 ≤ k → k < 2 ^ 32 → is_file_number t.files k ≡ true) → (k : ℕ) → 256 ≤ k → k < 2 ^ 32 → is_taken t k ≡ true
 none_at_all t all k le lt = file_taken t k (all k le lt)

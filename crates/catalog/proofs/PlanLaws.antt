@@ -5,7 +5,7 @@ use Rattle.std.proofs.lemmas.Bool.{lt-ltb}
 use Rattle.asm_group.specs.Shape.{Shape}
 use Rattle.asm_formats.specs.Items.{Key, Pending, is_item, pending_item, rebalance_item}
 use Rattle.asm_formats.specs.Values.{value}
-use Rattle.asm_base.specs.Records.{Entry, is_key}
+use Rattle.asm_base.specs.Records.{DirectoryRecord, is_key}
 use Rattle.asm_base.specs.Tables.{item_record}
 use Rattle.plan_records.specs.operations_directory.Operations as operations
 use Rattle.plan_records.proofs.operations_directory.ChangeLaws as operation_laws
@@ -20,7 +20,7 @@ use Rattle.catalog.proofs.PutItems.{plan_is}
 
 -- ---- one record that is put or goes
 
-pub after_put : (t u : Tables) (e : Entry) → AreTables u → Sets t u e.0 (Some e.1) → IsAfter t (e ∷ []) [] u
+pub after_put : (t u : Tables) (e : DirectoryRecord) → AreTables u → Sets t u e.0 (Some e.1) → IsAfter t (e ∷ []) [] u
 after_put t u e are sets = record { tables = are; records = sets }
 
 pub or_false : (b : Bool) → b ≡ (b || false)
@@ -32,10 +32,10 @@ after_gone t u key are sets = record { tables = are; records = λ k. sets k ∙ 
 
 -- ---- operations
 
-with_operations : (t : Tables) (new : operations.Operations) → AreTables t → operations.IsTable new → AreTables (record t { operations = new })
+with_operations : (t : Tables) (new : operations.Operations) → AreTables t → operations.IsOperationTable new → AreTables (record t { operations = new })
 with_operations t new a is = record { files = a.files; extents = a.extents; nodes = a.nodes; templates = a.templates; stale = a.stale; operations = is; disks = a.disks }
 
-operation_rules : (s : Shape) (t : Tables) (new : operations.Operations) → KeepsRules s t → operations.IsTable new → AreOwned (record t { operations = new }) → KeepsRules s (record t { operations = new })
+operation_rules : (s : Shape) (t : Tables) (new : operations.Operations) → KeepsRules s t → operations.IsOperationTable new → AreOwned (record t { operations = new }) → KeepsRules s (record t { operations = new })
 operation_rules s t new r is owned = record {
   tables = with_operations t new r.tables is;
   marked = r.marked;
@@ -50,7 +50,7 @@ operation_rules s t new r is owned = record {
   room = r.room;
 }
 
-put_plan : (c : Catalogued) (new : operations.Operations) (e : Entry) (put : List Entry) (gone : List Key) → IsCatalog c → operations.IsTable new → AreOwned (record c.tables { operations = new })
+put_plan : (c : Catalogued) (new : operations.Operations) (e : DirectoryRecord) (put : List DirectoryRecord) (gone : List Key) → IsCatalog c → operations.IsOperationTable new → AreOwned (record c.tables { operations = new })
     → Sets c.tables (record c.tables { operations = new }) e.0 (Some e.1) → lacks_record c.tables e.0 ≡ false → put ≡ e ∷ [] → gone ≡ [] → IsPlan c put gone (record c.tables { operations = new })
 put_plan c new e put gone is table owned sets kept p g = rw (p, g) (plan_is c _ _ _
     (after_put c.tables (record c.tables { operations = new }) e (with_operations c.tables new is.rules.tables table) sets)
@@ -58,7 +58,7 @@ put_plan c new e put gone is table owned sets kept p g = rw (p, g) (plan_is c _ 
     (λ es has. (c.units, has))
     (omega arith) refl (old_room c e is kept))
 
-gone_plan : (c : Catalogued) (new : operations.Operations) (key : Key) (put : List Entry) (gone : List Key) → IsCatalog c → operations.IsTable new → AreOwned (record c.tables { operations = new })
+gone_plan : (c : Catalogued) (new : operations.Operations) (key : Key) (put : List DirectoryRecord) (gone : List Key) → IsCatalog c → operations.IsOperationTable new → AreOwned (record c.tables { operations = new })
     → Sets c.tables (record c.tables { operations = new }) key None → put ≡ [] → gone ≡ key ∷ [] → IsPlan c put gone (record c.tables { operations = new })
 gone_plan c new key put gone is table owned sets p g = rw (p, g) (plan_is c _ _ _
     (after_gone c.tables (record c.tables { operations = new }) key (with_operations c.tables new is.rules.tables table) sets)
@@ -77,7 +77,7 @@ rebalance_key = record { kind = 4; a = 0; b = 0 }
 abbrev pub pending_key : Key
 pending_key = record { kind = 4; a = 1; b = 0 }
 
-module _ (c : Catalogued) (put : List Entry) (gone : List Key) (is : IsCatalog c) where
+module _ (c : Catalogued) (put : List DirectoryRecord) (gone : List Key) (is : IsCatalog c) where
   abbrev old : operations.Operations
   old = c.tables.operations
 

@@ -6,7 +6,7 @@ use Rattle.std.proofs.lemmas.Bool.{true≢false}
 use Rattle.std.proofs.lemmas.Option.{none-some}
 use Rattle.asm_formats.specs.Items.{FileHead, Homes, Key}
 use Rattle.asm_formats.specs.Status.{Entry as StatusEntry}
-use Rattle.asm_base.specs.Records.{Entry}
+use Rattle.asm_base.specs.Records.{DirectoryRecord}
 use Rattle.plan_records.specs.allocator.UnitMaps.{UnitMap}
 use Rattle.plan_records.specs.file_directory.Files.{head_at}
 use Rattle.plan_records.specs.extent_map.Extents.{Chunked, chunk_at, chunk_key, without_chunk}
@@ -98,11 +98,11 @@ module _ (c : Catalogued) (is : IsCatalog c) (f n : ℕ) (may : MayCut c.shape c
       let w = some_of (chunk_at c.tables.extents k) may.there in
       units_gone c.shape.step (unused_maps c.shape es) c.units k c.tables.extents xs is.rules.tables.extents.0.0 edit.extents.0.0 others has w.0 w.1 gone
 
-  release_planned : (put : List Entry) (keys : List Key) → put ≡ [] → keys ≡ chunk_key f n ∷ key_of_marks (f, n) ∷ [] → IsPlan c put keys (with_cut c.tables f n 0)
+  release_planned : (put : List DirectoryRecord) (keys : List Key) → put ≡ [] → keys ≡ chunk_key f n ∷ key_of_marks (f, n) ∷ [] → IsPlan c put keys (with_cut c.tables f n 0)
   release_planned put keys p g = rw (p, g) (edited_plan c k xs ms [] (chunk_key f n ∷ key_of_marks (f, n) ∷ []) is edit after units (omega arith) refl (nothing_room c is))
 
 -- where no extent is kept
-pub whole_planned : (c : Catalogued) (f n kept : ℕ) (put : List Entry) (keys : List Key) → IsCatalog c → MayCut c.shape c.tables f n kept → kept ≡ 0 → put ≡ [] → keys ≡ chunk_key f n ∷ key_of_marks (f, n) ∷ [] → IsPlan c put keys (with_cut c.tables f n kept)
+pub whole_planned : (c : Catalogued) (f n kept : ℕ) (put : List DirectoryRecord) (keys : List Key) → IsCatalog c → MayCut c.shape c.tables f n kept → kept ≡ 0 → put ≡ [] → keys ≡ chunk_key f n ∷ key_of_marks (f, n) ∷ [] → IsPlan c put keys (with_cut c.tables f n kept)
 whole_planned c f n kept put keys is may none p g =
     let all : MayCut c.shape c.tables f n 0 = subst (λ (j : ℕ). MayCut c.shape c.tables f n j) none may in
     subst (λ (j : ℕ). IsPlan c put keys (with_cut c.tables f n j)) (sym none) (release_planned c is f n all put keys p g)

@@ -13,12 +13,12 @@ use Rattle.asm_group.specs.declared.NodeKind.TheVariants.{Directory, System, Ali
 use Rattle.asm_formats.specs.Among.{IsAmong}
 use Rattle.asm_formats.specs.Items.{FileHead, Key, Node, Pending, file_item, is_item, is_redundancy, node_item, pending_item}
 use Rattle.asm_formats.specs.Values.{value}
-use Rattle.asm_base.specs.Records.{Entry, is_key}
+use Rattle.asm_base.specs.Records.{DirectoryRecord, is_key}
 use Rattle.asm_base.specs.Tables.{IsItemTable, item_record}
-use Rattle.plan_records.specs.file_directory.Files.{File, head_at, is_file, without_file}
+use Rattle.plan_records.specs.file_directory.Files.{NumberedFile, head_at, is_file_number, without_head}
 use Rattle.plan_records.proofs.file_directory.Laws.{remove_keeps_table}
 use Rattle.plan_records.specs.extent_map.Extents.{Chunked}
-use Rattle.plan_records.specs.alias_tree.Nodes.{IsTable, Numbered, is_before, item_of, node_at, without_node}
+use Rattle.plan_records.specs.alias_tree.Nodes.{IsNodeTable, Numbered, is_before, item_of_node, node_at, without_numbered_node}
 use Rattle.plan_records.specs.alias_tree.Nodes as nodes
 use Rattle.plan_records.proofs.alias_tree.Keeping.{Pruned, at_without, pruned_keeps_table, without_items}
 use Rattle.plan_records.proofs.alias_tree.OpenLaws.{record_gone}
@@ -29,8 +29,8 @@ use Rattle.plan_records.specs.catalog_tables.Faults.{IsCatalog, file_key, node_k
 use Rattle.plan_records.specs.Operations.{removal_of}
 use Rattle.catalog.specs.FilePlans.{IsRemovalPlan, is_on_file, without_names}
 use Rattle.catalog.specs.Plans.{AreOwned, IsPlan}
-use Rattle.asm_placement.specs.Naming.{is_directory, is_named_as, kind_eq, names_back}
-use Rattle.plan_records.specs.catalog_tables.Rules.{HasExtents, KeepsRules, are_within_head, first_wrong, has_names, is_named_back, is_owned, keeps_copies, names_file}
+use Rattle.asm_placement.specs.Naming.{is_kind_directory, is_named_as, kind_eq, names_back}
+use Rattle.plan_records.specs.catalog_tables.Rules.{HasExtents, KeepsRules, are_within_head, first_wrong, has_names, is_named_back, is_owned, keeps_copies, names_file_in_tables}
 use Rattle.plan_records.specs.catalog_tables.Tables.{AreTables, Catalogued, Tables, records_of}
 use Rattle.plan_records.proofs.catalog_tables.NumberedLists.{all_there, either, gone_at, gone_few, number_is, number_itself}
 use Rattle.catalog.proofs.NumberedEntries.{found_passes, passes_where, rest_all, rest_passes}
@@ -75,10 +75,10 @@ three_go false false false x = refl
 -- ---- the file and its names
 
 module _ (s : Shape) (t : Tables) (f : ℕ) (head : FileHead) (r : KeepsRules s t) (there : head_at t.files f ≡ Some head) where
-  at_other : (g : ℕ) → is_at (nat_cmp f) g ≡ false → head_at (without_file t.files f) g ≡ head_at t.files g
+  at_other : (g : ℕ) → is_at (nat_cmp f) g ≡ false → head_at (without_head t.files f) g ≡ head_at t.files g
   at_other g miss = gone_at f g t.files r.tables.files.0 ∙ rw miss refl
 
-  at_file : (g : ℕ) → is_at (nat_cmp f) g ≡ true → head_at (without_file t.files f) g ≡ None
+  at_file : (g : ℕ) → is_at (nat_cmp f) g ≡ true → head_at (without_head t.files f) g ≡ None
   at_file g hit = gone_at f g t.files r.tables.files.0 ∙ rw hit refl
 
   head_of : (g : ℕ) → is_at (nat_cmp f) g ≡ true → head_at t.files g ≡ Some head
@@ -100,10 +100,10 @@ module _ (s : Shape) (t : Tables) (f : ℕ) (head : FileHead) (r : KeepsRules s 
   -- what goes is a name of the file
   own_name : (gone : ℕ → Bool) (n : ℕ) → Goes gone → gone n ≡ true → eqb n 0 ≡ false → (kind : NodeKind) × (is_named_as kind f (node_at t.nodes n) ≡ true) × (nodes.kind_is_directory kind ≡ false)
   own_name gone n goes hit some =
-      let both = and_parts (names_file t f System head.system) (names_file t f Alias head.alias) own_names in
+      let both = and_parts (names_file_in_tables t f System head.system) (names_file_in_tables t f Alias head.alias) own_names in
       elim (goes.others n hit) [
-        | inl same ↦ (System, rw some at (subst (λ (m : ℕ). names_file t f System m ≡ true) (sym same) both.0), refl)
-        | inr same ↦ (Alias, rw some at (subst (λ (m : ℕ). names_file t f Alias m ≡ true) (sym same) both.1), refl)
+        | inl same ↦ (System, rw some at (subst (λ (m : ℕ). names_file_in_tables t f System m ≡ true) (sym same) both.0), refl)
+        | inr same ↦ (Alias, rw some at (subst (λ (m : ℕ). names_file_in_tables t f Alias m ≡ true) (sym same) both.1), refl)
       ]
 
   two_names : (o : Option Node) (kind k : NodeKind) (g : ℕ) → is_named_as kind g o ≡ true → is_named_as k f o ≡ true → f ≡ g
@@ -137,10 +137,10 @@ module _ (s : Shape) (t : Tables) (f : ℕ) (head : FileHead) (r : KeepsRules s 
 
   -- ---- the tables without the file, where its nodes are gone
 
-  module _ (ns : List Numbered) (gone : ℕ → Bool) (goes : Goes gone) (at : (m : ℕ) → node_at ns m ≡ cond (gone m) None (node_at t.nodes m)) (items : IsItemTable is_before item_of ns) (few : length ns ≤ length t.nodes)
+  module _ (ns : List Numbered) (gone : ℕ → Bool) (goes : Goes gone) (at : (m : ℕ) → node_at ns m ≡ cond (gone m) None (node_at t.nodes m)) (items : IsItemTable is_before item_of_node ns) (few : length ns ≤ length t.nodes)
       (part : first_wrong (is_named_back t) ns ≡ None) where
     abbrev u : Tables
-    u = record t { files = without_file t.files f; nodes = ns; operations = record t.operations { pending = Some (removal_of f) } }
+    u = record t { files = without_head t.files f; nodes = ns; operations = record t.operations { pending = Some (removal_of f) } }
 
     pruned : Pruned t.nodes ns gone
     pruned = record { stay = λ m e. at m ∙ rw e refl; left = λ m e. at m ∙ rw e refl; leaves = leaves } where
@@ -177,7 +177,7 @@ module _ (s : Shape) (t : Tables) (f : ℕ) (head : FileHead) (r : KeepsRules s 
       ]
 
     -- what still names the file is a directory
-    loose : (kind : NodeKind) (n : ℕ) → (n ≡ 0 → ⊥) → gone n ≡ false → (is_directory kind || names_back kind n (Some head)) ≡ true → is_directory kind ≡ true
+    loose : (kind : NodeKind) (n : ℕ) → (n ≡ 0 → ⊥) → gone n ≡ false → (is_kind_directory kind || names_back kind n (Some head)) ≡ true → is_kind_directory kind ≡ true
     loose Directory n some stays e = refl
     loose System n some stays e = absurd (true≢false (sym goes.system ∙ (ap gone (eqb-true head.system n e) ∙ stays)))
     loose Alias n some stays e = elim goes.alias [
@@ -190,12 +190,12 @@ module _ (s : Shape) (t : Tables) (f : ℕ) (head : FileHead) (r : KeepsRules s 
       keeps : (x : Numbered) → IsAmong ns x → is_named_back t x ≡ true → is_named_back u x ≡ true
       keeps x m ok = elim (either (is_at (nat_cmp f) x.1.file)) [
         | inl hit ↦
-            let named : (is_directory x.1.kind || names_back x.1.kind x.0 (Some head)) ≡ true = ap (λ (h : Option FileHead). is_directory x.1.kind || names_back x.1.kind x.0 h) (sym (head_of x.1.file hit)) ∙ ok in
+            let named : (is_kind_directory x.1.kind || names_back x.1.kind x.0 (Some head)) ≡ true = ap (λ (h : Option FileHead). is_kind_directory x.1.kind || names_back x.1.kind x.0 h) (sym (head_of x.1.file hit)) ∙ ok in
             ap (λ (d : Bool). d || names_back x.1.kind x.0 (head_at u.files x.1.file)) (loose x.1.kind x.0 (number_some x m) (stays x m) named)
-        | inr miss ↦ ap (λ (h : Option FileHead). is_directory x.1.kind || names_back x.1.kind x.0 h) (at_other x.1.file miss) ∙ ok
+        | inr miss ↦ ap (λ (h : Option FileHead). is_kind_directory x.1.kind || names_back x.1.kind x.0 h) (at_other x.1.file miss) ∙ ok
       ]
 
-    name_kept : (g : ℕ) (kind : NodeKind) (n : ℕ) → is_at (nat_cmp f) g ≡ false → names_file t g kind n ≡ true → names_file u g kind n ≡ true
+    name_kept : (g : ℕ) (kind : NodeKind) (n : ℕ) → is_at (nat_cmp f) g ≡ false → names_file_in_tables t g kind n ≡ true → names_file_in_tables u g kind n ≡ true
     name_kept g kind n other ok = elim (either (eqb n 0)) [
       | inl zero ↦ rw zero refl
       | inr some ↦
@@ -211,18 +211,18 @@ module _ (s : Shape) (t : Tables) (f : ℕ) (head : FileHead) (r : KeepsRules s 
 
     names_kept : first_wrong (has_names u) u.files ≡ None
     names_kept = passes_where (has_names t) (has_names u) u.files keeps (rest_passes (has_names t) (is_at (nat_cmp f)) t.files r.names) where
-      keeps : (x : File) → IsAmong u.files x → has_names t x ≡ true → has_names u x ≡ true
+      keeps : (x : NumberedFile) → IsAmong u.files x → has_names t x ≡ true → has_names u x ≡ true
       keeps x m ok = elim (either (is_at (nat_cmp f) x.0)) [
         | inl hit ↦ absurd (none-some x.1 (sym (at_file x.0 hit) ∙ among_found nat_cmp nat_cmp_total numbers_exact u.files x (remove_keeps_table t.files f r.tables.files).0 m))
         | inr miss ↦
-            let both = and_parts (names_file t x.0 System x.1.system) (names_file t x.0 Alias x.1.alias) ok in
-            and_from (names_file u x.0 System x.1.system) (names_file u x.0 Alias x.1.alias) (name_kept x.0 System x.1.system miss both.0) (name_kept x.0 Alias x.1.alias miss both.1)
+            let both = and_parts (names_file_in_tables t x.0 System x.1.system) (names_file_in_tables t x.0 Alias x.1.alias) ok in
+            and_from (names_file_in_tables u x.0 System x.1.system) (names_file_in_tables u x.0 Alias x.1.alias) (name_kept x.0 System x.1.system miss both.0) (name_kept x.0 Alias x.1.alias miss both.1)
       ]
 
-    tables_kept : operations.IsTable u.operations → AreTables u
+    tables_kept : operations.IsOperationTable u.operations → AreTables u
     tables_kept is = record { files = remove_keeps_table t.files f r.tables.files; extents = r.tables.extents; nodes = pruned_keeps_table t.nodes ns gone r.tables.nodes pruned items; templates = r.tables.templates; stale = r.tables.stale; operations = is; disks = r.tables.disks }
 
-    pub rules_kept : operations.IsTable u.operations → AreOwned u → KeepsRules s u
+    pub rules_kept : operations.IsOperationTable u.operations → AreOwned u → KeepsRules s u
     rules_kept is owned = record {
       tables = tables_kept is;
       marked = r.marked;
@@ -241,7 +241,7 @@ module _ (s : Shape) (t : Tables) (f : ℕ) (head : FileHead) (r : KeepsRules s 
     owned_then on = passes_where (is_owned t) (is_owned u) t.extents keeps r.owned where
       keeps : (x : Chunked) → IsAmong t.extents x → is_owned t x ≡ true → is_owned u x ≡ true
       keeps x m ok = elim (either (is_at (nat_cmp f) x.0.0)) [
-        | inl hit ↦ ap (λ (b : Bool). is_file u.files x.0.0 || b) (eq-eqb f x.0.0 (number_is f x.0.0 hit)) ∙ right_true (is_file u.files x.0.0)
+        | inl hit ↦ ap (λ (b : Bool). is_file_number u.files x.0.0 || b) (eq-eqb f x.0.0 (number_is f x.0.0 hit)) ∙ right_true (is_file_number u.files x.0.0)
         | inr miss ↦
             let file = of_file t.files t.operations.pending x.0.0 on ok in
             ap (λ (b : Bool). b || eqb f x.0.0) (ap (λ (o : Option FileHead). is_some o) (at_other x.0.0 miss) ∙ file)
@@ -256,31 +256,31 @@ module _ (s : Shape) (t : Tables) (f : ℕ) (head : FileHead) (r : KeepsRules s 
   begun = record t { operations = record t.operations { pending = Some op } }
 
   abbrev no_file : Tables
-  no_file = record begun { files = without_file t.files f }
+  no_file = record begun { files = without_head t.files f }
 
   abbrev no_system : Tables
-  no_system = record no_file { nodes = without_node t.nodes head.system }
+  no_system = record no_file { nodes = without_numbered_node t.nodes head.system }
 
   abbrev no_name : Tables
-  no_name = record no_file { nodes = without_node (without_node t.nodes head.system) head.alias }
+  no_name = record no_file { nodes = without_numbered_node (without_numbered_node t.nodes head.system) head.alias }
 
   abbrev left : Key → Option (List ℕ)
   left k = cond (is_key (file_key f) k) None (cond (is_key pending_key k) (Some (value (pending_item op))) (records_of t k))
 
   file_left : (k : Key) → records_of no_file k ≡ left k
   file_left k =
-      file_gone begun (without_file t.files f) (file_key f) refl refl (λ g. gone_at f g t.files r.tables.files.0) k
+      file_gone begun (without_head t.files f) (file_key f) refl refl (λ g. gone_at f g t.files r.tables.files.0) k
       ∙ ap (λ (o : Option (List ℕ)). cond (is_key (file_key f) k) None o) (operations_set t (record t.operations { pending = Some op }) pending_key (Some (value (pending_item op))) refl (operation_laws.operation_set t.operations op) k)
 
   system_left : (k : Key) → records_of no_system k ≡ cond (is_key (node_key head.system) k) None (left k)
   system_left k =
-      nodes_set no_file (without_node t.nodes head.system) (node_key head.system) None refl refl (record_gone t.nodes (without_node t.nodes head.system) head.system (λ n. at_without t.nodes head.system n r.tables.nodes.items.0)) k
+      nodes_set no_file (without_numbered_node t.nodes head.system) (node_key head.system) None refl refl (record_gone t.nodes (without_numbered_node t.nodes head.system) head.system (λ n. at_without t.nodes head.system n r.tables.nodes.items.0)) k
       ∙ ap (λ (o : Option (List ℕ)). cond (is_key (node_key head.system) k) None o) (file_left k)
 
   alias_left : (k : Key) → records_of no_name k ≡ cond (is_key (node_key head.alias) k) None (cond (is_key (node_key head.system) k) None (left k))
   alias_left k =
-      nodes_set no_system (without_node (without_node t.nodes head.system) head.alias) (node_key head.alias) None refl refl (record_gone (without_node t.nodes head.system) (without_node (without_node t.nodes head.system) head.alias) head.alias
-      (λ n. at_without (without_node t.nodes head.system) head.alias n (without_items t.nodes head.system r.tables.nodes.items).0)) k
+      nodes_set no_system (without_numbered_node (without_numbered_node t.nodes head.system) head.alias) (node_key head.alias) None refl refl (record_gone (without_numbered_node t.nodes head.system) (without_numbered_node (without_numbered_node t.nodes head.system) head.alias) head.alias
+      (λ n. at_without (without_numbered_node t.nodes head.system) head.alias n (without_items t.nodes head.system r.tables.nodes.items).0)) k
       ∙ ap (λ (o : Option (List ℕ)). cond (is_key (node_key head.alias) k) None o) (system_left k)
 
   -- ---- the nodes that go
@@ -322,21 +322,21 @@ module _ (s : Shape) (t : Tables) (f : ℕ) (head : FileHead) (r : KeepsRules s 
   one_or_other true b o = refl
   one_or_other false b o = refl
 
-  at_neither : (m : ℕ) → node_at (without_node (without_node t.nodes head.system) head.alias) m ≡ cond (is_either m) None (node_at t.nodes m)
+  at_neither : (m : ℕ) → node_at (without_numbered_node (without_numbered_node t.nodes head.system) head.alias) m ≡ cond (is_either m) None (node_at t.nodes m)
   at_neither m =
-      at_without (without_node t.nodes head.system) head.alias m (without_items t.nodes head.system r.tables.nodes.items).0
+      at_without (without_numbered_node t.nodes head.system) head.alias m (without_items t.nodes head.system r.tables.nodes.items).0
       ∙ (ap (λ (o : Option Node). cond (is_at (nat_cmp head.alias) m) None o) (at_without t.nodes head.system m r.tables.nodes.items.0)
       ∙ one_or_other (is_at (nat_cmp head.alias) m) (is_at (nat_cmp head.system) m) (node_at t.nodes m))
 
 -- ---- the plan
 
 abbrev without : Tables → ℕ → List Numbered → Tables
-without t f ns = record t { files = without_file t.files f; nodes = ns; operations = record t.operations { pending = Some (removal_of f) } }
+without t f ns = record t { files = without_head t.files f; nodes = ns; operations = record t.operations { pending = Some (removal_of f) } }
 
-pub removal_planned : (c : Catalogued) (f : ℕ) (head : FileHead) (put : List Entry) (gone : List Key) → IsCatalog c → head_at c.tables.files f ≡ Some head → is_item (pending_item (removal_of f)) ≡ true
+pub removal_planned : (c : Catalogued) (f : ℕ) (head : FileHead) (put : List DirectoryRecord) (gone : List Key) → IsCatalog c → head_at c.tables.files f ≡ Some head → is_item (pending_item (removal_of f)) ≡ true
     → put ≡ item_record (pending_item (removal_of f)) ∷ [] → gone ≡ file_key f ∷ node_key head.system ∷ cond (eqb head.alias 0) [] (node_key head.alias ∷ []) → IsRemovalPlan c f put gone
 removal_planned c f head put gone is there ok p g = by (eqb head.alias 0) refl where
-  table : operations.IsTable (record c.tables.operations { pending = Some (removal_of f) })
+  table : operations.IsOperationTable (record c.tables.operations { pending = Some (removal_of f) })
   table = operation_laws.operation_allowed c.tables.operations (removal_of f) ok is.rules.tables.operations
 
   room : HasRoom c put
@@ -352,7 +352,7 @@ removal_planned c f head put gone is there ok p g = by (eqb head.alias 0) refl w
 
   by : (b : Bool) → eqb head.alias 0 ≡ b → IsRemovalPlan c f put gone
   by true q =
-      let ns = without_node c.tables.nodes head.system in
+      let ns = without_numbered_node c.tables.nodes head.system in
       let goes = system_goes c.shape c.tables f head is.rules there (eqb-true head.alias 0 q) in
       let at : (m : ℕ) → node_at ns m ≡ cond (is_at (nat_cmp head.system) m) None (node_at c.tables.nodes m) = λ m. at_without c.tables.nodes head.system m is.rules.tables.nodes.items.0 in
       let items = without_items c.tables.nodes head.system is.rules.tables.nodes.items in
@@ -367,14 +367,14 @@ removal_planned c f head put gone is there ok p g = by (eqb head.alias 0) refl w
       (rw (p, keys) (omega arith)) (rw (p, keys) refl) room)
       (owned_then c.shape c.tables f head is.rules there ns (λ m. is_at (nat_cmp head.system) m) goes at items few part)
   by false q =
-      let ns = without_node (without_node c.tables.nodes head.system) head.alias in
+      let ns = without_numbered_node (without_numbered_node c.tables.nodes head.system) head.alias in
       let goes = both_go c.shape c.tables f head is.rules there q in
       let at = at_neither c.shape c.tables f head is.rules there in
-      let items = without_items (without_node c.tables.nodes head.system) head.alias (without_items c.tables.nodes head.system is.rules.tables.nodes.items) in
+      let items = without_items (without_numbered_node c.tables.nodes head.system) head.alias (without_items c.tables.nodes head.system is.rules.tables.nodes.items) in
       let one = gone_few (is_at (nat_cmp head.system)) c.tables.nodes in
-      let two = gone_few (is_at (nat_cmp head.alias)) (without_node c.tables.nodes head.system) in
+      let two = gone_few (is_at (nat_cmp head.alias)) (without_numbered_node c.tables.nodes head.system) in
       let few : length ns ≤ length c.tables.nodes = omega (arith, one, two) in
-      let part = rest_passes (is_named_back c.tables) (is_at (nat_cmp head.alias)) (without_node c.tables.nodes head.system) (rest_passes (is_named_back c.tables) (is_at (nat_cmp head.system)) c.tables.nodes is.rules.nodes) in
+      let part = rest_passes (is_named_back c.tables) (is_at (nat_cmp head.alias)) (without_numbered_node c.tables.nodes head.system) (rest_passes (is_named_back c.tables) (is_at (nat_cmp head.system)) c.tables.nodes is.rules.nodes) in
       let keys : gone ≡ file_key f ∷ node_key head.system ∷ node_key head.alias ∷ [] = g ∙ rw q refl in
       make ns (rw q refl)
       (λ owned. plan_is c _ _ _

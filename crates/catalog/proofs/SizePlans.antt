@@ -13,11 +13,11 @@ use Rattle.asm_group.specs.declared.PendingKind.TheVariants.{Shrink}
 use Rattle.asm_formats.specs.Among.{IsAmong}
 use Rattle.asm_formats.specs.Items.{FileHead, Key, Pending, file_item, is_item, is_redundancy, pending_item}
 use Rattle.asm_formats.specs.Values.{value}
-use Rattle.asm_base.specs.Records.{Entry, is_key}
+use Rattle.asm_base.specs.Records.{DirectoryRecord, is_key}
 use Rattle.asm_base.specs.Tables.{item_record}
 use Rattle.asm_placement.specs.Layout.{first_of_set, start}
 use Rattle.plan_records.specs.page_map.Changes.{value_after}
-use Rattle.plan_records.specs.file_directory.Files.{File, IsTable, head_at, record_of, with_head}
+use Rattle.plan_records.specs.file_directory.Files.{NumberedFile, IsFileTable, head_at, record_of_file, with_head}
 use Rattle.plan_records.proofs.file_directory.Laws.{put_keeps_table}
 use Rattle.plan_records.specs.extent_map.Extents.{Chunked}
 use Rattle.plan_records.specs.alias_tree.Nodes.{Numbered}
@@ -29,8 +29,8 @@ use Rattle.plan_records.specs.Heads.{with_size}
 use Rattle.plan_records.specs.Operations.{HasSoMany}
 use Rattle.catalog.specs.FilePlans.{IsSizePlan, MayGrow, is_on_file, sized}
 use Rattle.catalog.specs.Plans.{AreOwned, IsPlan}
-use Rattle.asm_placement.specs.Naming.{is_directory, is_pending, names_back}
-use Rattle.plan_records.specs.catalog_tables.Rules.{HasExtents, KeepsRules, are_within_head, blocks_used, first_wrong, has_names, is_due, is_named_back, is_owned, keeps_copies}
+use Rattle.asm_placement.specs.Naming.{is_kind_directory, is_pending, names_back}
+use Rattle.plan_records.specs.catalog_tables.Rules.{HasExtents, KeepsRules, are_within_head, blocks_used, first_wrong, has_names, head_has_extent, is_named_back, is_owned, keeps_copies}
 use Rattle.plan_records.specs.catalog_tables.Tables.{AreTables, Catalogued, Tables, records_of}
 use Rattle.plan_records.proofs.catalog_tables.NumberedLists.{all_there, either, number_is, put_at, there_as_long}
 use Rattle.catalog.proofs.NumberedEntries.{found_passes, passes_where, put_all, put_passes}
@@ -54,7 +54,7 @@ sized_item f head size less ok =
     let fits : ltb size (2 ^ 64) ≡ true = lt-ltb size (2 ^ 64) less in
     rw (a.0, b.0, d.0, fits) e.1
 
-item_of_head : (files : List File) (f : ℕ) (head : FileHead) → IsTable files → head_at files f ≡ Some head → is_item (file_item f head) ≡ true
+item_of_head : (files : List NumberedFile) (f : ℕ) (head : FileHead) → IsFileTable files → head_at files f ≡ Some head → is_item (file_item f head) ≡ true
 item_of_head files f head t there = all_there (λ x. IsTrue (is_item (file_item x.0 x.1))) files t.1 f head there
 
 -- the head of another size is one of the formats
@@ -62,7 +62,7 @@ pub sized_allowed : (c : Catalogued) (f : ℕ) (head new : FileHead) (size : ℕ
 sized_allowed c f head new size is there less same = rw same (sized_item f head size less (item_of_head c.tables.files f head is.rules.tables.files there))
 
 -- a file has at each smaller size no more extents
-due_before : (s : Shape) (head : FileHead) (size i : ℕ) → size ≤ head.size → is_due s (with_size head size) i ≡ true → is_due s head i ≡ true
+due_before : (s : Shape) (head : FileHead) (size i : ℕ) → size ≤ head.size → head_has_extent s (with_size head size) i ≡ true → head_has_extent s head i ≡ true
 due_before s head size i le due = lt-ltb (start s.au s.step (first_of_set head.stripe i)) head.size (let less = ltb-true (start s.au s.step (first_of_set head.stripe i)) size due in omega (arith, less, le))
 
 -- ---- the rules
@@ -93,7 +93,7 @@ module _ (s : Shape) (t : Tables) (f : ℕ) (head : FileHead) (size : ℕ) (pend
   nodes_kept : first_wrong (is_named_back u) t.nodes ≡ None
   nodes_kept = passes_where (is_named_back t) (is_named_back u) t.nodes (λ x m ok. same_back x ∙ ok) r.nodes where
     same_back : (x : Numbered) → is_named_back u x ≡ is_named_back t x
-    same_back x = ap (λ (b : Bool). is_directory x.1.kind || b) (same_head (names_back x.1.kind x.0) (names_back_same x.1.kind x.0) x.1.file)
+    same_back x = ap (λ (b : Bool). is_kind_directory x.1.kind || b) (same_head (names_back x.1.kind x.0) (names_back_same x.1.kind x.0) x.1.file)
 
   names_kept : first_wrong (has_names u) u.files ≡ None
   names_kept = put_passes (has_names u) t.files f (with_size head size) r.names (found_passes (has_names t) t.files f head r.names there)
@@ -107,13 +107,13 @@ module _ (s : Shape) (t : Tables) (f : ℕ) (head : FileHead) (size : ℕ) (pend
   room_kept : blocks_used u + 2 ≤ s.dir_blocks
   room_kept = let same = there_as_long f (with_size head size) head t.files r.tables.files.0 there in omega (arith, same, r.room)
 
-  files_kept : size < 2 ^ 64 → IsTable u.files
+  files_kept : size < 2 ^ 64 → IsFileTable u.files
   files_kept less = put_keeps_table t.files f (with_size head size) (sized_item f head size less (item_of_head t.files f head r.tables.files there)) r.tables.files
 
-  tables_kept : size < 2 ^ 64 → operations.IsTable u.operations → AreTables u
+  tables_kept : size < 2 ^ 64 → operations.IsOperationTable u.operations → AreTables u
   tables_kept less is = record { files = files_kept less; extents = r.tables.extents; nodes = r.tables.nodes; templates = r.tables.templates; stale = r.tables.stale; operations = is; disks = r.tables.disks }
 
-  rules_kept : size < 2 ^ 64 → operations.IsTable u.operations → MayGrow s t f size → AreOwned u → KeepsRules s u
+  rules_kept : size < 2 ^ 64 → operations.IsOperationTable u.operations → MayGrow s t f size → AreOwned u → KeepsRules s u
   rules_kept less is may owned = record {
     tables = tables_kept less is;
     marked = r.marked;
@@ -146,17 +146,17 @@ module _ (s : Shape) (t : Tables) (f : ℕ) (head : FileHead) (size : ℕ) (pend
 
 -- ---- the three plans
 
-module _ (c : Catalogued) (f : ℕ) (head : FileHead) (size : ℕ) (put : List Entry) (gone : List Key) (is : IsCatalog c) (there : head_at c.tables.files f ≡ Some head) (less : size < 2 ^ 64) (may : MayGrow c.shape c.tables f size) where
+module _ (c : Catalogued) (f : ℕ) (head : FileHead) (size : ℕ) (put : List DirectoryRecord) (gone : List Key) (is : IsCatalog c) (there : head_at c.tables.files f ≡ Some head) (less : size < 2 ^ 64) (may : MayGrow c.shape c.tables f size) where
   abbrev old : operations.Operations
   old = c.tables.operations
 
-  abbrev entry : Entry
-  entry = record_of (f, with_size head size)
+  abbrev entry : DirectoryRecord
+  entry = record_of_file (f, with_size head size)
 
   abbrev to : Option Pending → Tables
   to pending = sized c.tables f head size pending
 
-  plan_of : (pending : Option Pending) → operations.IsTable (record old { pending = pending }) → ((k : Key) → records_of (to pending) k ≡ value_after put gone k (records_of c.tables k)) → length put + length gone ≤ 64 → is_once put gone ≡ true → HasRoom c put
+  plan_of : (pending : Option Pending) → operations.IsOperationTable (record old { pending = pending }) → ((k : Key) → records_of (to pending) k ≡ value_after put gone k (records_of c.tables k)) → length put + length gone ≤ 64 → is_once put gone ≡ true → HasRoom c put
       → AreOwned (to pending) → IsPlan c put gone (to pending)
   plan_of pending table after few once room owned =
       plan_is c put gone (to pending) (record { tables = tables_kept c.shape c.tables f head size pending is.rules there less table; records = after })
@@ -186,7 +186,7 @@ module _ (c : Catalogued) (f : ℕ) (head : FileHead) (size : ℕ) (put : List E
       operations_set (head_only c.shape c.tables f head size None is.rules there) (record old { pending = Some op }) pending_key (Some (value (pending_item op))) refl (operation_laws.operation_set old op) k
       ∙ ap (λ (o : Option (List ℕ)). cond (is_key pending_key k) (Some (value (pending_item op))) o) (head_set c.shape c.tables f head size None is.rules there k))
 
-  pub shrunk : (op : Pending) (s : Shape) (new : FileHead) (first second : Entry) → put ≡ first ∷ second ∷ [] → gone ≡ [] → first ≡ record_of (f, new) → second ≡ item_record (pending_item op) → new ≡ with_size head size → s ≡ c.shape
+  pub shrunk : (op : Pending) (s : Shape) (new : FileHead) (first second : DirectoryRecord) → put ≡ first ∷ second ∷ [] → gone ≡ [] → first ≡ record_of_file (f, new) → second ≡ item_record (pending_item op) → new ≡ with_size head size → s ≡ c.shape
       → size < head.size → is_item (pending_item op) ≡ true → op.kind ≡ Shrink → op.file ≡ f → HasSoMany s new op.kept → IsSizePlan c f size put gone
   shrunk op s new first second p g a b is_new is_shape fewer ok kind file kept = record {
     head = head;
@@ -200,7 +200,7 @@ module _ (c : Catalogued) (f : ℕ) (head : FileHead) (size : ℕ) (put : List E
     same = λ i. record { kind = kind i; file = file i; kept = op.kept }
 
     records : put ≡ entry ∷ item_record (pending_item op) ∷ []
-    records = p ∙ (λ i. (a ∙ ap (λ (h : FileHead). record_of (f, h)) is_new) i ∷ b i ∷ [])
+    records = p ∙ (λ i. (a ∙ ap (λ (h : FileHead). record_of_file (f, h)) is_new) i ∷ b i ∷ [])
 
     kept_then : HasSoMany c.shape (with_size head size) op.kept
     kept_then = subst (λ (z : Shape). HasSoMany z (with_size head size) op.kept) is_shape (subst (λ (h : FileHead). HasSoMany s h op.kept) is_new kept)

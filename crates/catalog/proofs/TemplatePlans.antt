@@ -7,7 +7,7 @@ use Rattle.asm_group.specs.TemplateEdits.{TemplateEdit, templates_edited}
 use Rattle.asm_formats.specs.Items.{is_item, templates_item}
 use Rattle.asm_formats.specs.Items.{Key}
 use Rattle.asm_formats.specs.Values.{value}
-use Rattle.asm_base.specs.Records.{Entry}
+use Rattle.asm_base.specs.Records.{DirectoryRecord}
 use Rattle.asm_base.specs.Tables.{item_record}
 use Rattle.plan_records.specs.template_directory.Tables as templates
 use Rattle.plan_records.proofs.template_directory.ChangeLaws as template_laws
@@ -19,10 +19,10 @@ use Rattle.catalog.proofs.PlanLaws.{after_put}
 use Rattle.plan_records.proofs.catalog_tables.SetLaws.{templates_set}
 use Rattle.catalog.proofs.PutItems.{plan_is}
 
-pub with_templates : (t : Tables) (new : templates.Table) → AreTables t → templates.IsTable new → AreTables (record t { templates = new })
+pub with_templates : (t : Tables) (new : templates.Table) → AreTables t → templates.IsTemplateTable new → AreTables (record t { templates = new })
 with_templates t new a is = record { files = a.files; extents = a.extents; nodes = a.nodes; templates = is; stale = a.stale; operations = a.operations; disks = a.disks }
 
-pub set_planned : (c : Catalogued) (put : List Entry) (gone : List Key) → IsCatalog c → (ts : List Template) → is_item (templates_item ts) ≡ true → put ≡ item_record (templates_item ts) ∷ [] → gone ≡ []
+pub set_planned : (c : Catalogued) (put : List DirectoryRecord) (gone : List Key) → IsCatalog c → (ts : List Template) → is_item (templates_item ts) ≡ true → put ≡ item_record (templates_item ts) ∷ [] → gone ≡ []
     → IsPlan c put gone (record c.tables { templates = record { templates = ts; settings = c.tables.templates.settings } })
 set_planned c put gone is ts ok p g =
     let old = c.tables.templates in
@@ -48,6 +48,6 @@ set_planned c put gone is ts ok p g =
     (λ es has. (c.units, has))
     (omega arith) refl (old_room c (item_record (templates_item ts)) is (templates_there c.tables)))
 
-pub edit_planned : (c : Catalogued) (put : List Entry) (gone : List Key) (edit : TemplateEdit) (ts : List Template) → templates_edited c.shape.kind (templates_by_name c.tables.templates.templates) edit ≡ Ok (templates_by_name ts)
+pub edit_planned : (c : Catalogued) (put : List DirectoryRecord) (gone : List Key) (edit : TemplateEdit) (ts : List Template) → templates_edited c.shape.kind (templates_by_name c.tables.templates.templates) edit ≡ Ok (templates_by_name ts)
     → IsPlan c put gone (record c.tables { templates = record { templates = ts; settings = c.tables.templates.settings } }) → IsTemplatePlan c edit put gone
 edit_planned c put gone edit ts edited plan = record { templates = ts; edited = edited; plan = plan }

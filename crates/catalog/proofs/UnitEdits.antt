@@ -12,7 +12,7 @@ use Rattle.asm_base.specs.Records.{Ascend}
 use Rattle.asm_base.proofs.Exact.{bind_some, some_is}
 use Rattle.plan_records.specs.allocator.UnitMaps.{UnitMap, with_run}
 use Rattle.plan_records.specs.extent_map.Extents.{Chunked, chunk_at}
-use Rattle.asm_base.specs.Chunks.{Chunk, chunk_cmp, is_before}
+use Rattle.asm_base.specs.Chunks.{Chunk, chunk_cmp, is_chunk_before}
 use Rattle.plan_records.proofs.extent_map.Laws.{chunk_total, same_chunk}
 use Rattle.plan_records.proofs.extent_map.Lookups.{both_ways}
 use Rattle.plan_records.proofs.extent_map.Numbering.{is_same, tail_up}
@@ -57,7 +57,7 @@ abbrev all : Chunk → Bool
 all c = true
 
 -- with the units of the others, the homes of one chunk may be taken last
-pub one_in : (step : ℕ) (ms c z : List UnitMap) (keep : Chunk → Bool) (k : Chunk) (homes : List Homes) (t : List Chunked) → Ascend is_before t → keep k ≡ true → chunk_at t k ≡ Some homes
+pub one_in : (step : ℕ) (ms c z : List UnitMap) (keep : Chunk → Bool) (k : Chunk) (homes : List Homes) (t : List Chunked) → Ascend is_chunk_before t → keep k ≡ true → chunk_at t k ≡ Some homes
     → after_chunks step ms (chunks_kept (but keep k) t) ≡ Some c → after_homes c (homes_of step (k, homes)) ≡ Some z → after_chunks step ms (chunks_kept keep t) ≡ Some z
 unfolding after_chunks
 one_in step ms c z keep k homes [] up is there e f = absurd (none-some homes there)
@@ -93,7 +93,7 @@ kept_other k c e = both_ways chunk_cmp same_chunk chunk_total c k ∙ negated (i
   negated false e = refl
 
 -- Tables that differ in a chunk, and the units of the others.
-module _ (step : ℕ) (first z : List UnitMap) (k : Chunk) (t u : List Chunked) (up : Ascend is_before t) (too : Ascend is_before u)
+module _ (step : ℕ) (first z : List UnitMap) (k : Chunk) (t u : List Chunked) (up : Ascend is_chunk_before t) (too : Ascend is_chunk_before u)
     (others : (q : Chunk) → is_at (chunk_cmp q) k ≡ false → chunk_at u q ≡ chunk_at t q) (has : after_chunks step first t ≡ Some z) where
   same_others : chunks_kept (but all k) t ≡ chunks_kept (but all k) u
   same_others = kept_same (but all k) t u up too (λ c kept. sym (others c (kept_other k c kept)))

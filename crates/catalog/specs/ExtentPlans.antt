@@ -10,13 +10,13 @@ use Rattle.asm_placement.specs.Layout.{units_of}
 use Rattle.asm_placement.specs.Moves.{with_current, with_home, without_bit}
 use Rattle.asm_placement.specs.Placed.{placed_extents}
 use Rattle.plan_records.specs.extent_map.Extents.{HasExtent, chunk_at, chunk_or_blank, count_in, cut_to, follows, has_extent, has_home, with_chunk, with_extent, with_more, without_chunk}
-use Rattle.plan_records.specs.file_directory.Files.{head_at, is_file}
+use Rattle.plan_records.specs.file_directory.Files.{head_at, is_file_number}
 use Rattle.plan_records.specs.staleness_directory.Marks.{Marked, marks_at, marks_to, with_marks, without_marks}
 use Rattle.plan_records.specs.catalog_tables.Faults.{IsCatalog}
 use Rattle.plan_records.specs.catalog_tables.Items.{AreItemsOf}
 use Rattle.plan_records.specs.catalog_tables.Placing.{after_homes, home_taken}
 use Rattle.asm_placement.specs.Naming.{is_pending}
-use Rattle.plan_records.specs.catalog_tables.Rules.{are_marks_of, are_on_disks, are_within_head, blocks_used, is_due, marks_of, homes_at}
+use Rattle.plan_records.specs.catalog_tables.Rules.{are_marks_of, are_on_disks, are_within_head, blocks_used, head_has_extent, marks_of, homes_at}
 use Rattle.plan_records.specs.catalog_tables.Tables.{Catalogued, Tables}
 
 -- ---- one extent
@@ -102,7 +102,7 @@ pub record MayAppend (c : Catalogued) (f n : ℕ) (homes : List Homes) (marks : 
   pub behind : IsTrue (follows c.tables.extents f n)
   pub there : IsTrue (list_all has_home homes)
   -- the file has a head, below whose copies the homes are, or is the pending operation's
-  pub owned : IsTrue (is_file c.tables.files f || is_pending f c.tables.operations.pending)
+  pub owned : IsTrue (is_file_number c.tables.files f || is_pending f c.tables.operations.pending)
   pub copies : IsTrue (are_within_head (head_at c.tables.files f) homes)
   -- the homes of one extent lie on different disks
   pub apart : IsTrue (list_all are_on_disks homes)
@@ -155,7 +155,7 @@ with_cut t f n kept = if kept == 0 then with_released t f n else with_fewer t f 
 -- the file, where it has a head, has by its size no extent of the chunk from this place on
 abbrev pub IsUndue : Shape → Option FileHead → ℕ → ℕ → Type 0
 IsUndue s None n kept = Unit {0}
-IsUndue s (Some head) n kept = (i : ℕ) → i / chunk_len ≡ n → kept ≤ i % chunk_len → is_due s head i ≡ false
+IsUndue s (Some head) n kept = (i : ℕ) → i / chunk_len ≡ n → kept ≤ i % chunk_len → head_has_extent s head i ≡ false
 
 -- the chunk is there, its file has no extent behind it, and by its size none of those that go
 pub record MayCut (s : Shape) (t : Tables) (f n kept : ℕ) : Type 0 where

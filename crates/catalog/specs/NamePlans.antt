@@ -8,8 +8,8 @@ use Rattle.asm_group.specs.Names.{Bytes, Path}
 use Rattle.asm_group.specs.Refusal as r
 use Rattle.asm_group.specs.TreeEdits.{Tree}
 use Rattle.asm_formats.specs.Items.{FileHead, Key, Pending, is_item, is_redundancy, node_item}
-use Rattle.asm_placement.specs.Layout.{has_extent}
-use Rattle.asm_base.specs.Records.{Entry}
+use Rattle.asm_placement.specs.Layout.{has_extent_by_size}
+use Rattle.asm_base.specs.Records.{DirectoryRecord}
 use Rattle.asm_base.specs.Refusals.{said}
 use Rattle.asm_base.specs.declared.refusal.Refusal.{Refusal}
 use Rattle.asm_base.specs.declared.refusal.Refusal.TheVariants as cause
@@ -19,7 +19,7 @@ use Rattle.plan_records.specs.file_directory.Files.{head_at, with_head}
 use Rattle.plan_records.specs.extent_map.Extents.{Chunked, extent_at}
 use Rattle.plan_records.specs.alias_edits.Filing.{IsFiling, file_causes, filed, nodes_missing, with_nodes}
 use Rattle.plan_records.specs.alias_edits.Filing as of_tree
-use Rattle.plan_records.specs.alias_tree.Nodes.{IsTable, Numbered, node_at}
+use Rattle.plan_records.specs.alias_tree.Nodes.{IsNodeTable, Numbered, node_at}
 use Rattle.plan_records.specs.alias_tree.Trees.{tree_of}
 pub use Rattle.plan_records.specs.NewNames.{name_at}
 use Rattle.plan_records.specs.NextSettings.{settings_next}
@@ -43,17 +43,17 @@ pub record IsFileBeingMade (c : Catalogued) (size copies : ℕ) (stripe : Stripe
   -- one, two or three
   pub redundancy : is_redundancy copies ≡ true
   -- each extent that the size asks for is there with all its copies, and no extent of the file has more
-  pub extents : (i : ℕ) → has_extent stripe c.shape.au c.shape.step size i ≡ true → has_copies copies (extent_at c.tables.extents file i) ≡ true
+  pub extents : (i : ℕ) → has_extent_by_size stripe c.shape.au c.shape.step size i ≡ true → has_copies copies (extent_at c.tables.extents file i) ≡ true
   pub within : rules.first_wrong (is_within_file file copies) c.tables.extents ≡ None
 
 -- the file of an operation; 0 where there is none
-abbrev pub file_of : Option Pending → ℕ
-file_of None = 0
-file_of (Some op) = op.file
+abbrev pub operation_file : Option Pending → ℕ
+operation_file None = 0
+operation_file (Some op) = op.file
 
 -- the file that the pending operation is on
 abbrev pub made_file : Tables → ℕ
-made_file t = file_of t.operations.pending
+made_file t = operation_file t.operations.pending
 
 -- ---- its name
 
@@ -74,7 +74,7 @@ filed_as t (Some name) = filed (tree_of t.nodes) (system_path t name) (made_file
 pub record AreNewNodes (nodes made : List Numbered) (path : Path) (file : ℕ) : Type 0 where
   pub filed : filed (tree_of nodes) path file ≡ Ok (tree_of (with_nodes nodes made))
   pub filing : IsFiling nodes made path file
-  pub table : IsTable (with_nodes nodes made)
+  pub table : IsNodeTable (with_nodes nodes made)
   pub fresh : All (λ (x : Numbered). node_at nodes x.0 ≡ None) made
   pub items : All (λ (x : Numbered). is_item (node_item x.0 x.1) ≡ true) made
   pub count : length made ≡ nodes_missing (tree_of nodes) path
@@ -106,7 +106,7 @@ named t f head made = record t {
 -- ---- the answers
 
 -- The change leads to the catalog's tables with the file and its name.
-pub record IsNamePlan (c : Catalogued) (path : Path) (size copies : ℕ) (stripe : Stripe) (put : List Entry) (gone : List Key) : Type 0 where
+pub record IsNamePlan (c : Catalogued) (path : Path) (size copies : ℕ) (stripe : Stripe) (put : List DirectoryRecord) (gone : List Key) : Type 0 where
   pub name : NewName
   pub name_is : name_at path ≡ Some name
   pub made : List Numbered
@@ -137,8 +137,8 @@ IsNameRefusal c path refusal =
 
 -- The tree of a group with a new file is its tree with the name, and its next incarnation is the one after.
 pub record FilesAsWorld : Type 0 where
-  pub tree : (g : Group) (name : NewName) (n : ℕ) (f : WorldFile) → (world.with_file g name n f).tree ≡ of_tree.with_file g.tree (new_path name n f.incarnation) n
-  pub next : (g : Group) (name : NewName) (n : ℕ) (f : WorldFile) → (world.with_file g name n f).next ≡ next_incarnation g.next
+  pub tree : (g : Group) (name : NewName) (n : ℕ) (f : WorldFile) → (world.group_with_file g name n f).tree ≡ of_tree.with_file g.tree (new_path name n f.incarnation) n
+  pub next : (g : Group) (name : NewName) (n : ℕ) (f : WorldFile) → (world.group_with_file g name n f).next ≡ next_incarnation g.next
 
 -- A new file is refused by its template and its size, and then as its name is.
 abbrev pub RefusesAsWorld : Type 0

@@ -1,12 +1,12 @@
 -- Numbers of files.
 use Rattle.std.specs.Prelude.{◌≡◌, ◌≤◌, ◌<◌, ℕ, Bool, true, false, ◌||◌}
-use Rattle.plan_records.specs.file_directory.Files.{is_file}
+use Rattle.plan_records.specs.file_directory.Files.{is_file_number}
 use Rattle.asm_placement.specs.Naming.{is_pending}
 use Rattle.plan_records.specs.catalog_tables.Tables.{Tables}
 
 -- the number is that of a file or of the pending operation
 abbrev pub is_taken : Tables → ℕ → Bool
-is_taken t f = is_file t.files f || is_pending f t.operations.pending
+is_taken t f = is_file_number t.files f || is_pending f t.operations.pending
 
 -- the least number from 256 that isn't taken
 pub record IsUntaken (t : Tables) (f : ℕ) : Type 0 where

@@ -7,7 +7,7 @@ use Rattle.asm_group.specs.TemplateEdits.{TemplateEdit, templates_edited}
 use Rattle.asm_formats.specs.Among.{IsAmong}
 use Rattle.asm_formats.specs.Items.{DiskInfo, Item, Key, disk_item, is_item}
 use Rattle.asm_formats.specs.Status as status
-use Rattle.asm_base.specs.Records.{Entry}
+use Rattle.asm_base.specs.Records.{DirectoryRecord}
 use Rattle.asm_base.specs.declared.refusal.Refusal.{Refusal}
 use Rattle.asm_base.specs.declared.refusal.Refusal.TheVariants as cause
 use Rattle.plan_records.specs.allocator.UnitMaps.{UnitMap}
@@ -19,11 +19,11 @@ use Rattle.plan_records.specs.catalog_tables.Rules.{KeepsRules, blocks_used, fir
 use Rattle.plan_records.specs.catalog_tables.Tables.{Catalogued, Tables}
 
 -- each of the records is one of the formats
-abbrev pub ArePlannedItems : List Entry → Type 0
-ArePlannedItems put = (e : Entry) → IsAmong put e → (i : Item) × IsItemOf e.0 e.1 i
+abbrev pub ArePlannedItems : List DirectoryRecord → Type 0
+ArePlannedItems put = (e : DirectoryRecord) → IsAmong put e → (i : Item) × IsItemOf e.0 e.1 i
 
 -- The change leads from the catalog to these tables: at each key they give what it leaves there, the rules hold of them, their homes have units where the catalog's have, it has at most 64 keys, each record that it puts is one of the formats, and a block is free for each new one, beside the two that are kept.
-pub record IsPlan (c : Catalogued) (put : List Entry) (gone : List Key) (u : Tables) : Type 0 where
+pub record IsPlan (c : Catalogued) (put : List DirectoryRecord) (gone : List Key) (u : Tables) : Type 0 where
   pub after : IsAfter c.tables put gone u
   pub rules : KeepsRules c.shape u
   pub units : (entries : List status.Entry) → HasUnits c.shape entries c.tables c.units → (ms : List UnitMap) × HasUnits c.shape entries u ms
@@ -38,9 +38,9 @@ AreOwned t = first_wrong (is_owned t) t.extents ≡ None
 -- ---- disks
 
 -- the disks with another record of one, or without it
-abbrev pub with_record : List Disk → ℕ → Option DiskInfo → List Disk
-with_record disks d None = without_disk disks d
-with_record disks d (Some info) = with_info disks d info
+abbrev pub with_disk_record : List Disk → ℕ → Option DiskInfo → List Disk
+with_disk_record disks d None = without_disk disks d
+with_disk_record disks d (Some info) = with_info disks d info
 
 -- a record that is put is one of the formats
 abbrev pub may_be_record : ℕ → Option DiskInfo → Bool
@@ -87,7 +87,7 @@ IsAddRefusal c added refusal = (refusal ≡ cause.NoMemory) ⊎ ((need : ℕ) ×
 -- ---- templates
 
 -- the change leads to the catalog's tables with the templates after the edit
-pub record IsTemplatePlan (c : Catalogued) (edit : TemplateEdit) (put : List Entry) (gone : List Key) : Type 0 where
+pub record IsTemplatePlan (c : Catalogued) (edit : TemplateEdit) (put : List DirectoryRecord) (gone : List Key) : Type 0 where
   pub templates : List Template
   pub edited : templates_edited c.shape.kind (templates_by_name c.tables.templates.templates) edit ≡ Ok (templates_by_name templates)
   pub plan : IsPlan c put gone (record c.tables { templates = record c.tables.templates { templates = templates } })

@@ -21,9 +21,9 @@ IsSpareOf Absent t = Unit {0}
 IsSpareOf (Behind parts change) t = AreTables parts × IsAfter parts change.put change.gone t
 IsSpareOf (Ready parts change) t = IsAfter t change.put change.gone parts
 
-abbrev pub units_in : Option (Vec (ℕ × UnitMap) Global) → Option (List (ℕ × UnitMap))
-units_in None = None
-units_in (Some units) = Some units.items
+abbrev pub unit_maps_in : Option (Vec (ℕ × UnitMap) Global) → Option (List (ℕ × UnitMap))
+unit_maps_in None = None
+unit_maps_in (Some units) = Some units.items
 
 -- The value is a catalog, and the kept tables are spare ones of its own.
 pub record IsCatalogWithSpare (c : Catalogued) (spare : Spare) : Type 0 where

@@ -29,13 +29,13 @@ pub struct Catalog {
 
 impl Model for Catalog {
     ghost use Rattle.plan_records.specs.catalog_tables.Tables.{Catalogued};
-    ghost use Rattle.catalog.specs.Spares.{IsCatalogWithSpare, ready_tables, units_in};
+    ghost use Rattle.catalog.specs.Spares.{IsCatalogWithSpare, ready_tables, unit_maps_in};
 
     ghost Value = { Catalogued };
 
-    ghost view = { λ c. record { tables = c.parts; shape = c.shape; units = c.units.items; next = ready_tables c.spare; next_units = units_in c.next_units } };
+    ghost view = { λ c. record { tables = c.parts; shape = c.shape; units = c.units.items; next = ready_tables c.spare; next_units = unit_maps_in c.next_units } };
 
-    ghost invariant = { λ c. IsCatalogWithSpare (record { tables = c.parts; shape = c.shape; units = c.units.items; next = ready_tables c.spare; next_units = units_in c.next_units }) c.spare };
+    ghost invariant = { λ c. IsCatalogWithSpare (record { tables = c.parts; shape = c.shape; units = c.units.items; next = ready_tables c.spare; next_units = unit_maps_in c.next_units }) c.spare };
 }
 
 impl Catalog {

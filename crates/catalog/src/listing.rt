@@ -4,7 +4,7 @@ ghost use Rattle.std.specs.Prelude.{◌≡◌, ◌≤◌, ◌==◌, ℕ, length,
 ghost use Rattle.std.specs.List.{list_any};
 ghost use Rattle.std.specs.Option.{option_map};
 ghost use Rattle.asm_group.specs.TreeEdits.{entry_at};
-ghost use Rattle.plan_records.specs.alias_tree.Nodes.{AreByName, is_under, node_at, number_of};
+ghost use Rattle.plan_records.specs.alias_tree.Nodes.{AreByName, is_under_parent, node_at, number_of};
 ghost use Rattle.plan_records.specs.alias_tree.Spelling.{names_to};
 ghost use Rattle.plan_records.specs.alias_tree.Trees.{tree_of};
 ghost use Rattle.asm_formats.specs.Items.{FileHead as FormatHead};
@@ -49,7 +49,7 @@ impl Catalog {
     /// number.
     pub fn children(&self, alloc: Global, node: u32) -> Result<Vec<u32>, NoMemory>
         // They are just the nodes of this parent.
-        ensures each { IfOk result (λ v. (n : ℕ) → list_any (λ m. m == n) v.items ≡ is_under self.now.tables.nodes node n) }
+        ensures each { IfOk result (λ v. (n : ℕ) → list_any (λ m. m == n) v.items ≡ is_under_parent self.now.tables.nodes node n) }
         // By name, and none is given twice.
         ensures order { IfOk result (λ v. AreByName self.now.tables.nodes v.items) }
     {

@@ -5,7 +5,7 @@ ghost use Rattle.std.specs.Option.{option_copied};
 ghost use Rattle.asm_placement.specs.Layout.{units_of};
 ghost use Rattle.plan_records.specs.alias_tree.Nodes.{node_at, number_of};
 ghost use Rattle.plan_records.specs.extent_map.Extents.{extent_at};
-ghost use Rattle.plan_records.specs.file_directory.Files.{IsLeastFrom, head_at, is_file};
+ghost use Rattle.plan_records.specs.file_directory.Files.{IsLeastFrom, head_at, is_file_number};
 ghost use Rattle.plan_records.specs.disk_directory.Disks.{info_at};
 ghost use Rattle.plan_records.specs.catalog_tables.Faults.{IsCatalog};
 ghost use Rattle.plan_records.specs.catalog_tables.Rules.{blocks_used, marks_of};
@@ -48,7 +48,7 @@ impl Catalog {
     /// The least file number that isn't below `least`.
     pub fn file_from(&self, least: u32) -> Option<u32>
         ensures found { IfSome result (IsLeastFrom self.now.tables.files least) }
-        ensures none { IfNone result ((k : ℕ) → least ≤ k → is_file self.now.tables.files k ≡ false) }
+        ensures none { IfNone result ((k : ℕ) → least ≤ k → is_file_number self.now.tables.files k ≡ false) }
     {
         self.parts.files.least_from(least)
     }

@@ -3,7 +3,7 @@ use Rattle.std.proofs.Common.{◌≡◌, ℕ, ◌+◌, ◌*◌, ◌<◌, ◌≤�
 use Rattle.std.specs.Prelude.{◌==◌, nat_le, nat_lt, if◌then◌else◌}
 use Rattle.std.proofs.lemmas.Bool.{and_parts, and_from, cond_both, eqb-true, eqb-false, le-leb, ltb-false, ltb-true}
 use Rattle.asm_formats.specs.Among.{IsAmong}
-use Rattle.asm_formats.specs.Items.{Item, Key, key, key_rank, is_item, settings_item, templates_item}
+use Rattle.asm_formats.specs.Items.{Item, Key, item_key, key_rank, is_item, settings_item, templates_item}
 use Rattle.asm_formats.specs.Records.{most_value, is_frame}
 use Rattle.asm_formats.specs.Status.{ascends_from}
 use Rattle.asm_formats.specs.Values.{value}
@@ -108,13 +108,13 @@ record IsSmall (k : Key) : Type 0 where
   a : k.a < 2 ^ 32
   b : k.b < 2 ^ 32
 
-small_key : (i : Item) → is_item i ≡ true → IsSmall (key i)
+small_key : (i : Item) → is_item i ≡ true → IsSmall (item_key i)
 unfolding is_frame
 small_key i is =
-    let p = and_parts (nat_lt (key i).kind (2 ^ 16)) _ (item_frame i is) in
-    let q = and_parts (nat_lt (key i).a (2 ^ 32)) _ p.1 in
-    let r = and_parts (nat_lt (key i).b (2 ^ 32)) (nat_le (length (value i)) most_value) q.1 in
-    record { a = ltb-true (key i).a (2 ^ 32) q.0; b = ltb-true (key i).b (2 ^ 32) r.0 }
+    let p = and_parts (nat_lt (item_key i).kind (2 ^ 16)) _ (item_frame i is) in
+    let q = and_parts (nat_lt (item_key i).a (2 ^ 32)) _ p.1 in
+    let r = and_parts (nat_lt (item_key i).b (2 ^ 32)) (nat_le (length (value i)) most_value) q.1 in
+    record { a = ltb-true (item_key i).a (2 ^ 32) q.0; b = ltb-true (item_key i).b (2 ^ 32) r.0 }
 
 digits : (x y b c : ℕ) → b < 2 ^ 32 → c < 2 ^ 32 → x * 2 ^ 32 + b ≡ y * 2 ^ 32 + c → (x ≡ y) × (b ≡ c)
 digits x y b c less below e = (omega arith, omega arith)
@@ -130,7 +130,7 @@ same_key j k small few e =
 
 one_of_rank : (t : Tables) (i j : Item) → AreTables t → IsOf t i → IsOf t j → rank i ≡ rank j → i ≡ j
 one_of_rank t i j are o p e =
-    let same = same_key (key i) (key j) (small_key i (allowed t i are o)) (small_key j (allowed t j are p)) e in
+    let same = same_key (item_key i) (item_key j) (small_key i (allowed t i are o)) (small_key j (allowed t j are p)) e in
     some_is i j (sym (says t i are o) ∙ ap (item_at t) same ∙ says t j are p)
 
 -- ---- all items of the tables, table by table
@@ -164,30 +164,30 @@ joined_in (q ∷ ps) p i (inl e) among = left_among q (joined ps) i (subst (λ (
 joined_in (q ∷ ps) p i (inr h) among = right_among q (joined ps) i (joined_in ps p i h among)
 
 abbrev pub parts : Tables → List (List Item)
-parts t = map files.item_of t.files ∷ map extents.item_of t.extents ∷ map disks.item_of t.disks ∷ operations.items_of t.operations ∷ two_items t ∷ map nodes.item_of t.nodes ∷ map stale.item_of t.stale ∷ []
+parts t = map files.item_of_file_head t.files ∷ map extents.item_of_chunk t.extents ∷ map disks.item_of_disk t.disks ∷ operations.items_of t.operations ∷ two_items t ∷ map nodes.item_of_node t.nodes ∷ map stale.item_of_marks t.stale ∷ []
 
 pub in_parts : (t : Tables) (i : Item) → IsOf t i → IsAmong (joined (parts t)) i
-in_parts t i (a_file x h e) = joined_in (parts t) (map files.item_of t.files) i (inl refl) (in_part files.item_of t.files i x h e)
-in_parts t i (a_chunk x h e) = joined_in (parts t) (map extents.item_of t.extents) i (inr (inl refl)) (in_part extents.item_of t.extents i x h e)
-in_parts t i (a_disk x h e) = joined_in (parts t) (map disks.item_of t.disks) i (inr (inr (inl refl))) (in_part disks.item_of t.disks i x h e)
+in_parts t i (a_file x h e) = joined_in (parts t) (map files.item_of_file_head t.files) i (inl refl) (in_part files.item_of_file_head t.files i x h e)
+in_parts t i (a_chunk x h e) = joined_in (parts t) (map extents.item_of_chunk t.extents) i (inr (inl refl)) (in_part extents.item_of_chunk t.extents i x h e)
+in_parts t i (a_disk x h e) = joined_in (parts t) (map disks.item_of_disk t.disks) i (inr (inr (inl refl))) (in_part disks.item_of_disk t.disks i x h e)
 in_parts t i (an_operation h) = joined_in (parts t) (operations.items_of t.operations) i (inr (inr (inr (inl refl)))) h
 in_parts t i (the_templates e) = joined_in (parts t) (two_items t) i (inr (inr (inr (inr (inl refl))))) (inl e)
-in_parts t i (a_node x h e) = joined_in (parts t) (map nodes.item_of t.nodes) i (inr (inr (inr (inr (inr (inl refl)))))) (in_part nodes.item_of t.nodes i x h e)
+in_parts t i (a_node x h e) = joined_in (parts t) (map nodes.item_of_node t.nodes) i (inr (inr (inr (inr (inr (inl refl)))))) (in_part nodes.item_of_node t.nodes i x h e)
 in_parts t i (the_settings e) = joined_in (parts t) (two_items t) i (inr (inr (inr (inr (inl refl))))) (inr (inl e))
-in_parts t i (marks x h e) = joined_in (parts t) (map stale.item_of t.stale) i (inr (inr (inr (inr (inr (inr (inl refl))))))) (in_part stale.item_of t.stale i x h e)
+in_parts t i (marks x h e) = joined_in (parts t) (map stale.item_of_marks t.stale) i (inr (inr (inr (inr (inr (inr (inl refl))))))) (in_part stale.item_of_marks t.stale i x h e)
 
 module _ (t : Tables) (p : List Item) (i : Item) (among : IsAmong p i) where
   here : (q : List Item) → p ≡ q → IsAmong q i
   here q e = subst (λ (l : List Item). IsAmong l i) e among
 
   of_parts : IsAmong (parts t) p → IsOf t i
-  of_parts (inl e) = of_part t files.item_of t.files i (λ x h is. a_file x h is) (here (map files.item_of t.files) e)
-  of_parts (inr (inl e)) = of_part t extents.item_of t.extents i (λ x h is. a_chunk x h is) (here (map extents.item_of t.extents) e)
-  of_parts (inr (inr (inl e))) = of_part t disks.item_of t.disks i (λ x h is. a_disk x h is) (here (map disks.item_of t.disks) e)
+  of_parts (inl e) = of_part t files.item_of_file_head t.files i (λ x h is. a_file x h is) (here (map files.item_of_file_head t.files) e)
+  of_parts (inr (inl e)) = of_part t extents.item_of_chunk t.extents i (λ x h is. a_chunk x h is) (here (map extents.item_of_chunk t.extents) e)
+  of_parts (inr (inr (inl e))) = of_part t disks.item_of_disk t.disks i (λ x h is. a_disk x h is) (here (map disks.item_of_disk t.disks) e)
   of_parts (inr (inr (inr (inl e)))) = an_operation (here (operations.items_of t.operations) e)
   of_parts (inr (inr (inr (inr (inl e))))) = of_two t i (here (two_items t) e)
-  of_parts (inr (inr (inr (inr (inr (inl e)))))) = of_part t nodes.item_of t.nodes i (λ x h is. a_node x h is) (here (map nodes.item_of t.nodes) e)
-  of_parts (inr (inr (inr (inr (inr (inr (inl e))))))) = of_part t stale.item_of t.stale i (λ x h is. marks x h is) (here (map stale.item_of t.stale) e)
+  of_parts (inr (inr (inr (inr (inr (inl e)))))) = of_part t nodes.item_of_node t.nodes i (λ x h is. a_node x h is) (here (map nodes.item_of_node t.nodes) e)
+  of_parts (inr (inr (inr (inr (inr (inr (inl e))))))) = of_part t stale.item_of_marks t.stale i (λ x h is. marks x h is) (here (map stale.item_of_marks t.stale) e)
   of_parts (inr (inr (inr (inr (inr (inr (inr h))))))) = absurd h
 
 -- ---- the items of the tables
@@ -213,4 +213,4 @@ module _ (t : Tables) (are : AreTables t) where
   have_items = (items, record { in_order = their.in_order; from_table = from_table; to_table = λ i h. says t i are (of_tables i h) })
 
 pub items_are_one : (t : Tables) (a b : List Item) → AreItemsOf t a → AreItemsOf t b → a ≡ b
-items_are_one t a b are is = one_list a b 0 are.in_order is.in_order (λ i h. is.from_table (key i) i (are.to_table i h)) (λ i h. are.from_table (key i) i (is.to_table i h))
+items_are_one t a b are is = one_list a b 0 are.in_order is.in_order (λ i h. is.from_table (item_key i) i (are.to_table i h)) (λ i h. are.from_table (item_key i) i (is.to_table i h))

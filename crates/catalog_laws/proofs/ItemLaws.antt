@@ -11,14 +11,14 @@ use Rattle.std.specs.Option.{option_and_then, option_map, option_or, unwrap_or}
 use Rattle.std.proofs.lemmas.Bool.{and_parts, and_from, eqb-true, eq-eqb, ne_eqb}
 use Rattle.std.proofs.lemmas.Option.{none-some}
 use Rattle.asm_formats.specs.Among.{IsAmong}
-use Rattle.asm_formats.specs.Items.{Item, chunk_len, key, file_item, chunk_item, marks_item}
+use Rattle.asm_formats.specs.Items.{Item, chunk_len, item_key, file_item, chunk_item, marks_item}
 use Rattle.asm_formats.specs.Sets.{has_bit}
 use Rattle.catalog.specs.asm_placement.Tables.{first_said, head_of, homes_in, if_is, is_stale, marks_in}
 use Rattle.catalog.specs.asm_base.Records.{Ascend}
 use Rattle.catalog.proofs.asm_base.Exact.{bind_some, some_is, test_some}
 use Rattle.catalog.proofs.asm_base.ItemTables.{IsEntry}
-use Rattle.catalog.specs.file_directory.Entries.{is_entry as head_entry}
-use Rattle.catalog.specs.staleness_directory.MarkEntries.{is_entry as marks_entry}
+use Rattle.catalog.specs.file_directory.Entries.{is_file_entry as head_entry}
+use Rattle.catalog.specs.staleness_directory.MarkEntries.{is_marks_entry as marks_entry}
 use Rattle.catalog.specs.asm_base.Chunks as chunk_order
 use Rattle.catalog.specs.file_directory.Files as files
 use Rattle.catalog.specs.extent_map.Extents as extents
@@ -100,7 +100,7 @@ same_chunk = record {
   itself = λ x. and_from (eqb x.0 x.0) (eqb x.1 x.1) (eq-eqb x.0 x.0 refl) (eq-eqb x.1 x.1 refl);
 }
 
-head_said : (items : List Item) (f : ℕ) → head_of items f ≡ first_said (tells_of files.entry_of (λ (f g : ℕ). eqb g f) f) items
+head_said : (items : List Item) (f : ℕ) → head_of items f ≡ first_said (tells_of files.file_of_item (λ (f g : ℕ). eqb g f) f) items
 unfolding head_of
 head_said [] f = refl
 head_said (file_item g h ∷ items) f = ap (option_or (if_is (eqb g f) h)) (head_said items f)
@@ -112,7 +112,7 @@ homes_said [] f c = refl
 homes_said (chunk_item g d homes ∷ items) f c = ap (option_or (if_is (eqb g f && eqb d c) homes)) (homes_said items f c)
 homes_said (i ∷ items) f c = homes_said items f c
 
-marks_said : (items : List Item) (f c : ℕ) → marks_in items f c ≡ first_said (tells_of stale.marked is_chunk_at (f, c)) items
+marks_said : (items : List Item) (f c : ℕ) → marks_in items f c ≡ first_said (tells_of stale.marks_of_item is_chunk_at (f, c)) items
 unfolding marks_in
 marks_said [] f c = refl
 marks_said (marks_item g d ms ∷ items) f c = ap (option_or (if_is (eqb g f && eqb d c) ms)) (marks_said items f c)
@@ -120,40 +120,40 @@ marks_said (i ∷ items) f c = marks_said items f c
 
 module _ (t : Tables) (items : List Item) (a : AreTables t) (is : AreItemsOf t items) where
   item_there : (i : Item) → IsOf t i → IsAmong items i
-  item_there i o = is.from_table (key i) i (says t i a o)
+  item_there i o = is.from_table (item_key i) i (says t i a o)
 
-  head_entries : AreEntries files.item_of t.files items
+  head_entries : AreEntries files.item_of_file_head t.files items
   unfolding item_at
   head_entries = record {
-    into = λ x h. item_there (files.item_of x) (a_file x h refl);
+    into = λ x h. item_there (files.item_of_file_head x) (a_file x h refl);
     back = λ x h.
-        let m = from_map (file_item x.0) (files.head_at t.files x.0) (files.item_of x) (is.to_table (files.item_of x) h) in
-        let e : files.head_at t.files x.0 ≡ Some x.1 = m.1 ∙ ap (option_map (λ (y : files.File). y.1)) (ap files.entry_of m.2) in
+        let m = from_map (file_item x.0) (files.head_at t.files x.0) (files.item_of_file_head x) (is.to_table (files.item_of_file_head x) h) in
+        let e : files.head_at t.files x.0 ≡ Some x.1 = m.1 ∙ ap (option_map (λ (y : files.NumberedFile). y.1)) (ap files.file_of_item m.2) in
         found_is nat_cmp nat_cmp_total numbers_exact x.0 t.files x.1 e;
   }
 
-  marks_entries : AreEntries stale.item_of t.stale items
+  marks_entries : AreEntries stale.item_of_marks t.stale items
   unfolding item_at
   marks_entries = record {
-    into = λ x h. item_there (stale.item_of x) (marks x h refl);
+    into = λ x h. item_there (stale.item_of_marks x) (marks x h refl);
     back = λ x h.
-        let m = from_map (marks_item x.0.0 x.0.1) (stale.marks_at t.stale x.0) (stale.item_of x) (is.to_table (stale.item_of x) h) in
-        let e : stale.marks_at t.stale x.0 ≡ Some x.1 = m.1 ∙ ap (option_map (λ (y : stale.Marked). y.1)) (ap stale.marked m.2) in
+        let m = from_map (marks_item x.0.0 x.0.1) (stale.marks_at t.stale x.0) (stale.item_of_marks x) (is.to_table (stale.item_of_marks x) h) in
+        let e : stale.marks_at t.stale x.0 ≡ Some x.1 = m.1 ∙ ap (option_map (λ (y : stale.Marked). y.1)) (ap stale.marks_of_item m.2) in
         found_is chunk_order.chunk_cmp chunk_total chunks_exact x.0 t.stale x.1 e;
   }
 
-  chunk_back : (x : extents.Chunked) → item_at t (key (extents.item_of x)) ≡ Some (extents.item_of x) → IsAmong t.extents x
+  chunk_back : (x : extents.Chunked) → item_at t (item_key (extents.item_of_chunk x)) ≡ Some (extents.item_of_chunk x) → IsAmong t.extents x
   unfolding item_at
   chunk_back x e =
       let some : eqb (x.0.1 + 1) 0 ≡ false = ne_eqb (x.0.1 + 1) 0 (λ e. omega (arith, e)) in
       let less : x.0.1 + 1 - 1 ≡ x.0.1 = omega arith in
-      let here : option_map (chunk_item x.0.0 x.0.1) (extents.chunk_at t.extents x.0) ≡ Some (extents.item_of x) = rw (some, less) at e in
-      let m = from_map (chunk_item x.0.0 x.0.1) (extents.chunk_at t.extents x.0) (extents.item_of x) here in
+      let here : option_map (chunk_item x.0.0 x.0.1) (extents.chunk_at t.extents x.0) ≡ Some (extents.item_of_chunk x) = rw (some, less) at e in
+      let m = from_map (chunk_item x.0.0 x.0.1) (extents.chunk_at t.extents x.0) (extents.item_of_chunk x) here in
       let same : extents.chunk_at t.extents x.0 ≡ Some x.1 = m.1 ∙ ap (option_map (λ (y : extents.Chunked). y.1)) (ap extents.chunked m.2) in
       found_is chunk_order.chunk_cmp chunk_total chunks_exact x.0 t.extents x.1 same
 
-  pub chunk_entries : AreEntries extents.item_of t.extents items
-  chunk_entries = record { into = λ x h. item_there (extents.item_of x) (a_chunk x h refl); back = λ x h. chunk_back x (is.to_table (extents.item_of x) h) }
+  pub chunk_entries : AreEntries extents.item_of_chunk t.extents items
+  chunk_entries = record { into = λ x h. item_there (extents.item_of_chunk x) (a_chunk x h refl); back = λ x h. chunk_back x (is.to_table (extents.item_of_chunk x) h) }
 
   pub heads_are : (f : ℕ) → head_of items f ≡ files.head_at t.files f
   heads_are f = head_said items f ∙ looks_up head_entry nat_cmp nat_cmp_total numbers_exact (λ (f g : ℕ). eqb g f) same_number t.files items a.files.0 head_entries f

@@ -5,7 +5,7 @@ use Rattle.std.specs.Option.{option_map}
 use Rattle.std.specs.BTreeMap.{is_at}
 use Rattle.std.proofs.lemmas.Bool.{and_parts, cond_both, eq-eqb, eqb-true, true≢false}
 use Rattle.asm_formats.specs.Among.{IsAmong}
-use Rattle.asm_formats.specs.Items.{Home, Homes, Item, Key, chunk_item, disk_item, file_item, key, key_rank, marks_item, node_item, pending_item, rebalance_item, settings_item, templates_item}
+use Rattle.asm_formats.specs.Items.{Home, Homes, Item, Key, chunk_item, disk_item, file_item, item_key, key_rank, marks_item, node_item, pending_item, rebalance_item, settings_item, templates_item}
 use Rattle.asm_formats.specs.Status.{ascends_from}
 use Rattle.catalog.specs.asm_placement.Moves.{moved_item, unmarked_item, with_current, with_home, without_bit}
 use Rattle.catalog.proofs.asm_base.Exact.{some_is}
@@ -39,17 +39,17 @@ map_among g [] i h = absurd h
 map_among g (x ∷ items) i (inl same) = inl (ap g same)
 map_among g (x ∷ items) i (inr later) = inr (map_among g items i later)
 
-ranks_same : (g : Item → Item) → ((i : Item) → key (g i) ≡ key i) → (items : List Item) → map (λ (i : Item). key_rank (key i)) (map g items) ≡ map (λ (i : Item). key_rank (key i)) items
+ranks_same : (g : Item → Item) → ((i : Item) → item_key (g i) ≡ item_key i) → (items : List Item) → map (λ (i : Item). key_rank (item_key i)) (map g items) ≡ map (λ (i : Item). key_rank (item_key i)) items
 ranks_same g same [] = refl
-ranks_same g same (x ∷ items) = ap (λ (k : Key). key_rank k ∷ map (λ (i : Item). key_rank (key i)) (map g items)) (same x) ∙ ap (λ (rs : List ℕ). key_rank (key x) ∷ rs) (ranks_same g same items)
+ranks_same g same (x ∷ items) = ap (λ (k : Key). key_rank k ∷ map (λ (i : Item). key_rank (item_key i)) (map g items)) (same x) ∙ ap (λ (rs : List ℕ). key_rank (item_key x) ∷ rs) (ranks_same g same items)
 
 map_twice : (g h : Item → Item) (items : List Item) → map g (map h items) ≡ map (λ (i : Item). g (h i)) items
 map_twice g h [] = refl
 map_twice g h (x ∷ items) = ap (λ (xs : List Item). g (h x) ∷ xs) (map_twice g h items)
 
-moved_key : (f i copy : ℕ) (h : Home) (j : Item) → key (moved_item f i copy h j) ≡ key j
+moved_key : (f i copy : ℕ) (h : Home) (j : Item) → item_key (moved_item f i copy h j) ≡ item_key j
 moved_key f i copy h (chunk_item g c homes) =
-    cond_both (eqb g f && eqb c (i / 256)) (chunk_item g c (slice_set homes (i % 256) (slice_set (get_or homes (i % 256) []) copy (Some h)))) (chunk_item g c homes) (λ (x : Item). key x ≡ key (chunk_item g c homes)) (λ yes. refl) (λ no. refl)
+    cond_both (eqb g f && eqb c (i / 256)) (chunk_item g c (slice_set homes (i % 256) (slice_set (get_or homes (i % 256) []) copy (Some h)))) (chunk_item g c homes) (λ (x : Item). item_key x ≡ item_key (chunk_item g c homes)) (λ yes. refl) (λ no. refl)
 moved_key f i copy h (file_item g head) = refl
 moved_key f i copy h (disk_item d info) = refl
 moved_key f i copy h (rebalance_item p) = refl
@@ -59,9 +59,9 @@ moved_key f i copy h (node_item n node) = refl
 moved_key f i copy h (settings_item s) = refl
 moved_key f i copy h (marks_item g c marks) = refl
 
-unmarked_key : (f i copy : ℕ) (j : Item) → key (unmarked_item f i copy j) ≡ key j
+unmarked_key : (f i copy : ℕ) (j : Item) → item_key (unmarked_item f i copy j) ≡ item_key j
 unmarked_key f i copy (marks_item g c marks) =
-    cond_both (eqb g f && eqb c (i / 256)) (marks_item g c (slice_set marks (i % 256) (without_bit (get_or marks (i % 256) 0) copy))) (marks_item g c marks) (λ (x : Item). key x ≡ key (marks_item g c marks)) (λ yes. refl) (λ no. refl)
+    cond_both (eqb g f && eqb c (i / 256)) (marks_item g c (slice_set marks (i % 256) (without_bit (get_or marks (i % 256) 0) copy))) (marks_item g c marks) (λ (x : Item). item_key x ≡ item_key (marks_item g c marks)) (λ yes. refl) (λ no. refl)
 unmarked_key f i copy (chunk_item g c homes) = refl
 unmarked_key f i copy (file_item g head) = refl
 unmarked_key f i copy (disk_item d info) = refl
@@ -167,7 +167,7 @@ module _ (c : Catalogued) (is : IsCatalog c) (f i copy : ℕ) (h : Home) (may : 
     ])
   ]
 
-  key_same : (j : Item) → key (g j) ≡ key j
+  key_same : (j : Item) → item_key (g j) ≡ item_key j
   key_same j = unmarked_key f i copy (moved_item f i copy h j) ∙ moved_key f i copy h j
 
   some_map : (o : Option Item) (j : Item) → option_map g o ≡ Some j → (x : Item) × (o ≡ Some x) × (g x ≡ j)
@@ -182,8 +182,8 @@ module _ (c : Catalogued) (is : IsCatalog c) (f i copy : ℕ) (h : Home) (may : 
         subst (λ (y : Item). IsAmong (map g items) y) x.2 (map_among g items x.0 (are.from_table k x.0 x.1));
     to_table = λ j among.
         let x = among_map g items j among in
-        let at : key j ≡ key x.0 = ap key (sym x.2) ∙ key_same x.0 in
-        ap (item_at u) at ∙ said (key x.0) ∙ ap (option_map g) (are.to_table x.0 x.1) ∙ ap (λ (y : Item). Some y) x.2;
+        let at : item_key j ≡ item_key x.0 = ap item_key (sym x.2) ∙ key_same x.0 in
+        ap (item_at u) at ∙ said (item_key x.0) ∙ ap (option_map g) (are.to_table x.0 x.1) ∙ ap (λ (y : Item). Some y) x.2;
   }
 
 with_home_is : (f i copy : ℕ) (h : Home) (items : List Item) → with_home f i copy h items ≡ map (λ (j : Item). unmarked_item f i copy (moved_item f i copy h j)) items

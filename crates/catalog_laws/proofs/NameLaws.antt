@@ -11,13 +11,13 @@ use Rattle.catalog.specs.asm_world.Files.{NewName, new_path, next_number}
 use Rattle.catalog.specs.alias_edits.Filing as of_tree
 use Rattle.catalog.specs.NamePlans.{FilesAsWorld, RefusesAsWorld}
 
-dir_tree : (g : Group) (path : Path) → (world.with_dir g path).tree ≡ of_tree.with_dir g.tree path
+dir_tree : (g : Group) (path : Path) → (world.group_with_dir g path).tree ≡ of_tree.with_dir g.tree path
 dir_tree g path = by (t.is_there g.tree path) refl where
-  by : (b : Bool) → t.is_there g.tree path ≡ b → (world.with_dir g path).tree ≡ of_tree.with_dir g.tree path
+  by : (b : Bool) → t.is_there g.tree path ≡ b → (world.group_with_dir g path).tree ≡ of_tree.with_dir g.tree path
   by true e = rw e refl
   by false e = rw e refl
 
-tree_as_world : (g : Group) (name : NewName) (n : ℕ) (f : WorldFile) → (world.with_file g name n f).tree ≡ of_tree.with_file g.tree (new_path name n f.incarnation) n
+tree_as_world : (g : Group) (name : NewName) (n : ℕ) (f : WorldFile) → (world.group_with_file g name n f).tree ≡ of_tree.with_file g.tree (new_path name n f.incarnation) n
 tree_as_world g name n f = ap (λ (u : Tree). t.with_node u (new_path name n f.incarnation) (System n)) dirs where
   db : Path
   db = name.db ∷ []
@@ -25,8 +25,8 @@ tree_as_world g name n f = ap (λ (u : Tree). t.with_node u (new_path name n f.i
   kind : Path
   kind = name.db ∷ name.type_name ∷ []
 
-  dirs : (world.with_dir (world.with_dir g (name.db ∷ [])) (name.db ∷ name.type_name ∷ [])).tree ≡ of_tree.with_dir (of_tree.with_dir g.tree (name.db ∷ [])) (name.db ∷ name.type_name ∷ [])
-  dirs = dir_tree (world.with_dir g (name.db ∷ [])) (name.db ∷ name.type_name ∷ []) ∙ ap (λ (u : Tree). of_tree.with_dir u (name.db ∷ name.type_name ∷ [])) (dir_tree g (name.db ∷ []))
+  dirs : (world.group_with_dir (world.group_with_dir g (name.db ∷ [])) (name.db ∷ name.type_name ∷ [])).tree ≡ of_tree.with_dir (of_tree.with_dir g.tree (name.db ∷ [])) (name.db ∷ name.type_name ∷ [])
+  dirs = dir_tree (world.group_with_dir g (name.db ∷ [])) (name.db ∷ name.type_name ∷ []) ∙ ap (λ (u : Tree). of_tree.with_dir u (name.db ∷ name.type_name ∷ [])) (dir_tree g (name.db ∷ []))
 
 pub files_as_world : FilesAsWorld
 files_as_world = record { tree = tree_as_world; next = λ g name n f. refl }

@@ -8,12 +8,12 @@ use Rattle.std.specs.declared.cmp.Ordering.TheVariants.{Less}
 use Rattle.std.proofs.lemmas.Bool.{true≢false}
 use Rattle.std.proofs.lemmas.List.{length-map}
 use Rattle.asm_formats.specs.Among.{IsAmong}
-use Rattle.asm_formats.specs.Items.{Item, Key, Pending, key}
+use Rattle.asm_formats.specs.Items.{Item, Key, Pending, item_key}
 use Rattle.asm_formats.specs.Values.{value}
-use Rattle.catalog.specs.asm_base.Records.{Entry, key_cmp}
+use Rattle.catalog.specs.asm_base.Records.{DirectoryRecord, key_cmp}
 use Rattle.catalog.specs.page_map.Changes.{is_put}
 use Rattle.catalog.specs.page_map.Listing.{key_of_place}
-use Rattle.catalog.specs.page_map.Tables.{PageTable, is_kept, new_in, one_if, pending_key, place_at, rebalance_key, room, used}
+use Rattle.catalog.specs.page_map.Tables.{PageTable, has_kept_pages, new_in, one_if, pending_key, place_at, rebalance_key, room, used}
 use Rattle.catalog.proofs.page_map.Keys.{key_itself}
 use Rattle.catalog.specs.file_directory.Files as files
 use Rattle.catalog.specs.extent_map.Extents as extents
@@ -61,16 +61,16 @@ take_out (y ∷ xs) x (inr h) = out_later y xs x (take_out xs x h)
 differ : (k j : Key) → key_cmp k j ≡ Less → j ≡ k → ⊥
 differ k j less same = true≢false (sym (key_itself k) ∙ (ap (λ (x : Key). is_eq (key_cmp k x)) (sym same) ∙ ap is_eq less))
 
-no_more : (ks : List Key) (is : List Item) → IsStrictlySortedBy key_cmp ks → ((k : Key) → IsAmong ks k → (i : Item) × IsAmong is i × (key i ≡ k)) → length ks ≤ length is
+no_more : (ks : List Key) (is : List Item) → IsStrictlySortedBy key_cmp ks → ((k : Key) → IsAmong ks k → (i : Item) × IsAmong is i × (item_key i ≡ k)) → length ks ≤ length is
 unfolding IsStrictlySortedBy
 no_more [] is up has = omega arith
 no_more (k ∷ ks) is up has =
     let first = has k (inl refl) in
     let out = take_out is first.0 first.1 in
-    let others : (j : Key) → IsAmong ks j → (i : Item) × IsAmong out.rest i × (key i ≡ j) = λ j h.
+    let others : (j : Key) → IsAmong ks j → (i : Item) × IsAmong out.rest i × (item_key i ≡ j) = λ j h.
     let x = has j (inr h) in
     elim (out.left x.0 x.1) [
-      | inl same ↦ absurd (differ k j (each_of (λ (y : Key). key_cmp k y ≡ Less) ks j up.0 h) (sym x.2 ∙ (ap key same ∙ first.2)))
+      | inl same ↦ absurd (differ k j (each_of (λ (y : Key). key_cmp k y ≡ Less) ks j up.0 h) (sym x.2 ∙ (ap item_key same ∙ first.2)))
       | inr l ↦ (x.0, l, x.2)
     ] in
     let rest = no_more ks out.rest up.1 others in
@@ -97,12 +97,12 @@ operations_size o = by o.rebalance o.pending where
 
 items_size : (t : Tables) → length (joined (parts t)) ≡ blocks_used t + (one_if (is_some t.operations.rebalance) + one_if (is_some t.operations.pending))
 items_size t =
-    let fs = map files.item_of t.files in
-    let xs = map extents.item_of t.extents in
-    let ds = map disks.item_of t.disks in
+    let fs = map files.item_of_file_head t.files in
+    let xs = map extents.item_of_chunk t.extents in
+    let ds = map disks.item_of_disk t.disks in
     let os = operations.items_of t.operations in
-    let ns = map nodes.item_of t.nodes in
-    let ms = map stale.item_of t.stale in
+    let ns = map nodes.item_of_node t.nodes in
+    let ms = map stale.item_of_marks t.stale in
     let two = two_items t in
     let a = joined_size fs (xs ∷ ds ∷ os ∷ two ∷ ns ∷ ms ∷ []) in
     let b = joined_size xs (ds ∷ os ∷ two ∷ ns ∷ ms ∷ []) in
@@ -113,7 +113,7 @@ items_size t =
     let g = joined_size ms [] in
     let h = joined_none in
     let o = operations_size t.operations in
-    omega (arith, a, b, c, d, e, f, g, h, o, length-map t.files files.item_of, length-map t.extents extents.item_of, length-map t.disks disks.item_of, length-map t.nodes nodes.item_of, length-map t.stale stale.item_of)
+    omega (arith, a, b, c, d, e, f, g, h, o, length-map t.files files.item_of_file_head, length-map t.extents extents.item_of_chunk, length-map t.disks disks.item_of_disk, length-map t.nodes nodes.item_of_node, length-map t.stale stale.item_of_marks)
 
 -- ---- the pages
 
@@ -138,7 +138,7 @@ module _ (t : Tables) (pages : PageTable) (are : ArePaged t pages) where
   unfolding item_at
   pending_page = has_page pending_key ∙ (of_map value _ ∙ of_map _ t.operations.pending)
 
-  item_of_key : (k : Key) → IsAmong (map key_of_place pages.places) k → (i : Item) × IsAmong (joined (parts t)) i × (key i ≡ k)
+  item_of_key : (k : Key) → IsAmong (map key_of_place pages.places) k → (i : Item) × IsAmong (joined (parts t)) i × (item_key i ≡ k)
   item_of_key k h =
       let x = map_among key_of_place pages.places k h in
       let found = some_found key_cmp key_total keys_exact pages.places x.0.0 x.0.1 x.1 in
@@ -156,11 +156,11 @@ module _ (t : Tables) (pages : PageTable) (are : ArePaged t pages) where
       let second = ap (λ (b : Bool). one_if b) pending_page in
       omega (arith, few, places, size, first, second)
 
-  new_counted : (put : List Entry) → new_in pages put ≡ new_records t put
+  new_counted : (put : List DirectoryRecord) → new_in pages put ≡ new_records t put
   new_counted [] = refl
   new_counted (p ∷ ps) =
       let rest = new_counted ps in
-      let first = ap (λ (b : Bool). one_if ((not (is_kept p.0) && not b) && not (is_put ps p.0))) (has_page p.0) in
+      let first = ap (λ (b : Bool). one_if ((not (has_kept_pages p.0) && not b) && not (is_put ps p.0))) (has_page p.0) in
       omega (arith, rest, first)
 
 pub blocks_are_counted : BlocksAreCounted

@@ -15,14 +15,14 @@ use Rattle.asm_formats.specs.Sets.{has_bit}
 use Rattle.catalog.specs.asm_placement.Moves.{moved_item, with_current, with_home, without_bit}
 use Rattle.catalog.proofs.asm_base.Exact.{some_is}
 use Rattle.catalog.specs.file_directory.Files.{head_at}
-use Rattle.catalog.specs.extent_map.Extents.{Chunked, absent, chunk_at, has_home, with_extent}
+use Rattle.catalog.specs.extent_map.Extents.{Chunked, absent_homes, chunk_at, has_home, with_extent}
 use Rattle.catalog.specs.asm_base.Chunks.{Chunk, chunk_cmp}
 use Rattle.catalog.proofs.extent_map.FileEnds.{item_at}
 use Rattle.catalog.proofs.extent_map.Laws.{chunk_total}
 use Rattle.catalog.specs.ExtentPlans.{ClearsItems, MayMark, MayMove, StaysInPlace, home_at, homes_moved, is_copy_of, marks_changed, with_marks_at, with_marks_changed, with_move}
 use Rattle.catalog.specs.catalog_tables.Faults.{IsCatalog}
 use Rattle.catalog.specs.catalog_tables.Items.{AreItemsOf}
-use Rattle.catalog.specs.catalog_tables.Rules.{are_on_disks, are_within, are_within_head, is_within, marks_of, homes_at}
+use Rattle.catalog.specs.catalog_tables.Rules.{are_on_disks, are_within, are_within_head, is_home_within, marks_of, homes_at}
 use Rattle.catalog.specs.catalog_tables.Tables.{Catalogued, Tables}
 use Rattle.catalog.proofs.EditLaws.{chunk_right}
 use Rattle.catalog.proofs.catalog_tables.EntryLaws.{either}
@@ -103,7 +103,7 @@ module _ (c : Catalogued) (is : IsCatalog c) (f i copy : ℕ) (h : Home) (x : Is
   same_extents : with_extent c.tables.extents f i (homes_moved c.tables f i copy h) ≡ c.tables.extents
   same_extents =
       ap (λ (y : Homes). with_extent c.tables.extents f i y) same_homes
-      ∙ ap (λ (o : Option (List Homes)). cond (is_some o) (set_value (is_at (chunk_cmp (f, i / 256))) c.tables.extents (slice_set (unwrap_or o []) (i % 256) hs)) (insert_entry chunk_cmp c.tables.extents (f, i / 256) (slice_set (replicate 256 absent) (i % 256) hs))) x.stands.homes
+      ∙ ap (λ (o : Option (List Homes)). cond (is_some o) (set_value (is_at (chunk_cmp (f, i / 256))) c.tables.extents (slice_set (unwrap_or o []) (i % 256) hs)) (insert_entry chunk_cmp c.tables.extents (f, i / 256) (slice_set (replicate 256 absent_homes) (i % 256) hs))) x.stands.homes
       ∙ ap (λ (y : List Homes). set_value (is_at (chunk_cmp (f, i / 256))) c.tables.extents y) (set-get_or x.chunk (i % 256) [])
       ∙ set_value_same (is_at (chunk_cmp (f, i / 256))) c.tables.extents x.chunk x.stands.homes
 
@@ -123,16 +123,16 @@ module _ (c : Catalogued) (is : IsCatalog c) (f i copy : ℕ) (h : Home) (x : Is
     all : are_within head.copies hs ≡ true
     all = all_at (are_within head.copies) x.chunk (i % 256) [] ok place
 
-    low : (k : ℕ) → copy ≡ k → is_within head.copies hs k ≡ true → ltb copy head.copies ≡ true
-    low k same e = or_false (ltb copy head.copies) (ap (λ (o : Option Home). ltb copy head.copies || not (is_some o)) (sym x.own) ∙ ap (λ (n : ℕ). is_within head.copies hs n) same ∙ e) where
+    low : (k : ℕ) → copy ≡ k → is_home_within head.copies hs k ≡ true → ltb copy head.copies ≡ true
+    low k same e = or_false (ltb copy head.copies) (ap (λ (o : Option Home). ltb copy head.copies || not (is_some o)) (sym x.own) ∙ ap (λ (n : ℕ). is_home_within head.copies hs n) same ∙ e) where
       or_false : (b : Bool) → (b || false) ≡ true → b ≡ true
       or_false true e = refl
       or_false false e = e
 
     by : (k : ℕ) → k < 3 → copy ≡ k → ltb copy head.copies ≡ true
-    by zero lt same = low 0 same (and_parts (is_within head.copies hs 0) (is_within head.copies hs 1 && is_within head.copies hs 2) all).0
-    by (suc zero) lt same = low 1 same (and_parts (is_within head.copies hs 1) (is_within head.copies hs 2) (and_parts (is_within head.copies hs 0) (is_within head.copies hs 1 && is_within head.copies hs 2) all).1).0
-    by (suc (suc zero)) lt same = low 2 same (and_parts (is_within head.copies hs 1) (is_within head.copies hs 2) (and_parts (is_within head.copies hs 0) (is_within head.copies hs 1 && is_within head.copies hs 2) all).1).1
+    by zero lt same = low 0 same (and_parts (is_home_within head.copies hs 0) (is_home_within head.copies hs 1 && is_home_within head.copies hs 2) all).0
+    by (suc zero) lt same = low 1 same (and_parts (is_home_within head.copies hs 1) (is_home_within head.copies hs 2) (and_parts (is_home_within head.copies hs 0) (is_home_within head.copies hs 1 && is_home_within head.copies hs 2) all).1).0
+    by (suc (suc zero)) lt same = low 2 same (and_parts (is_home_within head.copies hs 1) (is_home_within head.copies hs 2) (and_parts (is_home_within head.copies hs 0) (is_home_within head.copies hs 1 && is_home_within head.copies hs 2) all).1).1
     by (suc (suc (suc k))) lt same = absurd (omega (arith, lt))
 
   pub may_stay : MayMove c f i copy h

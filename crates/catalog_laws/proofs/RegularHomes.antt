@@ -11,10 +11,10 @@ use Rattle.std.proofs.lemmas.Option.{none-some}
 use Rattle.asm_formats.specs.Items.{FileHead, Home, Homes, Item}
 use Rattle.asm_formats.specs.Status.{Entry, entry_of}
 use Rattle.catalog.proofs.asm_base.Exact.{some_is}
-use Rattle.catalog.specs.asm_placement.Copies.{Copy, all_copies, copies_at, copies_from, entry_at_home, file_copies, has_home, home}
+use Rattle.catalog.specs.asm_placement.Copies.{Copy, all_copies, copies_at, copies_from, entry_at_home, file_copies, has_any_home, home}
 use Rattle.catalog.specs.asm_placement.Tables.{home_of}
 use Rattle.catalog.specs.asm_placement.Work.{is_regular}
-use Rattle.catalog.specs.extent_map.Extents.{Chunked, absent, chunk_at, chunk_or_blank, count_in, cut_to, with_chunk, with_extent, with_more}
+use Rattle.catalog.specs.extent_map.Extents.{Chunked, absent_homes, chunk_at, chunk_or_blank, count_in, cut_to, with_chunk, with_extent, with_more}
 use Rattle.catalog.specs.asm_base.Chunks.{Chunk, chunk_cmp}
 use Rattle.catalog.specs.ExtentPlans.{homes_moved, with_appended, with_cut, with_fewer, with_move, with_released}
 use Rattle.catalog.specs.catalog_tables.Items.{AreItemsOf, chunk_copies}
@@ -84,11 +84,11 @@ module _ (es : List Entry) where
   abbrev test : List Homes → Bool
   test chunk = list_all (are_on_regular es) chunk
 
-  blank : test (replicate 256 absent) ≡ true
-  blank = all_same (are_on_regular es) 256 absent refl
+  blank : test (replicate 256 absent_homes) ≡ true
+  blank = all_same (are_on_regular es) 256 absent_homes refl
 
   of_chunk : (t : Tables) (k : Chunk) → AreOnRegular es t → test (chunk_or_blank t.extents k) ≡ true
-  of_chunk t k regular = value_found test (is_at (chunk_cmp k)) t.extents (replicate 256 absent) regular blank
+  of_chunk t k regular = value_found test (is_at (chunk_cmp k)) t.extents (replicate 256 absent_homes) regular blank
 
   chunk_put : (t : Tables) (k : Chunk) (w : List Homes) → AreOnRegular es t → test w ≡ true → first_wrong (is_regular_chunk es) (with_chunk t.extents k w) ≡ None
   chunk_put t k w regular ok = value_put test chunk_cmp t.extents k w regular ok
@@ -109,9 +109,9 @@ moving_keeps es t f i copy h regular ok = by (is_some (chunk_at t.extents (f, i 
   homes : are_on_regular es (homes_moved t f i copy h) ≡ true
   homes = all_set (is_on_regular es) (homes_at t f i) copy (Some h) (at_all (are_on_regular es) (unwrap_or (chunk_at t.extents (f, i / 256)) []) (i % 256) [] had refl) ok
 
-  by : (b : Bool) → first_wrong (is_regular_chunk es) (cond b (set_value (is_at (chunk_cmp (f, i / 256))) t.extents (slice_set (unwrap_or (chunk_at t.extents (f, i / 256)) []) (i % 256) (homes_moved t f i copy h))) (with_chunk t.extents (f, i / 256) (slice_set (replicate 256 absent) (i % 256) (homes_moved t f i copy h)))) ≡ None
+  by : (b : Bool) → first_wrong (is_regular_chunk es) (cond b (set_value (is_at (chunk_cmp (f, i / 256))) t.extents (slice_set (unwrap_or (chunk_at t.extents (f, i / 256)) []) (i % 256) (homes_moved t f i copy h))) (with_chunk t.extents (f, i / 256) (slice_set (replicate 256 absent_homes) (i % 256) (homes_moved t f i copy h)))) ≡ None
   by true = value_set (test es) (is_at (chunk_cmp (f, i / 256))) t.extents (slice_set (unwrap_or (chunk_at t.extents (f, i / 256)) []) (i % 256) (homes_moved t f i copy h)) regular (all_set (are_on_regular es) (unwrap_or (chunk_at t.extents (f, i / 256)) []) (i % 256) (homes_moved t f i copy h) had homes)
-  by false = chunk_put es t (f, i / 256) (slice_set (replicate 256 absent) (i % 256) (homes_moved t f i copy h)) regular (all_set (are_on_regular es) (replicate 256 absent) (i % 256) (homes_moved t f i copy h) (blank es) homes)
+  by false = chunk_put es t (f, i / 256) (slice_set (replicate 256 absent_homes) (i % 256) (homes_moved t f i copy h)) regular (all_set (are_on_regular es) (replicate 256 absent_homes) (i % 256) (homes_moved t f i copy h) (blank es) homes)
 
 pub cutting_keeps : CuttingKeepsRegular
 cutting_keeps es t f n kept regular = by (eqb kept 0) where
@@ -122,7 +122,7 @@ cutting_keeps es t f n kept regular = by (eqb kept 0) where
   fewer =
       let base = chunk_or_blank t.extents (f, n) in
       chunk_put es t (f, n) (cut_to kept base) regular
-      (all_joined (are_on_regular es) (take kept base) (drop kept (replicate 256 absent)) (all_first (are_on_regular es) kept base (of_chunk es t (f, n) regular)) (all_later (are_on_regular es) kept (replicate 256 absent) (blank es)))
+      (all_joined (are_on_regular es) (take kept base) (drop kept (replicate 256 absent_homes)) (all_first (are_on_regular es) kept base (of_chunk es t (f, n) regular)) (all_later (are_on_regular es) kept (replicate 256 absent_homes) (blank es)))
 
   by : (b : Bool) → AreOnRegular es (cond b (with_released t f n) (with_fewer t f n kept))
   by true = whole
@@ -166,7 +166,7 @@ module _ (es : List Entry) where
   extent_copies f i count [] ok = refl
   extent_copies f i count (hs ∷ xs) ok =
       let p = and_parts (are_on_regular es hs) (list_all (are_on_regular es) xs) ok in
-      by (has_home hs) (all_joined stands (copies_at f i hs 0 count) (copies_from f (suc i) count xs) (some_copies f i hs 0 count p.0) (extent_copies f (suc i) count xs p.1)) (extent_copies f (suc i) count xs p.1) where
+      by (has_any_home hs) (all_joined stands (copies_at f i hs 0 count) (copies_from f (suc i) count xs) (some_copies f i hs 0 count p.0) (extent_copies f (suc i) count xs p.1)) (extent_copies f (suc i) count xs p.1) where
         by : (b : Bool) → list_all stands (copies_at f i hs 0 count ++ copies_from f (suc i) count xs) ≡ true → list_all stands (copies_from f (suc i) count xs) ≡ true
             → list_all stands (cond b (copies_at f i hs 0 count ++ copies_from f (suc i) count xs) (copies_from f (suc i) count xs)) ≡ true
         by true here later = here

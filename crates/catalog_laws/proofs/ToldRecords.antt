@@ -5,10 +5,10 @@ use Rattle.std.specs.List.{AllByRecursion}
 use Rattle.std.specs.Option.{is_some, option_map}
 use Rattle.std.proofs.lemmas.Option.{none-some}
 use Rattle.asm_formats.specs.Among.{IsAmong}
-use Rattle.asm_formats.specs.Items.{Item, Key, key}
+use Rattle.asm_formats.specs.Items.{Item, Key, item_key}
 use Rattle.asm_formats.specs.Values.{decoded_item, value}
 use Rattle.asm_formats.proofs.ItemReading.{item_spelled}
-use Rattle.catalog.specs.asm_base.Records.{Entry, key_cmp, record_at}
+use Rattle.catalog.specs.asm_base.Records.{DirectoryRecord, key_cmp, record_at}
 use Rattle.catalog.specs.asm_base.Tables.{item_record}
 use Rattle.catalog.specs.catalog_tables.Items.{RecordsAreTold}
 use Rattle.catalog.specs.catalog_tables.Tables.{AreTables, HasRecords, Tables, first_unreadable, is_record, item_at, records_of}
@@ -16,7 +16,7 @@ use Rattle.catalog.proofs.MarkPlans.{some_of}
 use Rattle.catalog.proofs.catalog_tables.TableItems.{found_is, is_of, key_total, keys_exact, recorded, said, says, some_found}
 
 -- where none is unreadable, each can be read
-readable : (content : List Entry) (e : Entry) → first_unreadable content ≡ None → IsAmong content e → is_record e ≡ true
+readable : (content : List DirectoryRecord) (e : DirectoryRecord) → first_unreadable content ≡ None → IsAmong content e → is_record e ≡ true
 readable [] e none among = absurd among
 readable (x ∷ content) e none among = by (is_record x) refl (readable content e) where
   by : (b : Bool) → is_record x ≡ b → (first_unreadable content ≡ None → IsAmong content e → is_record e ≡ true) → is_record e ≡ true
@@ -29,12 +29,12 @@ records_told content t a has k = by (record_at content k) refl (item_at t k) ref
   by None none None nothing = refl
   by None none (Some i) there =
       let s = said t k i there in
-      let found = some_found key_cmp key_total keys_exact content (key i) (value i) (recorded content t i has s.0) in
+      let found = some_found key_cmp key_total keys_exact content (item_key i) (value i) (recorded content t i has s.0) in
       absurd (none-some found.0 (sym none ∙ (ap (record_at content) (sym s.1) ∙ found.1)))
   by (Some v) some o there =
       let among = found_is key_cmp key_total keys_exact k content v some in
       let i = some_of (decoded_item k v) (readable content (k, v) has.all among) in
       let spelled = item_spelled k v i.0 i.1 in
-      let own : IsAmong content (item_record i.0) = subst (λ (e : Entry). IsAmong content e) (λ j. (sym spelled.key_is j, spelled.same j)) among in
+      let own : IsAmong content (item_record i.0) = subst (λ (e : DirectoryRecord). IsAmong content e) (λ j. (sym spelled.key_is j, spelled.same j)) among in
       let at : item_at t k ≡ Some i.0 = ap (item_at t) (sym spelled.key_is) ∙ says t i.0 a (is_of content t i.0 a has spelled.allowed own) in
       ap (option_map value) (sym there ∙ at) ∙ ap (λ (w : List ℕ). Some w) (sym spelled.same)

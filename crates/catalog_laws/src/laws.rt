@@ -3,7 +3,7 @@
 ghost use Rattle.std.specs.Prelude.{List as Items};
 ghost use Rattle.asm_formats.specs.Items.{Key};
 ghost use Rattle.asm_formats.specs.Status.{Entry as StatusEntry};
-ghost use Rattle.catalog.specs.asm_base.Records.{Entry};
+ghost use Rattle.catalog.specs.asm_base.Records.{DirectoryRecord};
 ghost use Rattle.catalog_laws.specs.Blocks.{BlocksAreCounted, PlansHaveRoom};
 ghost use Rattle.catalog.specs.catalog_tables.Tables.{Catalogued};
 ghost use Rattle.catalog.specs.catalog_tables.Faults.{IsAtFault, IsCatalogOf};
@@ -16,7 +16,7 @@ ghost use Rattle.catalog_laws.specs.RegularHomes.{AppendingKeepsRegular, CopiesA
 
 /// Where a record is at fault, no value is a catalog of the records.
 pub fn a_fault_leaves_no_catalog()
-    ensures { (content : Items Entry) (es : Items StatusEntry) (c : Catalogued) (k : Key) → IsAtFault content c.shape es k → ¬ IsCatalogOf content es c }
+    ensures { (content : Items DirectoryRecord) (es : Items StatusEntry) (c : Catalogued) (k : Key) → IsAtFault content c.shape es k → ¬ IsCatalogOf content es c }
 {}
 
 /// All tables have items, and these are one list only.

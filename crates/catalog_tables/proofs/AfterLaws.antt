@@ -4,7 +4,7 @@ use Rattle.std.specs.Prelude.{◌||◌, Result, Ok, Err, OnOk}
 use Rattle.std.proofs.Math.Seq.{drop-cons}
 use Rattle.std.proofs.lemmas.Bool.{true≢false}
 use Rattle.asm_formats.specs.Items.{Key}
-use Rattle.asm_base.specs.Records.{Entry, is_key}
+use Rattle.asm_base.specs.Records.{DirectoryRecord, is_key}
 use Rattle.page_map.specs.Changes.{is_gone, is_put, last_put, value_after}
 use Rattle.page_map.proofs.Changing.{last_put_any}
 use Rattle.alias_tree.specs.Nodes.{KeepsRule}
@@ -32,28 +32,28 @@ neither false b e = (refl, e)
 
 -- ---- nodes that make room
 
-abbrev pub Forgets : List Entry → ℕ → Tables → Tables → Type 0
+abbrev pub Forgets : List DirectoryRecord → ℕ → Tables → Tables → Type 0
 Forgets put i t u = (k : Key) → is_put put k ≡ false → (is_put (drop i put) k ≡ false) × (records_of u k ≡ records_of t k)
 
-pub forget_more : (put : List Entry) (i : ℕ) (e : Entry) (t mid new : Tables) → i < length put → e ≡ get_or put i e → Forgets put i t mid
+pub forget_more : (put : List DirectoryRecord) (i : ℕ) (e : DirectoryRecord) (t mid new : Tables) → i < length put → e ≡ get_or put i e → Forgets put i t mid
     → ((k : Key) → is_key e.0 k ≡ false → records_of new k ≡ records_of mid k) → Forgets put (i + 1) t new
 forget_more put i e t mid new less is before others k none =
     let o = before k none in
-    let p = neither (is_key e.0 k) (is_put (drop (i + 1) put) k) (subst (λ (es : List Entry). is_put es k ≡ false) (next put i e less is) o.0) in
+    let p = neither (is_key e.0 k) (is_put (drop (i + 1) put) k) (subst (λ (es : List DirectoryRecord). is_put es k ≡ false) (next put i e less is) o.0) in
     (p.1, others k p.0 ∙ o.1)
 
 -- ---- records that are put
 
-abbrev pub Puts : List Entry → ℕ → Tables → Tables → Type 0
+abbrev pub Puts : List DirectoryRecord → ℕ → Tables → Tables → Type 0
 Puts put i t u = (k : Key) → last_put (drop i put) k (records_of u k) ≡ last_put put k (records_of t k)
 
-pub put_more : (put : List Entry) (i : ℕ) (e : Entry) (t mid new : Tables) → i < length put → e ≡ get_or put i e → Puts put i t mid → Sets mid new e.0 (Some e.1) → Puts put (i + 1) t new
+pub put_more : (put : List DirectoryRecord) (i : ℕ) (e : DirectoryRecord) (t mid new : Tables) → i < length put → e ≡ get_or put i e → Puts put i t mid → Sets mid new e.0 (Some e.1) → Puts put (i + 1) t new
 put_more put i e t mid new less is before sets k =
     ap (λ (r : Option (List ℕ)). last_put (drop (i + 1) put) k r) (sets k)
-    ∙ subst (λ (es : List Entry). last_put es k (records_of mid k) ≡ last_put put k (records_of t k)) (next put i e less is) (before k)
+    ∙ subst (λ (es : List DirectoryRecord). last_put es k (records_of mid k) ≡ last_put put k (records_of t k)) (next put i e less is) (before k)
 
-pub put_end : (put : List Entry) (i : ℕ) (t u : Tables) → length put ≤ i → Puts put i t u → (k : Key) → records_of u k ≡ last_put put k (records_of t k)
-put_end put i t u le before k = subst (λ (es : List Entry). last_put es k (records_of u k) ≡ last_put put k (records_of t k)) (past_all put i le) (before k)
+pub put_end : (put : List DirectoryRecord) (i : ℕ) (t u : Tables) → length put ≤ i → Puts put i t u → (k : Key) → records_of u k ≡ last_put put k (records_of t k)
+put_end put i t u le before k = subst (λ (es : List DirectoryRecord). last_put es k (records_of u k) ≡ last_put put k (records_of t k)) (past_all put i le) (before k)
 
 -- ---- keys that go
 
@@ -76,7 +76,7 @@ gone_end gone i t u le before k = subst (λ (js : List Key). cond (is_gone js k)
 
 -- ---- the whole change
 
-after_is : (put : List Entry) (gone : List Key) (t room full new : Tables) → ((k : Key) → is_put put k ≡ false → records_of room k ≡ records_of t k)
+after_is : (put : List DirectoryRecord) (gone : List Key) (t room full new : Tables) → ((k : Key) → is_put put k ≡ false → records_of room k ≡ records_of t k)
     → ((k : Key) → records_of full k ≡ last_put put k (records_of room k)) → ((k : Key) → records_of new k ≡ cond (is_gone gone k) None (records_of full k))
     → (k : Key) → records_of new k ≡ value_after put gone k (records_of t k)
 after_is put gone t room full new others puts goes k =
@@ -85,7 +85,7 @@ after_is put gone t room full new others puts goes k =
       | inr none ↦ ap (λ (r : Option (List ℕ)). last_put put k r) (others k none)
     ])
 
-pub after_is_ok : {E : Type 0} (r : Result (Unit {0}) E) (put : List Entry) (gone : List Key) (t room full new : Tables) → ((k : Key) → is_put put k ≡ false → records_of room k ≡ records_of t k)
+pub after_is_ok : {E : Type 0} (r : Result (Unit {0}) E) (put : List DirectoryRecord) (gone : List Key) (t room full new : Tables) → ((k : Key) → is_put put k ≡ false → records_of room k ≡ records_of t k)
     → ((k : Key) → records_of full k ≡ last_put put k (records_of room k)) → OnOk r ((k : Key) → records_of new k ≡ cond (is_gone gone k) None (records_of full k))
     → OnOk r ((k : Key) → records_of new k ≡ value_after put gone k (records_of t k))
 after_is_ok (Ok x) put gone t room full new others puts goes = after_is put gone t room full new others puts goes
@@ -94,22 +94,22 @@ after_is_ok (Err e) put gone t room full new others puts goes = tt
 -- ---- one change leaves one set of tables
 
 -- the tables give at each key what the change leaves there
-abbrev pub After : Tables → List Entry → List Key → Tables → Type 0
+abbrev pub After : Tables → List DirectoryRecord → List Key → Tables → Type 0
 After t put gone v = (k : Key) → records_of v k ≡ value_after put gone k (records_of t k)
 
 items_of : (t : Tables) → AreTables t → AreItemTables t
 items_of t a = record { files = a.files; extents = a.extents.0; nodes = a.nodes.items; templates = a.templates; stale = a.stale; operations = a.operations; disks = a.disks }
 
 -- what gives at each key what the tables after the change give is those tables
-pub is_after : (t u v : Tables) (put : List Entry) (gone : List Key) → IsAfter t put gone u → AreItemTables v → ((k : Key) → records_of v k ≡ value_after put gone k (records_of t k)) → u ≡ v
+pub is_after : (t u v : Tables) (put : List DirectoryRecord) (gone : List Key) → IsAfter t put gone u → AreItemTables v → ((k : Key) → records_of v k ≡ value_after put gone k (records_of t k)) → u ≡ v
 is_after t u v put gone after items same = same_tables u v (items_of u after.tables) items (λ k. after.records k ∙ sym (same k))
 
-pub one_after : (t u v : Tables) (put : List Entry) (gone : List Key) → IsAfter t put gone u → IsAfter t put gone v → u ≡ v
+pub one_after : (t u v : Tables) (put : List DirectoryRecord) (gone : List Key) → IsAfter t put gone u → IsAfter t put gone v → u ≡ v
 one_after t u v put gone a b = is_after t u v put gone a (items_of v b.tables) b.records
 
 -- the nodes of the tables after the change keep the tree's rule
-pub after_rule : (t v : Tables) (put : List Entry) (gone : List Key) → (u : Tables) × IsAfter t put gone u → AreItemTables v → ((k : Key) → records_of v k ≡ value_after put gone k (records_of t k)) → KeepsRule v.nodes
+pub after_rule : (t v : Tables) (put : List DirectoryRecord) (gone : List Key) → (u : Tables) × IsAfter t put gone u → AreItemTables v → ((k : Key) → records_of v k ≡ value_after put gone k (records_of t k)) → KeepsRule v.nodes
 after_rule t v put gone after items same = subst (λ (x : Tables). KeepsRule x.nodes) (is_after t after.0 v put gone after.1 items same) after.1.tables.nodes.rule
 
-pub after_tables : (t v : Tables) (put : List Entry) (gone : List Key) → (u : Tables) × IsAfter t put gone u → AreItemTables v → ((k : Key) → records_of v k ≡ value_after put gone k (records_of t k)) → IsAfter t put gone v
+pub after_tables : (t v : Tables) (put : List DirectoryRecord) (gone : List Key) → (u : Tables) × IsAfter t put gone u → AreItemTables v → ((k : Key) → records_of v k ≡ value_after put gone k (records_of t k)) → IsAfter t put gone v
 after_tables t v put gone after items same = subst (λ (x : Tables). IsAfter t put gone x) (is_after t after.0 v put gone after.1 items same) after.1

@@ -7,7 +7,7 @@ use Rattle.asm_formats.specs.Items.{Key}
 use Rattle.asm_formats.specs.Status as status
 use Rattle.asm_base.proofs.Exact.{some_is}
 use Rattle.page_map.specs.allocator.UnitMaps.{UnitMap}
-use Rattle.extent_map.specs.Extents.{Chunked, IsNumbered, IsTable}
+use Rattle.extent_map.specs.Extents.{Chunked, IsNumbered, IsExtentTable}
 use Rattle.asm_base.specs.Chunks.{Chunk}
 use Rattle.extent_map.proofs.Laws.{table_numbered}
 use Rattle.catalog_tables.specs.Tables.{AreTables, Tables}
@@ -101,7 +101,7 @@ fault_numbered t at are (inr (inl e)) = first_numbered (is_owned t) t.extents at
 fault_numbered t at are (inr (inr (inl e))) = first_numbered (keeps_copies t) t.extents at (table_numbered t.extents are.extents) e
 fault_numbered t at are (inr (inr (inr e))) = first_numbered is_on_disks t.extents at (table_numbered t.extents are.extents) e
 
-pub quorum_numbered : (es : List status.Entry) (t : Tables) (at : Chunk) → IsTable t.extents → first_wrong (is_regular_chunk es) t.extents ≡ Some at → at.1 + 1 < 2 ^ 32
+pub quorum_numbered : (es : List status.Entry) (t : Tables) (at : Chunk) → IsExtentTable t.extents → first_wrong (is_regular_chunk es) t.extents ≡ Some at → at.1 + 1 < 2 ^ 32
 quorum_numbered es t at table e = first_numbered (is_regular_chunk es) t.extents at (table_numbered t.extents table) e
 
 placed_numbered : (step : ℕ) (xs : List Chunked) (ms : List UnitMap) (at : Chunk) → AllByRecursion IsNumbered xs → misplaced step ms xs ≡ Some at → at.1 + 1 < 2 ^ 32
@@ -112,5 +112,5 @@ placed_numbered step (x ∷ xs) ms at all e = by (after_homes ms (homes_of step 
   by None is rest = subst (λ (c : Chunk). c.1 + 1 < 2 ^ 32) (some_is x.0 at (rw is at e)) all.0
   by (Some next) is rest = rest next (rw is at e)
 
-pub misplaced_numbered : (step : ℕ) (xs : List Chunked) (ms : List UnitMap) (at : Chunk) → IsTable xs → misplaced step ms xs ≡ Some at → at.1 + 1 < 2 ^ 32
+pub misplaced_numbered : (step : ℕ) (xs : List Chunked) (ms : List UnitMap) (at : Chunk) → IsExtentTable xs → misplaced step ms xs ≡ Some at → at.1 + 1 < 2 ^ 32
 misplaced_numbered step xs ms at table e = placed_numbered step xs ms at (table_numbered xs table) e

@@ -9,7 +9,7 @@ use Rattle.std.proofs.Common.{cond}
 use Rattle.partnership.specs.asm_placement.Layout.{IsLayout}
 use Rattle.extent_map.specs.Extents.{Chunked, HasCount, chunk_at, extent_at, has_extent, has_home}
 use Rattle.catalog_tables.specs.Tables.{Tables}
-use Rattle.catalog_tables.specs.Rules.{HasExtents, LacksExtent, has_copies, is_due}
+use Rattle.catalog_tables.specs.Rules.{HasExtents, LacksExtent, has_copies, head_has_extent}
 
 shape_layout : (s : Shape) → is_shape s ≡ true → IsLayout s.au s.step
 unfolding is_shape
@@ -42,7 +42,7 @@ not_counted table f n count = elim (either (has_extent table f n)) [
 ]
 
 abbrev IsDueBelow : Shape → FileHead → ℕ → Type 0
-IsDueBelow s head due = (i : ℕ) → (i < due) ↔ (is_due s head i ≡ true)
+IsDueBelow s head due = (i : ℕ) → (i < due) ↔ (head_has_extent s head i ≡ true)
 
 -- a file that has by its size more extents than there are lacks the first that isn't there
 pub lacks_at : (t : Tables) (s : Shape) (f : ℕ) (head : FileHead) (due n : ℕ) → IsDueBelow s head due → HasCount t.extents f n → n < due → LacksExtent t s (f, head)

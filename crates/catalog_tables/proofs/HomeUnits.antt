@@ -22,7 +22,7 @@ use Rattle.page_map.specs.allocator.UnitMaps.{UnitMap, is_free, unused, used_of,
 use Rattle.page_map.proofs.allocator.Maps.{count_replaced}
 use Rattle.asm_base.proofs.Exact.{bind_some, some_is}
 use Rattle.extent_map.specs.Extents.{Chunked}
-use Rattle.catalog_tables.specs.Placing.{after_chunks, after_homes, disk_units, home_taken, homes_of, is_run_free, marked, unused_maps}
+use Rattle.catalog_tables.specs.Placing.{after_chunks, after_homes, disk_units, home_taken, homes_of, is_run_free, with_used_run, unused_maps}
 use Rattle.catalog_tables.proofs.PlacingLaws.{after_append, run_is}
 
 -- ---- a map with a run used
@@ -151,7 +151,7 @@ pub record Takes (ms next : List UnitMap) (h : Home) (n : ℕ) : Type 0 where
 
 pub takes : (ms next : List UnitMap) (h : Home) (n : ℕ) → home_taken ms h n ≡ Some next → Takes ms next h n
 takes ms next h n e = by (slice_get ms h.disk) refl e where
-  by : (o : Option UnitMap) → slice_get ms h.disk ≡ o → option_and_then (λ m. Some (slice_set ms h.disk m)) (marked o h.unit n) ≡ Some next → Takes ms next h n
+  by : (o : Option UnitMap) → slice_get ms h.disk ≡ o → option_and_then (λ m. Some (slice_set ms h.disk m)) (with_used_run o h.unit n) ≡ Some next → Takes ms next h n
   by None is e = absurd (none-some next e)
   by (Some m) is e = in_map (is_run_free m h.unit n) refl e where
     in_map : (b : Bool) → is_run_free m h.unit n ≡ b → option_and_then (λ x. Some (slice_set ms h.disk x)) (cond b (Some (with_run m h.unit n true)) None) ≡ Some next → Takes ms next h n

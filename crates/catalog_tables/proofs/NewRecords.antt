@@ -3,7 +3,7 @@ use Rattle.std.proofs.Common.{◌≡◌, ◌<◌, ◌≤◌, ◌+◌, ◌-◌, �
 use Rattle.std.specs.Prelude.{◌&&◌, not}
 use Rattle.std.proofs.lemmas.Bool.{ne_eqb, true≢false}
 use Rattle.asm_formats.specs.Items.{DiskInfo, FileHead, Homes, Node}
-use Rattle.asm_base.specs.Records.{Entry}
+use Rattle.asm_base.specs.Records.{DirectoryRecord}
 use Rattle.page_map.specs.Changes.{is_put}
 use Rattle.page_map.specs.Tables.{one_if}
 use Rattle.file_directory.specs.Files.{head_at}
@@ -65,7 +65,7 @@ no_disk t d lacks = by (info_at t.disks d) refl where
 
 -- ---- how many are new
 
-old_first : (t : Tables) (e : Entry) (es : List Entry) → lacks_record t e.0 ≡ false → new_records t (e ∷ es) ≡ new_records t es
+old_first : (t : Tables) (e : DirectoryRecord) (es : List DirectoryRecord) → lacks_record t e.0 ≡ false → new_records t (e ∷ es) ≡ new_records t es
 old_first t e es old =
     let none : one_if (lacks_record t e.0 && not (is_put es e.0)) ≡ 0 = ap (λ (b : Bool). one_if (b && not (is_put es e.0))) old in
     omega (arith, none)
@@ -74,10 +74,10 @@ at_most_one : (b : Bool) → one_if b ≤ 1
 at_most_one true = omega arith
 at_most_one false = omega arith
 
-any_first : (t : Tables) (e : Entry) (es : List Entry) → new_records t (e ∷ es) ≤ 1 + new_records t es
+any_first : (t : Tables) (e : DirectoryRecord) (es : List DirectoryRecord) → new_records t (e ∷ es) ≤ 1 + new_records t es
 any_first t e es = let one = at_most_one (lacks_record t e.0 && not (is_put es e.0)) in omega (arith, one)
 
-pub at_most : (t : Tables) (es : List Entry) → new_records t es ≤ length es
+pub at_most : (t : Tables) (es : List DirectoryRecord) → new_records t es ≤ length es
 at_most t [] = omega arith
 at_most t (e ∷ es) =
     let rest = at_most t es in
@@ -85,7 +85,7 @@ at_most t (e ∷ es) =
     omega (arith, rest, one)
 
 -- the last of them isn't new
-old_last : (t : Tables) (es : List Entry) (e : Entry) → lacks_record t e.0 ≡ false → new_records t (es ++ e ∷ []) ≤ length es
+old_last : (t : Tables) (es : List DirectoryRecord) (e : DirectoryRecord) → lacks_record t e.0 ≡ false → new_records t (es ++ e ∷ []) ≤ length es
 old_last t [] e old = let none = old_first t e [] old in omega (arith, none)
 old_last t (x ∷ es) e old =
     let rest = old_last t es e old in
@@ -94,19 +94,19 @@ old_last t (x ∷ es) e old =
 
 -- ---- blocks for them
 
-abbrev pub HasRoom : Catalogued → List Entry → Type 0
+abbrev pub HasRoom : Catalogued → List DirectoryRecord → Type 0
 HasRoom c put = new_records c.tables put + blocks_used c.tables + 2 ≤ c.shape.dir_blocks
 
 pub nothing_room : (c : Catalogued) → IsCatalog c → HasRoom c []
 nothing_room c is = let room = is.rules.room in omega (arith, room)
 
-pub old_room : (c : Catalogued) (e : Entry) → IsCatalog c → lacks_record c.tables e.0 ≡ false → HasRoom c (e ∷ [])
+pub old_room : (c : Catalogued) (e : DirectoryRecord) → IsCatalog c → lacks_record c.tables e.0 ≡ false → HasRoom c (e ∷ [])
 old_room c e is old =
     let none = old_first c.tables e [] old in
     let room = is.rules.room in
     omega (arith, none, room)
 
-pub two_old_room : (c : Catalogued) (e g : Entry) → IsCatalog c → lacks_record c.tables e.0 ≡ false → lacks_record c.tables g.0 ≡ false → HasRoom c (e ∷ g ∷ [])
+pub two_old_room : (c : Catalogued) (e g : DirectoryRecord) → IsCatalog c → lacks_record c.tables e.0 ≡ false → lacks_record c.tables g.0 ≡ false → HasRoom c (e ∷ g ∷ [])
 two_old_room c e g is old older =
     let first = old_first c.tables e (g ∷ []) old in
     let none = old_first c.tables g [] older in
@@ -114,7 +114,7 @@ two_old_room c e g is old older =
     omega (arith, first, none, room)
 
 -- a record that may be new
-pub one_room : (c : Catalogued) (e : Entry) → IsCatalog c → (lacks_record c.tables e.0 ≡ true → blocks_used c.tables + 2 < c.shape.dir_blocks) → HasRoom c (e ∷ [])
+pub one_room : (c : Catalogued) (e : DirectoryRecord) → IsCatalog c → (lacks_record c.tables e.0 ≡ true → blocks_used c.tables + 2 < c.shape.dir_blocks) → HasRoom c (e ∷ [])
 one_room c e is room = by (lacks_record c.tables e.0) refl where
   by : (b : Bool) → lacks_record c.tables e.0 ≡ b → HasRoom c (e ∷ [])
   by true new =
@@ -124,18 +124,18 @@ one_room c e is room = by (lacks_record c.tables e.0) refl where
   by false old = old_room c e is old
 
 -- a new record, and one that isn't
-pub first_room : (c : Catalogued) (e g : Entry) → blocks_used c.tables + 2 < c.shape.dir_blocks → lacks_record c.tables g.0 ≡ false → HasRoom c (e ∷ g ∷ [])
+pub first_room : (c : Catalogued) (e g : DirectoryRecord) → blocks_used c.tables + 2 < c.shape.dir_blocks → lacks_record c.tables g.0 ≡ false → HasRoom c (e ∷ g ∷ [])
 first_room c e g room old =
     let one = any_first c.tables e (g ∷ []) in
     let none = old_first c.tables g [] old in
     omega (arith, one, none, room)
 
 -- two records
-pub two_room : (c : Catalogued) (e g : Entry) → blocks_used c.tables + 4 ≤ c.shape.dir_blocks → HasRoom c (e ∷ g ∷ [])
+pub two_room : (c : Catalogued) (e g : DirectoryRecord) → blocks_used c.tables + 4 ≤ c.shape.dir_blocks → HasRoom c (e ∷ g ∷ [])
 two_room c e g room = let few = at_most c.tables (e ∷ g ∷ []) in omega (arith, few, room)
 
 -- records of which the last isn't new
-pub all_but_last : (c : Catalogued) (e : Entry) (es : List Entry) (g : Entry) → length es + 1 + (blocks_used c.tables + 2) ≤ c.shape.dir_blocks → lacks_record c.tables g.0 ≡ false → HasRoom c (e ∷ (es ++ g ∷ []))
+pub all_but_last : (c : Catalogued) (e : DirectoryRecord) (es : List DirectoryRecord) (g : DirectoryRecord) → length es + 1 + (blocks_used c.tables + 2) ≤ c.shape.dir_blocks → lacks_record c.tables g.0 ≡ false → HasRoom c (e ∷ (es ++ g ∷ []))
 all_but_last c e es g room old =
     let few = old_last c.tables es g old in
     let one = any_first c.tables e (es ++ g ∷ []) in

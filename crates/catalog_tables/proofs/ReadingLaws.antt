@@ -5,7 +5,7 @@ use Rattle.std.specs.List.{AllByRecursion}
 use Rattle.asm_group.specs.Shape.{Shape}
 use Rattle.asm_formats.specs.Items.{Key}
 use Rattle.asm_formats.specs.Status as status
-use Rattle.asm_base.specs.Records.{Entry, record_at}
+use Rattle.asm_base.specs.Records.{DirectoryRecord, record_at}
 use Rattle.asm_base.proofs.Exact.{some_is}
 use Rattle.extent_map.specs.Extents.{Chunked, IsNumbered, opened, stands_at}
 use Rattle.asm_base.specs.Chunks.{Chunk}
@@ -17,17 +17,17 @@ use Rattle.catalog_tables.specs.Faults.{IsAtFault, IsGap, IsLoose, IsNeeded, Nam
 use Rattle.catalog_tables.specs.Faults as fault
 use Rattle.catalog_tables.specs.declared.error.CatalogError.TheVariants as answer
 
-pub unreadable_at : (content : List Entry) (s : Shape) (es : List status.Entry) (k : Key) → first_unreadable content ≡ Some k → IsAtFault content s es k
+pub unreadable_at : (content : List DirectoryRecord) (s : Shape) (es : List status.Entry) (k : Key) → first_unreadable content ≡ Some k → IsAtFault content s es k
 unreadable_at content s es k e = fault.unreadable e
 
-pub absent_at : (content : List Entry) (s : Shape) (es : List status.Entry) (k : Key) → (record_at content k ≡ None) × IsNeeded k → IsAtFault content s es k
-absent_at content s es k e = fault.absent e.0 e.1
+pub absent_at : (content : List DirectoryRecord) (s : Shape) (es : List status.Entry) (k : Key) → (record_at content k ≡ None) × IsNeeded k → IsAtFault content s es k
+absent_at content s es k e = fault.missing_record e.0 e.1
 
-pub gap_at : (content : List Entry) (e : CatalogError) → NamesFault (IsGap content) e → (s : Shape) (es : List status.Entry) → NamesFault (IsAtFault content s es) e
-gap_at content (answer.Damaged k) g s es = fault.gap g.0 g.1 g.2
+pub gap_at : (content : List DirectoryRecord) (e : CatalogError) → NamesFault (IsGap content) e → (s : Shape) (es : List status.Entry) → NamesFault (IsAtFault content s es) e
+gap_at content (answer.Damaged k) g s es = fault.chunk_gap g.0 g.1 g.2
 gap_at content answer.NoMemory g s es = tt
 
-pub loose_at : (content : List Entry) (e : CatalogError) → NamesFault (IsLoose content) e → (s : Shape) (es : List status.Entry) → NamesFault (IsAtFault content s es) e
+pub loose_at : (content : List DirectoryRecord) (e : CatalogError) → NamesFault (IsLoose content) e → (s : Shape) (es : List status.Entry) → NamesFault (IsAtFault content s es) e
 loose_at content (answer.Damaged k) g s es = fault.loose_node g.0 g.1 g.2
 loose_at content answer.NoMemory g s es = tt
 
@@ -38,5 +38,5 @@ numbered_in past (x ∷ t) at all e = by (stands_at past x) refl (numbered_in (o
   by true is rest = rest (rw is at e)
   by false is rest = subst (λ (c : Chunk). c.1 + 1 < 2 ^ 32) (some_is x.0 at (rw is at e)) all.0
 
-pub gap_numbered : (content : List Entry) (at : Chunk) → HasGap content at → at.1 + 1 < 2 ^ 32
+pub gap_numbered : (content : List DirectoryRecord) (at : Chunk) → HasGap content at → at.1 + 1 < 2 ^ 32
 gap_numbered content at g = numbered_in None g.table at (all_numbered g.table g.items.1) g.gap

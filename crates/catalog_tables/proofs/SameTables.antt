@@ -13,7 +13,7 @@ use Rattle.std.specs.declared.cmp.Ordering.TheVariants.{Less, Equal, Greater}
 use Rattle.std.proofs.Math.Dec.{T}
 use Rattle.std.proofs.lemmas.Bool.{ne_eqb}
 use Rattle.std.proofs.lemmas.Cmp.{nat_cmp_total}
-use Rattle.asm_formats.specs.Items.{Item, Key, Homes, Pending as PendingOperation, chunk_item, disk_item, file_item, is_item, key, marks_item, node_item, pending_item, rebalance_item, settings_item, templates_item}
+use Rattle.asm_formats.specs.Items.{Item, Key, Homes, Pending as PendingOperation, chunk_item, disk_item, file_item, is_item, item_key, marks_item, node_item, pending_item, rebalance_item, settings_item, templates_item}
 use Rattle.asm_formats.specs.Values.{decoded_item, value}
 use Rattle.asm_formats.proofs.Bodies.{item_codec}
 use Rattle.asm_base.specs.Records.{Ascend}
@@ -21,7 +21,7 @@ use Rattle.asm_base.proofs.Exact.{some_is}
 use Rattle.asm_base.specs.Chunks as chunk_order
 use Rattle.asm_base.proofs.Chunks.{chunk_total, same_chunk}
 use Rattle.extent_map.specs.Changing as extents_changing
-use Rattle.operations_directory.specs.Operations.{IsTable as AreOperations, Operations}
+use Rattle.operations_directory.specs.Operations.{IsOperationTable as AreOperations, Operations}
 use Rattle.catalog_tables.specs.Changing.{AreItemTables}
 use Rattle.catalog_tables.specs.Tables.{Tables, item_at, records_of}
 
@@ -72,12 +72,12 @@ module _ {K X : Type 0} (R : K → K → Ordering) (order : IsTotalOrder R) wher
 
 -- ---- items
 
-same_item : (i j : Item) → is_item i ≡ true → is_item j ≡ true → key i ≡ key j → value i ≡ value j → i ≡ j
+same_item : (i j : Item) → is_item i ≡ true → is_item j ≡ true → item_key i ≡ item_key j → value i ≡ value j → i ≡ j
 same_item i j ok too at is =
-    some_is i j (sym (item_codec.again i ok) ∙ (ap (λ (k : Key). decoded_item k (value i)) at ∙ (ap (λ (v : List ℕ). decoded_item (key j) v) is ∙ item_codec.again j too)))
+    some_is i j (sym (item_codec.again i ok) ∙ (ap (λ (k : Key). decoded_item k (value i)) at ∙ (ap (λ (v : List ℕ). decoded_item (item_key j) v) is ∙ item_codec.again j too)))
 
 module _ {K X : Type 0} (R : K → K → Ordering) (order : IsTotalOrder R) (exact : (x y : K) → R x y ≡ Equal → x ≡ y) (item : K → X → Item)
-    (keys : (k : K) (v w : X) → key (item k v) ≡ key (item k w)) (one : (k : K) (v w : X) → item k v ≡ item k w → v ≡ w) where
+    (keys : (k : K) (v w : X) → item_key (item k v) ≡ item_key (item k w)) (one : (k : K) (v w : X) → item k v ≡ item k w → v ≡ w) where
   abbrev Items : List (K × X) → Type 0
   Items es = AllByRecursion (λ (x : K × X). IsTrue (is_item (item x.0 x.1))) es
 
@@ -115,7 +115,7 @@ same_files t u a b same =
     same_values nat_cmp nat_cmp_total nat_cmp-IsAntisymmetric file_item (λ k v w. refl) (λ k v w e. cc) t.files u.files a.files.0 a.files.1 b.files.0 b.files.1
     (λ f. same (record { kind = 1; a = f; b = 0 }))
 
-pub chunk_record : (t : Tables) (c : chunk_order.Chunk) → records_of t (record { kind = 1; a = c.0; b = c.1 + 1 }) ≡ extents_changing.value_at t.extents c
+pub chunk_record : (t : Tables) (c : chunk_order.Chunk) → records_of t (record { kind = 1; a = c.0; b = c.1 + 1 }) ≡ extents_changing.chunk_value_at t.extents c
 unfolding item_at
 chunk_record t c =
     let some : eqb (c.1 + 1) 0 ≡ false = ne_eqb (c.1 + 1) 0 (λ e. omega (arith, e)) in

@@ -14,7 +14,7 @@ use Rattle.asm_formats.specs.Values.{value}
 use Rattle.asm_base.specs.Records.{is_key}
 use Rattle.page_map.proofs.Keys.{key_itself, same_key}
 use Rattle.staleness_directory.proofs.item_table.Laws.{record_gone}
-use Rattle.file_directory.specs.Files.{File, head_at, item_of as item_of_file}
+use Rattle.file_directory.specs.Files.{NumberedFile, head_at, item_of_file_head as item_of_file}
 use Rattle.file_directory.specs.Changing as files
 use Rattle.extent_map.specs.Extents.{Chunked, chunk_key}
 use Rattle.asm_base.specs.Chunks.{Chunk, chunk_cmp}
@@ -98,35 +98,35 @@ same_is_key j k = one_test (is_same_key j k) (is_key j k)
 
 -- ---- what the tables give, by table
 
-at_file : (t : Tables) (k : Key) → k.kind ≡ 1 → k.b ≡ 0 → records_of t k ≡ files.value_at t.files k.a
+at_file : (t : Tables) (k : Key) → k.kind ≡ 1 → k.b ≡ 0 → records_of t k ≡ files.file_value_at t.files k.a
 unfolding item_at
 at_file t k kind b = rw (kind, b) refl
 
-at_chunk : (t : Tables) (k : Key) → k.kind ≡ 1 → eqb k.b 0 ≡ false → records_of t k ≡ extents.value_at t.extents (k.a, k.b - 1)
+at_chunk : (t : Tables) (k : Key) → k.kind ≡ 1 → eqb k.b 0 ≡ false → records_of t k ≡ extents.chunk_value_at t.extents (k.a, k.b - 1)
 unfolding item_at
 at_chunk t k kind b = rw (kind, b) refl
 
-at_disk : (t : Tables) (k : Key) → k.kind ≡ 2 → k.b ≡ 0 → records_of t k ≡ disks.value_at t.disks k.a
+at_disk : (t : Tables) (k : Key) → k.kind ≡ 2 → k.b ≡ 0 → records_of t k ≡ disks.disk_value_at t.disks k.a
 unfolding item_at
 at_disk t k kind b = rw (kind, b) refl
 
-at_operation : (t : Tables) (k : Key) → k.kind ≡ 4 → records_of t k ≡ operations.value_at t.operations k
+at_operation : (t : Tables) (k : Key) → k.kind ≡ 4 → records_of t k ≡ operations.operation_value_at t.operations k
 unfolding item_at
 at_operation t k kind = rw kind refl
 
-at_five : (t : Tables) (k : Key) → k.kind ≡ 5 → records_of t k ≡ templates.value_at t.templates k
+at_five : (t : Tables) (k : Key) → k.kind ≡ 5 → records_of t k ≡ templates.template_value_at t.templates k
 unfolding item_at
 at_five t k kind = rw kind refl
 
-at_nine : (t : Tables) (k : Key) → k.kind ≡ 9 → records_of t k ≡ templates.value_at t.templates k
+at_nine : (t : Tables) (k : Key) → k.kind ≡ 9 → records_of t k ≡ templates.template_value_at t.templates k
 unfolding item_at
 at_nine t k kind = rw kind refl
 
-at_node : (t : Tables) (k : Key) → k.kind ≡ 6 → k.b ≡ 0 → records_of t k ≡ nodes.value_at t.nodes k.a
+at_node : (t : Tables) (k : Key) → k.kind ≡ 6 → k.b ≡ 0 → records_of t k ≡ nodes.node_value_at t.nodes k.a
 unfolding item_at
 at_node t k kind b = rw (kind, b) refl
 
-at_marks : (t : Tables) (k : Key) → k.kind ≡ 12 → records_of t k ≡ stale.value_at t.stale (k.a, k.b)
+at_marks : (t : Tables) (k : Key) → k.kind ≡ 12 → records_of t k ≡ stale.marks_value_at t.stale (k.a, k.b)
 unfolding item_at
 at_marks t k kind = rw kind refl
 
@@ -178,15 +178,15 @@ is_chunk k = eqb k.kind 1 && not (eqb k.b 0)
 abbrev is_template : Key → Bool
 is_template k = eqb k.kind 5 || eqb k.kind 9
 
-files_stay : (t : Tables) (new : List File) (k : Key) → plain 1 k ≡ false → item_at (record t { files = new }) k ≡ item_at t k
+files_stay : (t : Tables) (new : List NumberedFile) (k : Key) → plain 1 k ≡ false → item_at (record t { files = new }) k ≡ item_at t k
 unfolding item_at
 files_stay t new k o = elim (either (eqb k.kind 1)) [
   | inl one ↦ let other : eqb k.b 0 ≡ false = rw one at o in rw (one, other) refl
   | inr other ↦ rw other refl
 ]
 
-pub files_set : (t : Tables) (new : List File) (key : Key) (v : Option (List ℕ)) → key.kind ≡ 1 → key.b ≡ 0
-    → ((f : ℕ) → files.value_at new f ≡ cond (is_at (nat_cmp key.a) f) v (files.value_at t.files f)) → Sets t (record t { files = new }) key v
+pub files_set : (t : Tables) (new : List NumberedFile) (key : Key) (v : Option (List ℕ)) → key.kind ≡ 1 → key.b ≡ 0
+    → ((f : ℕ) → files.file_value_at new f ≡ cond (is_at (nat_cmp key.a) f) v (files.file_value_at t.files f)) → Sets t (record t { files = new }) key v
 files_set t new key v kind b set = keyed t (record t { files = new }) key v (plain 1) (is_plain 1 key kind b) same (files_stay t new) where
   same : (k : Key) → plain 1 k ≡ true → records_of (record t { files = new }) k ≡ cond (is_key key k) v (records_of t k)
   same k m =
@@ -201,7 +201,7 @@ extents_stay t new k o = elim (either (eqb k.kind 1)) [
 ]
 
 pub extents_set : (t : Tables) (new : List Chunked) (f c : ℕ) (v : Option (List ℕ))
-    → ((x : Chunk) → extents.value_at new x ≡ cond (is_at (chunk_cmp (f, c)) x) v (extents.value_at t.extents x)) → Sets t (record t { extents = new }) (record { kind = 1; a = f; b = c + 1 }) v
+    → ((x : Chunk) → extents.chunk_value_at new x ≡ cond (is_at (chunk_cmp (f, c)) x) v (extents.chunk_value_at t.extents x)) → Sets t (record t { extents = new }) (record { kind = 1; a = f; b = c + 1 }) v
 extents_set t new f c v set = keyed t (record t { extents = new }) (record { kind = 1; a = f; b = c + 1 }) v is_chunk (both_true (eqb 1 1) (not (eqb (c + 1) 0)) refl (ap not (ne_eqb (c + 1) 0 (λ e. omega (arith, e))))) same (extents_stay t new) where
   same : (k : Key) → is_chunk k ≡ true → records_of (record t { extents = new }) k ≡ cond (is_key (record { kind = 1; a = f; b = c + 1 }) k) v (records_of t k)
   same k m =
@@ -222,7 +222,7 @@ disks_stay t new k o = elim (either (eqb k.kind 1)) [
 ]
 
 pub disks_set : (t : Tables) (new : List disks.Disk) (key : Key) (v : Option (List ℕ)) → key.kind ≡ 2 → key.b ≡ 0
-    → ((d : ℕ) → disks.value_at new d ≡ cond (is_at (nat_cmp key.a) d) v (disks.value_at t.disks d)) → Sets t (record t { disks = new }) key v
+    → ((d : ℕ) → disks.disk_value_at new d ≡ cond (is_at (nat_cmp key.a) d) v (disks.disk_value_at t.disks d)) → Sets t (record t { disks = new }) key v
 disks_set t new key v kind b set = keyed t (record t { disks = new }) key v (plain 2) (is_plain 2 key kind b) same (disks_stay t new) where
   same : (k : Key) → plain 2 k ≡ true → records_of (record t { disks = new }) k ≡ cond (is_key key k) v (records_of t k)
   same k m =
@@ -234,7 +234,7 @@ unfolding item_at
 operations_stay t new k o = rw o refl
 
 pub operations_set : (t : Tables) (new : Operations) (key : Key) (v : Option (List ℕ)) → key.kind ≡ 4
-    → ((k : Key) → k.kind ≡ 4 → operations.value_at new k ≡ cond (is_same_key key k) v (operations.value_at t.operations k)) → Sets t (record t { operations = new }) key v
+    → ((k : Key) → k.kind ≡ 4 → operations.operation_value_at new k ≡ cond (is_same_key key k) v (operations.operation_value_at t.operations k)) → Sets t (record t { operations = new }) key v
 operations_set t new key v kind set = keyed t (record t { operations = new }) key v (λ k. eqb k.kind 4) (eq-eqb key.kind 4 kind) same (operations_stay t new) where
   same : (k : Key) → eqb k.kind 4 ≡ true → records_of (record t { operations = new }) k ≡ cond (is_key key k) v (records_of t k)
   same k m =
@@ -249,7 +249,7 @@ templates_stay t new k o = elim (either (eqb k.kind 5)) [
 ]
 
 pub templates_set : (t : Tables) (new : Table) (key : Key) (v : Option (List ℕ)) → (eqb key.kind 5 || eqb key.kind 9) ≡ true
-    → ((k : Key) → templates.value_at new k ≡ cond (is_same_key key k) v (templates.value_at t.templates k)) → Sets t (record t { templates = new }) key v
+    → ((k : Key) → templates.template_value_at new k ≡ cond (is_same_key key k) v (templates.template_value_at t.templates k)) → Sets t (record t { templates = new }) key v
 templates_set t new key v kind set = keyed t (record t { templates = new }) key v is_template kind same (templates_stay t new) where
   same : (k : Key) → is_template k ≡ true → records_of (record t { templates = new }) k ≡ cond (is_key key k) v (records_of t k)
   same k m = elim (either (eqb k.kind 5)) [
@@ -265,7 +265,7 @@ nodes_stay t new k o = elim (either (eqb k.kind 6)) [
 ]
 
 pub nodes_set : (t : Tables) (new : List Numbered) (key : Key) (v : Option (List ℕ)) → key.kind ≡ 6 → key.b ≡ 0
-    → ((n : ℕ) → nodes.value_at new n ≡ cond (is_at (nat_cmp key.a) n) v (nodes.value_at t.nodes n)) → Sets t (record t { nodes = new }) key v
+    → ((n : ℕ) → nodes.node_value_at new n ≡ cond (is_at (nat_cmp key.a) n) v (nodes.node_value_at t.nodes n)) → Sets t (record t { nodes = new }) key v
 nodes_set t new key v kind b set = keyed t (record t { nodes = new }) key v (plain 6) (is_plain 6 key kind b) same (nodes_stay t new) where
   same : (k : Key) → plain 6 k ≡ true → records_of (record t { nodes = new }) k ≡ cond (is_key key k) v (records_of t k)
   same k m =
@@ -277,7 +277,7 @@ unfolding item_at
 stale_stay t new k o = rw o refl
 
 pub stale_set : (t : Tables) (new : List Marked) (key : Key) (v : Option (List ℕ)) → key.kind ≡ 12
-    → ((c : Chunk) → stale.value_at new c ≡ cond (is_at (chunk_cmp (key.a, key.b)) c) v (stale.value_at t.stale c)) → Sets t (record t { stale = new }) key v
+    → ((c : Chunk) → stale.marks_value_at new c ≡ cond (is_at (chunk_cmp (key.a, key.b)) c) v (stale.marks_value_at t.stale c)) → Sets t (record t { stale = new }) key v
 stale_set t new key v kind set = keyed t (record t { stale = new }) key v (λ k. eqb k.kind 12) (eq-eqb key.kind 12 kind) same (stale_stay t new) where
   same : (k : Key) → eqb k.kind 12 ≡ true → records_of (record t { stale = new }) k ≡ cond (is_key key k) v (records_of t k)
   same k m =
@@ -286,24 +286,24 @@ stale_set t new key v kind set = keyed t (record t { stale = new }) key v (λ k.
 
 -- a node that goes, and then one that is put at its number
 pub nodes_set_twice : (t : Tables) (between new : List Numbered) (key : Key) (v : Option (List ℕ)) → key.kind ≡ 6 → key.b ≡ 0
-    → ((n : ℕ) → nodes.value_at between n ≡ cond (is_at (nat_cmp key.a) n) None (nodes.value_at t.nodes n))
-    → ((n : ℕ) → nodes.value_at new n ≡ cond (is_at (nat_cmp key.a) n) v (nodes.value_at between n)) → Sets t (record t { nodes = new }) key v
+    → ((n : ℕ) → nodes.node_value_at between n ≡ cond (is_at (nat_cmp key.a) n) None (nodes.node_value_at t.nodes n))
+    → ((n : ℕ) → nodes.node_value_at new n ≡ cond (is_at (nat_cmp key.a) n) v (nodes.node_value_at between n)) → Sets t (record t { nodes = new }) key v
 nodes_set_twice t between new key v kind b gone put = nodes_set t new key v kind b both where
-  both : (n : ℕ) → nodes.value_at new n ≡ cond (is_at (nat_cmp key.a) n) v (nodes.value_at t.nodes n)
+  both : (n : ℕ) → nodes.node_value_at new n ≡ cond (is_at (nat_cmp key.a) n) v (nodes.node_value_at t.nodes n)
   both n = elim (either (is_at (nat_cmp key.a) n)) [
     | inl hit ↦ rw (put n, hit) refl
     | inr miss ↦ rw (put n, miss) (rw miss at (gone n))
   ]
 
 -- no node is at the number of one that went
-pub node_gone : (old new : List Numbered) (n : ℕ) → ((m : ℕ) → nodes.value_at new m ≡ cond (is_at (nat_cmp n) m) None (nodes.value_at old m)) → node_at new n ≡ None
+pub node_gone : (old new : List Numbered) (n : ℕ) → ((m : ℕ) → nodes.node_value_at new m ≡ cond (is_at (nat_cmp n) m) None (nodes.node_value_at old m)) → node_at new n ≡ None
 node_gone old new n gone = nothing (node_at new n) (gone n ∙ rw (number_itself n) refl) where
   nothing : (o : Option Node) → option_map value (option_map (node_item n) o) ≡ None → o ≡ None
   nothing None e = refl
   nothing (Some node) e = absurd cc
 
 -- the key of a disk's record
-pub disk_key : (k : Key) → disks.is_mine k ≡ true → (k.kind ≡ 2) × (k.b ≡ 0)
+pub disk_key : (k : Key) → disks.is_key_of_disk k ≡ true → (k.kind ≡ 2) × (k.b ≡ 0)
 disk_key k e =
     let p = and_parts (eqb k.kind 2) _ e in
     let q = and_parts (eqb k.b 0) _ p.1 in
@@ -311,7 +311,7 @@ disk_key k e =
 
 -- ---- records that go
 
-pub file_gone : (t : Tables) (new : List File) (key : Key) → key.kind ≡ 1 → key.b ≡ 0 → ((f : ℕ) → head_at new f ≡ cond (is_at (nat_cmp key.a) f) None (head_at t.files f)) → Sets t (record t { files = new }) key None
+pub file_gone : (t : Tables) (new : List NumberedFile) (key : Key) → key.kind ≡ 1 → key.b ≡ 0 → ((f : ℕ) → head_at new f ≡ cond (is_at (nat_cmp key.a) f) None (head_at t.files f)) → Sets t (record t { files = new }) key None
 file_gone t new key kind b gone = files_set t new key None kind b (record_gone nat_cmp item_of_file t.files new key.a gone)
 
 pub place_of_disk : (k : Key) → k.kind ≡ 2 → is_place k ≡ true → k.b ≡ 0
@@ -365,39 +365,39 @@ ByNumber new old a v = (n : ℕ) → new n ≡ cond (is_at (nat_cmp a) n) v (old
 abbrev ByChunk : (Chunk → Option (List ℕ)) → (Chunk → Option (List ℕ)) → Chunk → Option (List ℕ) → Type 0
 ByChunk new old c v = (x : Chunk) → new x ≡ cond (is_at (chunk_cmp c) x) v (old x)
 
-pub head_taken : {E : Type 0} (r : Result (Unit {0}) E) (b : Bool) (t : Tables) (new : List File) (key : Key) (v : Option (List ℕ)) → key.kind ≡ 1 → key.b ≡ 0 → OnOk r (b ≡ true)
-    → OnTrue b (ByNumber (files.value_at new) (files.value_at t.files) key.a v) → OnOk r (Sets t (record t { files = new }) key v)
+pub head_taken : {E : Type 0} (r : Result (Unit {0}) E) (b : Bool) (t : Tables) (new : List NumberedFile) (key : Key) (v : Option (List ℕ)) → key.kind ≡ 1 → key.b ≡ 0 → OnOk r (b ≡ true)
+    → OnTrue b (ByNumber (files.file_value_at new) (files.file_value_at t.files) key.a v) → OnOk r (Sets t (record t { files = new }) key v)
 head_taken r b t new key v kind plain e put =
-    taken_is r b (ByNumber (files.value_at new) (files.value_at t.files) key.a v) (Sets t (record t { files = new }) key v) e put (files_set t new key v kind plain)
+    taken_is r b (ByNumber (files.file_value_at new) (files.file_value_at t.files) key.a v) (Sets t (record t { files = new }) key v) e put (files_set t new key v kind plain)
 
 pub chunk_taken : {E : Type 0} (r : Result (Unit {0}) E) (b : Bool) (t : Tables) (new : List Chunked) (f c : ℕ) (v : Option (List ℕ)) → OnOk r (b ≡ true)
-    → OnTrue b (ByChunk (extents.value_at new) (extents.value_at t.extents) (f, c) v) → OnOk r (Sets t (record t { extents = new }) (record { kind = 1; a = f; b = c + 1 }) v)
+    → OnTrue b (ByChunk (extents.chunk_value_at new) (extents.chunk_value_at t.extents) (f, c) v) → OnOk r (Sets t (record t { extents = new }) (record { kind = 1; a = f; b = c + 1 }) v)
 chunk_taken r b t new f c v e put =
-    taken_is r b (ByChunk (extents.value_at new) (extents.value_at t.extents) (f, c) v) (Sets t (record t { extents = new }) (record { kind = 1; a = f; b = c + 1 }) v) e put (extents_set t new f c v)
+    taken_is r b (ByChunk (extents.chunk_value_at new) (extents.chunk_value_at t.extents) (f, c) v) (Sets t (record t { extents = new }) (record { kind = 1; a = f; b = c + 1 }) v) e put (extents_set t new f c v)
 
-pub disk_taken : {E : Type 0} (r : Result (Unit {0}) E) (b : Bool) (t : Tables) (new : List disks.Disk) (key : Key) (v : Option (List ℕ)) → disks.is_mine key ≡ true → OnOk r (b ≡ true)
-    → OnTrue b (ByNumber (disks.value_at new) (disks.value_at t.disks) key.a v) → OnOk r (Sets t (record t { disks = new }) key v)
+pub disk_taken : {E : Type 0} (r : Result (Unit {0}) E) (b : Bool) (t : Tables) (new : List disks.Disk) (key : Key) (v : Option (List ℕ)) → disks.is_key_of_disk key ≡ true → OnOk r (b ≡ true)
+    → OnTrue b (ByNumber (disks.disk_value_at new) (disks.disk_value_at t.disks) key.a v) → OnOk r (Sets t (record t { disks = new }) key v)
 disk_taken r b t new key v mine e put =
     let k = disk_key key mine in
-    taken_is r b (ByNumber (disks.value_at new) (disks.value_at t.disks) key.a v) (Sets t (record t { disks = new }) key v) e put (disks_set t new key v k.0 k.1)
+    taken_is r b (ByNumber (disks.disk_value_at new) (disks.disk_value_at t.disks) key.a v) (Sets t (record t { disks = new }) key v) e put (disks_set t new key v k.0 k.1)
 
 pub operation_taken : {E : Type 0} (r : Result (Unit {0}) E) (b : Bool) (t : Tables) (new : Operations) (key : Key) (v : Option (List ℕ)) → key.kind ≡ 4 → OnOk r (b ≡ true)
-    → OnTrue b ((k : Key) → k.kind ≡ 4 → operations.value_at new k ≡ cond (is_same_key key k) v (operations.value_at t.operations k)) → OnOk r (Sets t (record t { operations = new }) key v)
+    → OnTrue b ((k : Key) → k.kind ≡ 4 → operations.operation_value_at new k ≡ cond (is_same_key key k) v (operations.operation_value_at t.operations k)) → OnOk r (Sets t (record t { operations = new }) key v)
 operation_taken r b t new key v kind e put =
-    taken_is r b ((k : Key) → k.kind ≡ 4 → operations.value_at new k ≡ cond (is_same_key key k) v (operations.value_at t.operations k)) (Sets t (record t { operations = new }) key v) e put (operations_set t new key v kind)
+    taken_is r b ((k : Key) → k.kind ≡ 4 → operations.operation_value_at new k ≡ cond (is_same_key key k) v (operations.operation_value_at t.operations k)) (Sets t (record t { operations = new }) key v) e put (operations_set t new key v kind)
 
 pub template_taken : {E : Type 0} (r : Result (Unit {0}) E) (b : Bool) (t : Tables) (new : Table) (key : Key) (v : Option (List ℕ)) → (eqb key.kind 5 || eqb key.kind 9) ≡ true → OnOk r (b ≡ true)
-    → OnTrue b ((k : Key) → templates.value_at new k ≡ cond (is_same_key key k) v (templates.value_at t.templates k)) → OnOk r (Sets t (record t { templates = new }) key v)
+    → OnTrue b ((k : Key) → templates.template_value_at new k ≡ cond (is_same_key key k) v (templates.template_value_at t.templates k)) → OnOk r (Sets t (record t { templates = new }) key v)
 template_taken r b t new key v kind e put =
-    taken_is r b ((k : Key) → templates.value_at new k ≡ cond (is_same_key key k) v (templates.value_at t.templates k)) (Sets t (record t { templates = new }) key v) e put (templates_set t new key v kind)
+    taken_is r b ((k : Key) → templates.template_value_at new k ≡ cond (is_same_key key k) v (templates.template_value_at t.templates k)) (Sets t (record t { templates = new }) key v) e put (templates_set t new key v kind)
 
 pub node_taken : {E : Type 0} (r : Result (Unit {0}) E) (b : Bool) (t : Tables) (between new : List Numbered) (key : Key) (v : Option (List ℕ)) → key.kind ≡ 6 → key.b ≡ 0 → OnOk r (b ≡ true)
-    → ByNumber (nodes.value_at between) (nodes.value_at t.nodes) key.a None
-    → OnTrue b (ByNumber (nodes.value_at new) (nodes.value_at between) key.a v) → OnOk r (Sets t (record t { nodes = new }) key v)
+    → ByNumber (nodes.node_value_at between) (nodes.node_value_at t.nodes) key.a None
+    → OnTrue b (ByNumber (nodes.node_value_at new) (nodes.node_value_at between) key.a v) → OnOk r (Sets t (record t { nodes = new }) key v)
 node_taken r b t between new key v kind plain e gone put =
-    taken_is r b (ByNumber (nodes.value_at new) (nodes.value_at between) key.a v) (Sets t (record t { nodes = new }) key v) e put (nodes_set_twice t between new key v kind plain gone)
+    taken_is r b (ByNumber (nodes.node_value_at new) (nodes.node_value_at between) key.a v) (Sets t (record t { nodes = new }) key v) e put (nodes_set_twice t between new key v kind plain gone)
 
 pub marks_taken : {E : Type 0} (r : Result (Unit {0}) E) (b : Bool) (t : Tables) (new : List Marked) (key : Key) (v : Option (List ℕ)) → key.kind ≡ 12 → OnOk r (b ≡ true)
-    → OnTrue b (ByChunk (stale.value_at new) (stale.value_at t.stale) (key.a, key.b) v) → OnOk r (Sets t (record t { stale = new }) key v)
+    → OnTrue b (ByChunk (stale.marks_value_at new) (stale.marks_value_at t.stale) (key.a, key.b) v) → OnOk r (Sets t (record t { stale = new }) key v)
 marks_taken r b t new key v kind e put =
-    taken_is r b (ByChunk (stale.value_at new) (stale.value_at t.stale) (key.a, key.b) v) (Sets t (record t { stale = new }) key v) e put (stale_set t new key v kind)
+    taken_is r b (ByChunk (stale.marks_value_at new) (stale.marks_value_at t.stale) (key.a, key.b) v) (Sets t (record t { stale = new }) key v) e put (stale_set t new key v kind)

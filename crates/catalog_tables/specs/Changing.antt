@@ -1,7 +1,7 @@
 -- What a change of records does to the tables of a group.
 use Rattle.std.specs.Prelude.{◌≡◌, ℕ, Bool, true, false, ◌==◌, ◌&&◌, List, Option, if◌then◌else◌}
 use Rattle.asm_formats.specs.Items.{Key, disks_kind, files_kind, marks_kind, nodes_kind, operations_kind, settings_kind, templates_kind}
-use Rattle.asm_base.specs.Records.{Entry, is_key}
+use Rattle.asm_base.specs.Records.{DirectoryRecord, is_key}
 use Rattle.page_map.specs.Changes.{value_after}
 use Rattle.file_directory.specs.Files as files
 use Rattle.extent_map.specs.Changing as extents
@@ -14,7 +14,7 @@ use Rattle.catalog_tables.specs.Tables.{AreTables, Tables, records_of}
 use Rattle.catalog_tables.specs.declared.opening.OpenParts.{OpenParts}
 
 -- The tables after a change: they are tables, and at each key they give what the change leaves there.
-pub record IsAfter (t : Tables) (put : List Entry) (gone : List Key) (u : Tables) : Type 0 where
+pub record IsAfter (t : Tables) (put : List DirectoryRecord) (gone : List Key) (u : Tables) : Type 0 where
   pub tables : AreTables u
   pub records : (k : Key) → records_of u k ≡ value_after put gone k (records_of t k)
 
@@ -24,13 +24,13 @@ Sets t u key v = (k : Key) → records_of u k ≡ (if is_key key k then v else r
 
 -- The entries of each table are of the formats and in order. The rules of extents and of nodes needn't hold.
 pub record AreItemTables (t : Tables) : Type 0 where
-  pub files : files.IsTable t.files
+  pub files : files.IsFileTable t.files
   pub extents : extents.AreChunks t.extents
   pub nodes : nodes.AreNodes t.nodes
-  pub templates : templates.IsTable t.templates
-  pub stale : stale.IsTable t.stale
-  pub operations : operations.IsTable t.operations
-  pub disks : disks.IsTable t.disks
+  pub templates : templates.IsTemplateTable t.templates
+  pub stale : stale.IsMarkTable t.stale
+  pub operations : operations.IsOperationTable t.operations
+  pub disks : disks.IsDiskTable t.disks
 
 -- ---- the tables in the midst of a change
 
@@ -40,7 +40,7 @@ tables_of p = record { files = p.files; extents = p.extents; nodes = p.tree; tem
 -- what isn't an invariant of the tables' types
 pub record ArePartsOpen (p : OpenParts) : Type 0 where
   pub extents : extents.AreChunks p.extents
-  pub operations : operations.IsTable p.operations
+  pub operations : operations.IsOperationTable p.operations
 
 -- tables may say something at the key
 abbrev pub is_place : Key → Bool

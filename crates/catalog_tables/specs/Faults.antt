@@ -4,7 +4,7 @@ use Rattle.std.specs.List.{AllByRecursion}
 use Rattle.asm_group.specs.Shape.{Shape}
 use Rattle.asm_formats.specs.Items.{Key, disks_kind, files_kind, marks_kind, nodes_kind, settings_kind, templates_kind}
 use Rattle.asm_formats.specs.Status as status
-use Rattle.asm_base.specs.Records.{Entry, record_at}
+use Rattle.asm_base.specs.Records.{DirectoryRecord, record_at}
 use Rattle.extent_map.specs.Extents.{chunk_key}
 use Rattle.asm_base.specs.Chunks.{Chunk}
 use Rattle.extent_map.specs.Faults.{HasGap}
@@ -98,23 +98,23 @@ pub data BreaksRule (s : Shape) (entries : List status.Entry) (t : Tables) (k : 
   no_room : s.dir_blocks < blocks_used t + 2 → k ≡ settings_key → BreaksRule s entries t k
 
 -- The record of this key is at fault, or must be there and isn't.
-pub data IsAtFault (content : List Entry) (s : Shape) (entries : List status.Entry) (k : Key) : Type 0 where
+pub data IsAtFault (content : List DirectoryRecord) (s : Shape) (entries : List status.Entry) (k : Key) : Type 0 where
   -- a record that isn't of the formats
   unreadable : first_unreadable content ≡ Some k → IsAtFault content s entries k
   -- the record of the templates or of the settings isn't there
-  absent : record_at content k ≡ None → IsNeeded k → IsAtFault content s entries k
+  missing_record : record_at content k ≡ None → IsNeeded k → IsAtFault content s entries k
   -- a chunk that doesn't stand behind the file's others without a gap
-  gap : (at : Chunk) → HasGap content at → k ≡ key_of_chunk at → IsAtFault content s entries k
+  chunk_gap : (at : Chunk) → HasGap content at → k ≡ key_of_chunk at → IsAtFault content s entries k
   -- a node whose parents aren't directories up to the root, or that has the place of another
   loose_node : (n : ℕ) → HasFault content n → k ≡ node_key n → IsAtFault content s entries k
   -- the tables of the records break a rule
   broken : (t : Tables) → AreTables t → HasRecords content t → BreaksRule s entries t k → IsAtFault content s entries k
 
 -- a chunk that doesn't stand behind the file's others without a gap, or a node that breaks the rule of the tree
-abbrev pub IsGap : List Entry → Key → Type 0
+abbrev pub IsGap : List DirectoryRecord → Key → Type 0
 IsGap content k = (at : Chunk) × HasGap content at × (k ≡ key_of_chunk at)
 
-abbrev pub IsLoose : List Entry → Key → Type 0
+abbrev pub IsLoose : List DirectoryRecord → Key → Type 0
 IsLoose content k = (n : ℕ) × HasFault content n × (k ≡ node_key n)
 
 -- an answer that names a record at fault, or says that memory is wanting
@@ -125,7 +125,7 @@ NamesFault IsFault answer.NoMemory = Unit {0}
 -- ---- the catalog
 
 -- The value is the catalog of these records, for a status record with these entries.
-pub record IsCatalogOf (content : List Entry) (entries : List status.Entry) (c : Catalogued) : Type 0 where
+pub record IsCatalogOf (content : List DirectoryRecord) (entries : List status.Entry) (c : Catalogued) : Type 0 where
   pub records : HasRecords content c.tables
   pub rules : KeepsRules c.shape c.tables
   -- each entry has a disk record of its number and birth

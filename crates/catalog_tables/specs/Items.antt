@@ -3,7 +3,7 @@ use Rattle.std.specs.Prelude.{◌≡◌, ℕ, ◌*◌, List, flat_map, Some, IsT
 use Rattle.std.specs.List.{list_all}
 use Rattle.asm_group.specs.Shape.{Shape}
 use Rattle.asm_formats.specs.Among.{IsAmong}
-use Rattle.asm_formats.specs.Items.{Item, Key, chunk_len, is_item, key}
+use Rattle.asm_formats.specs.Items.{Item, Key, chunk_len, is_item, item_key}
 use Rattle.asm_formats.specs.PageLaws.{are_in_order}
 use Rattle.asm_formats.specs.Sets.{has_bit}
 use Rattle.asm_formats.specs.Status as status
@@ -14,7 +14,7 @@ use Rattle.partnership.specs.asm_placement.DiskSets.{numbers}
 use Rattle.partnership.specs.asm_placement.Placed.{placed}
 use Rattle.partnership.specs.asm_placement.Tables.{head_of, homes_in, is_stale, marks_in}
 use Rattle.partnership.specs.asm_placement.Work.{keys_differ}
-use Rattle.asm_base.specs.Records.{Entry, record_at}
+use Rattle.asm_base.specs.Records.{DirectoryRecord, record_at}
 use Rattle.page_map.specs.allocator.UnitMaps.{UnitMap}
 use Rattle.partnership.specs.UnitsOf.{AreUnitsOf}
 use Rattle.extent_map.specs.Extents.{Chunked, chunk_at}
@@ -29,7 +29,7 @@ use Rattle.page_map.specs.Contents.{IsItemOf}
 pub record AreItemsOf (t : Tables) (items : List Item) : Type 0 where
   pub in_order : IsTrue (are_in_order items)
   pub from_table : (k : Key) (i : Item) → item_at t k ≡ Some i → IsAmong items i
-  pub to_table : (i : Item) → IsAmong items i → item_at t (key i) ≡ Some i
+  pub to_table : (i : Item) → IsAmong items i → item_at t (item_key i) ≡ Some i
 
 -- All tables have items.
 abbrev pub TablesHaveItems : Type 0
@@ -42,18 +42,18 @@ ItemsAreOneList = (t : Tables) (a b : List Item) → AreItemsOf t a → AreItems
 -- ---- by the records
 
 -- the items are the records, in the order of their keys
-pub record AreItemsIn (content : List Entry) (items : List Item) : Type 0 where
+pub record AreItemsIn (content : List DirectoryRecord) (items : List Item) : Type 0 where
   pub in_order : IsTrue (are_in_order items)
   pub from_record : (k : Key) (v : List ℕ) → record_at content k ≡ Some v → (i : Item) × IsAmong items i × IsItemOf k v i
-  pub to_record : (i : Item) → IsAmong items i → record_at content (key i) ≡ Some (value i)
+  pub to_record : (i : Item) → IsAmong items i → record_at content (item_key i) ≡ Some (value i)
 
 -- The items of some records are those of the tables that have these.
 abbrev pub ItemsOfRecords : Type 0
-ItemsOfRecords = (content : List Entry) (t : Tables) (items : List Item) → AreTables t → HasRecords content t → AreItemsIn content items → AreItemsOf t items
+ItemsOfRecords = (content : List DirectoryRecord) (t : Tables) (items : List Item) → AreTables t → HasRecords content t → AreItemsIn content items → AreItemsOf t items
 
 -- The tables of some records say at each key what the record of the key says.
 abbrev pub RecordsAreTold : Type 0
-RecordsAreTold = (content : List Entry) (t : Tables) → AreTables t → HasRecords content t → (k : Key) → records_of t k ≡ record_at content k
+RecordsAreTold = (content : List DirectoryRecord) (t : Tables) → AreTables t → HasRecords content t → (k : Key) → records_of t k ≡ record_at content k
 
 -- ---- what the items say
 

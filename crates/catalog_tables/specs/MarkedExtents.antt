@@ -11,13 +11,13 @@ use Rattle.catalog_tables.specs.Rules.{marks_of, homes_at}
 use Rattle.catalog_tables.specs.Tables.{Tables}
 
 -- the home is on the disk
-abbrev pub lies_on : ℕ → Option Home → Bool
-lies_on d None = false
-lies_on d (Some h) = h.disk == d
+abbrev pub is_home_on_disk : ℕ → Option Home → Bool
+is_home_on_disk d None = false
+is_home_on_disk d (Some h) = h.disk == d
 
 -- copy k of an extent with these marks and homes is stale and lies on the disk
 abbrev pub is_stale_on : ℕ → ℕ → Homes → ℕ → Bool
-is_stale_on d marks homes k = has_bit marks k && lies_on d (get_or homes k None)
+is_stale_on d marks homes k = has_bit marks k && is_home_on_disk d (get_or homes k None)
 
 -- one of its copies is
 abbrev pub has_stale_on : ℕ → ℕ × Homes → Bool

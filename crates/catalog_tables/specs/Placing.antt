@@ -8,7 +8,7 @@ use Rattle.asm_formats.specs.Sets.{most_disks}
 use Rattle.asm_formats.specs.Status as status
 use Rattle.asm_formats.specs.Items.{Home, chunk_len}
 use Rattle.partnership.specs.asm_placement.Placed.{Placed, placed_extents}
-use Rattle.page_map.specs.allocator.UnitMaps.{IsUnusedFrom, UnitMap, is_free, resized, unused, with_run}
+use Rattle.page_map.specs.allocator.UnitMaps.{IsUnusedFrom, UnitMap, is_free, with_unit_count, unused, with_run}
 use Rattle.extent_map.specs.Extents.{Chunked}
 use Rattle.asm_base.specs.Chunks.{Chunk}
 use Rattle.catalog_tables.specs.Tables.{Tables}
@@ -20,13 +20,13 @@ abbrev pub is_run_free : UnitMap → ℕ → ℕ → Bool
 is_run_free m at n = list_all (is_free m) (range_with_len at n)
 
 -- the map with a run used, where it is free
-abbrev pub marked : Option UnitMap → ℕ → ℕ → Option UnitMap
-marked None at n = None
-marked (Some m) at n = if is_run_free m at n then Some (with_run m at n true) else None
+abbrev pub with_used_run : Option UnitMap → ℕ → ℕ → Option UnitMap
+with_used_run None at n = None
+with_used_run (Some m) at n = if is_run_free m at n then Some (with_run m at n true) else None
 
 -- the maps with the units of a home used, where they are free user units of its disk
 abbrev pub home_taken : List UnitMap → Home → ℕ → Option (List UnitMap)
-home_taken ms h len = option_and_then (λ m. Some (slice_set ms h.disk m)) (marked (slice_get ms h.disk) h.unit len)
+home_taken ms h len = option_and_then (λ m. Some (slice_set ms h.disk m)) (with_used_run (slice_get ms h.disk) h.unit len)
 
 -- the same of a home that may be absent
 abbrev pub home_placed : List UnitMap → Option Home → ℕ → Option (List UnitMap)
@@ -99,7 +99,7 @@ UnitsStay = (s : Shape) (one other : List status.Entry) (t : Tables) (ms : List 
 -- each map with as many units as the entries give its disk, the first of which has this number
 unfoldable pub resized_from : ℕ → List status.Entry → List UnitMap → List UnitMap
 resized_from d entries [] = []
-resized_from d entries (m ∷ ms) = resized m (disk_units entries d) ∷ resized_from (suc d) entries ms
+resized_from d entries (m ∷ ms) = with_unit_count m (disk_units entries d) ∷ resized_from (suc d) entries ms
 
 abbrev pub resized_maps : List status.Entry → List UnitMap → List UnitMap
 resized_maps entries ms = resized_from 0 entries ms
@@ -107,7 +107,7 @@ resized_maps entries ms = resized_from 0 entries ms
 -- the map of a disk with this number and other units, where its units change
 abbrev pub changed_map : ℕ → ℕ → Option UnitMap → List (ℕ × UnitMap)
 changed_map d units None = []
-changed_map d units (Some m) = if m.units == units then [] else (d, resized m units) ∷ []
+changed_map d units (Some m) = if m.units == units then [] else (d, with_unit_count m units) ∷ []
 
 -- the maps of the disks alone whose units the entries change
 unfoldable pub changed_maps : List UnitMap → List status.Entry → List (ℕ × UnitMap)

@@ -10,13 +10,13 @@ use Rattle.asm_formats.specs.Among.{IsAmong}
 use Rattle.asm_formats.specs.Sets.{has_bit}
 use Rattle.asm_formats.specs.Status as status
 use Rattle.partnership.specs.asm_placement.Copies.{entry_at_home}
-use Rattle.partnership.specs.asm_placement.Layout.{has_extent}
-use Rattle.partnership.specs.asm_placement.Naming.{is_birth, is_directory, is_named_as, is_pending, names_back}
+use Rattle.partnership.specs.asm_placement.Layout.{has_extent_by_size}
+use Rattle.partnership.specs.asm_placement.Naming.{is_birth, is_kind_directory, is_named_as, is_pending, names_back}
 use Rattle.partnership.specs.asm_placement.Work.{is_regular}
-use Rattle.asm_base.specs.Records.{Entry}
+use Rattle.asm_base.specs.Records.{DirectoryRecord}
 use Rattle.page_map.specs.Changes.{is_put}
-use Rattle.page_map.specs.Tables.{is_kept, one_if}
-use Rattle.file_directory.specs.Files.{File, head_at, is_file}
+use Rattle.page_map.specs.Tables.{has_kept_pages, one_if}
+use Rattle.file_directory.specs.Files.{NumberedFile, head_at, is_file_number}
 use Rattle.extent_map.specs.Extents.{Chunked, chunk_at, extent_at}
 use Rattle.alias_tree.specs.Nodes.{Numbered, node_at}
 use Rattle.staleness_directory.specs.Marks.{Marked, marks_at}
@@ -37,15 +37,15 @@ has_chunk t x = is_some (chunk_at t.extents x.0)
 
 -- the chunk is one of a file or of the pending operation's
 abbrev pub is_owned : Tables → Chunked → Bool
-is_owned t x = is_file t.files x.0.0 || is_pending x.0.0 t.operations.pending
+is_owned t x = is_file_number t.files x.0.0 || is_pending x.0.0 t.operations.pending
 
 -- there is no home at copy number k, unless that is below the number of copies
-abbrev pub is_within : ℕ → Homes → ℕ → Bool
-is_within copies homes k = nat_lt k copies || not (is_some (get_or homes k None))
+abbrev pub is_home_within : ℕ → Homes → ℕ → Bool
+is_home_within copies homes k = nat_lt k copies || not (is_some (get_or homes k None))
 
 -- no home at a copy number that isn't below the number of copies
 abbrev pub are_within : ℕ → Homes → Bool
-are_within copies homes = is_within copies homes 0 && (is_within copies homes 1 && is_within copies homes 2)
+are_within copies homes = is_home_within copies homes 0 && (is_home_within copies homes 1 && is_home_within copies homes 2)
 
 abbrev pub are_within_head : Option FileHead → List Homes → Bool
 are_within_head None homes = true
@@ -87,14 +87,14 @@ is_marked_right t x = are_chunk_marks (chunk_at t.extents x.0) x.1
 
 -- a system or alias node names a file that names it as such
 abbrev pub is_named_back : Tables → Numbered → Bool
-is_named_back t x = is_directory x.1.kind || names_back x.1.kind x.0 (head_at t.files x.1.file)
+is_named_back t x = is_kind_directory x.1.kind || names_back x.1.kind x.0 (head_at t.files x.1.file)
 
 -- 0, or a node of this kind that names the file
-abbrev pub names_file : Tables → ℕ → NodeKind → ℕ → Bool
-names_file t f kind n = (n == 0) || is_named_as kind f (node_at t.nodes n)
+abbrev pub names_file_in_tables : Tables → ℕ → NodeKind → ℕ → Bool
+names_file_in_tables t f kind n = (n == 0) || is_named_as kind f (node_at t.nodes n)
 
-abbrev pub has_names : Tables → File → Bool
-has_names t x = names_file t x.0 System x.1.system && names_file t x.0 Alias x.1.alias
+abbrev pub has_names : Tables → NumberedFile → Bool
+has_names t x = names_file_in_tables t x.0 System x.1.system && names_file_in_tables t x.0 Alias x.1.alias
 
 -- ---- the extents of a file
 
@@ -107,17 +107,17 @@ has_copies copies None = false
 has_copies copies (Some homes) = is_copied copies homes 0 && (is_copied copies homes 1 && is_copied copies homes 2)
 
 -- the file has extent i by its size
-abbrev pub is_due : Shape → FileHead → ℕ → Bool
-is_due s head i = has_extent head.stripe s.au s.step head.size i
+abbrev pub head_has_extent : Shape → FileHead → ℕ → Bool
+head_has_extent s head i = has_extent_by_size head.stripe s.au s.step head.size i
 
 -- each extent that the file has by its size has all its copies
-abbrev pub HasExtents : Tables → Shape → File → Type 0
-HasExtents t s x = (i : ℕ) → is_due s x.1 i ≡ true → has_copies x.1.copies (extent_at t.extents x.0 i) ≡ true
+abbrev pub HasExtents : Tables → Shape → NumberedFile → Type 0
+HasExtents t s x = (i : ℕ) → head_has_extent s x.1 i ≡ true → has_copies x.1.copies (extent_at t.extents x.0 i) ≡ true
 
 -- an extent that it has by its size has not
-pub record LacksExtent (t : Tables) (s : Shape) (x : File) : Type 0 where
+pub record LacksExtent (t : Tables) (s : Shape) (x : NumberedFile) : Type 0 where
   pub index : ℕ
-  pub due : is_due s x.1 index ≡ true
+  pub due : head_has_extent s x.1 index ≡ true
   pub lacks : has_copies x.1.copies (extent_at t.extents x.0 index) ≡ false
 
 -- ---- disks and room
@@ -151,10 +151,10 @@ blocks_used t = length t.files + length t.extents + length t.nodes + 2 + length 
 
 -- the key has no record, and isn't one of the two for which blocks are kept
 abbrev pub lacks_record : Tables → Key → Bool
-lacks_record t k = not (is_kept k) && not (is_some (records_of t k))
+lacks_record t k = not (has_kept_pages k) && not (is_some (records_of t k))
 
 -- how many new records are put, each counted where it is put last
-abbrev pub new_records : Tables → List Entry → ℕ
+abbrev pub new_records : Tables → List DirectoryRecord → ℕ
 new_records t [] = 0
 new_records t (p ∷ ps) = one_if (lacks_record t p.0 && not (is_put ps p.0)) + new_records t ps
 

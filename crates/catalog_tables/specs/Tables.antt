@@ -4,7 +4,7 @@ use Rattle.std.specs.Option.{option_map}
 use Rattle.asm_group.specs.Shape.{Shape}
 use Rattle.asm_formats.specs.Items.{Item, Key, file_item, chunk_item, disk_item, rebalance_item, pending_item, templates_item, node_item, settings_item, marks_item, disks_kind, files_kind, marks_kind, nodes_kind, operations_kind, settings_kind, templates_kind}
 use Rattle.asm_formats.specs.Values.{value, decoded_item}
-use Rattle.asm_base.specs.Records.{Entry, of_kinds}
+use Rattle.asm_base.specs.Records.{DirectoryRecord, of_kinds}
 use Rattle.page_map.specs.allocator.UnitMaps.{UnitMap}
 use Rattle.file_directory.specs.Files as files
 use Rattle.extent_map.specs.Extents as extents
@@ -15,7 +15,7 @@ use Rattle.operations_directory.specs.Operations as operations
 use Rattle.disk_directory.specs.Disks as disks
 
 pub record Tables : Type 0 where
-  pub files : List files.File
+  pub files : List files.NumberedFile
   -- the homes of the extents, chunk by chunk
   pub extents : List extents.Chunked
   pub nodes : List nodes.Numbered
@@ -36,13 +36,13 @@ pub record Catalogued : Type 0 where
 
 -- each table is one: its entries are of the formats, in order, and keep its own rule
 pub record AreTables (t : Tables) : Type 0 where
-  pub files : files.IsTable t.files
-  pub extents : extents.IsTable t.extents
-  pub nodes : nodes.IsTable t.nodes
-  pub templates : templates.IsTable t.templates
-  pub stale : stale.IsTable t.stale
-  pub operations : operations.IsTable t.operations
-  pub disks : disks.IsTable t.disks
+  pub files : files.IsFileTable t.files
+  pub extents : extents.IsExtentTable t.extents
+  pub nodes : nodes.IsNodeTable t.nodes
+  pub templates : templates.IsTemplateTable t.templates
+  pub stale : stale.IsMarkTable t.stale
+  pub operations : operations.IsOperationTable t.operations
+  pub disks : disks.IsDiskTable t.disks
 
 -- ---- records
 
@@ -63,20 +63,20 @@ abbrev pub records_of : Tables → Key → Option (List ℕ)
 records_of t k = option_map value (item_at t k)
 
 -- the record is one of the formats
-abbrev pub is_record : Entry → Bool
+abbrev pub is_record : DirectoryRecord → Bool
 is_record e = is_some (decoded_item e.0 e.1)
 
 -- the key of the first record that isn't
-abbrev pub first_unreadable : List Entry → Option Key
-first_unreadable content = option_map (λ (e : Entry). e.0) (find (λ e. not (is_record e)) content)
+abbrev pub first_unreadable : List DirectoryRecord → Option Key
+first_unreadable content = option_map (λ (e : DirectoryRecord). e.0) (find (λ e. not (is_record e)) content)
 
 -- Each record is of the formats, and those of each kind are, in order, those of the table.
-pub record HasRecords (content : List Entry) (t : Tables) : Type 0 where
+pub record HasRecords (content : List DirectoryRecord) (t : Tables) : Type 0 where
   pub all : first_unreadable content ≡ None
-  pub files : of_kinds files.is_mine content ≡ map files.record_of t.files
-  pub extents : of_kinds extents.is_chunk content ≡ map extents.record_of t.extents
-  pub nodes : of_kinds nodes.is_mine content ≡ map nodes.record_of t.nodes
-  pub templates : of_kinds templates.is_mine content ≡ templates.records_of t.templates
-  pub stale : of_kinds stale.is_marks content ≡ map stale.record_of t.stale
-  pub operations : of_kinds operations.is_operation content ≡ operations.records_of t.operations
-  pub disks : of_kinds disks.is_mine content ≡ map disks.record_of t.disks
+  pub files : of_kinds files.is_key_of_file content ≡ map files.record_of_file t.files
+  pub extents : of_kinds extents.is_chunk content ≡ map extents.record_of_chunk t.extents
+  pub nodes : of_kinds nodes.is_key_of_node content ≡ map nodes.record_of_node t.nodes
+  pub templates : of_kinds templates.is_key_of_templates content ≡ templates.records_of_templates t.templates
+  pub stale : of_kinds stale.is_marks content ≡ map stale.record_of_marks t.stale
+  pub operations : of_kinds operations.is_operation content ≡ operations.records_of_operations t.operations
+  pub disks : of_kinds disks.is_key_of_disk content ≡ map disks.record_of_disk t.disks

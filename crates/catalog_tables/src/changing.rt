@@ -2,7 +2,7 @@
 
 ghost use Rattle.std.specs.Prelude.{◌≡◌, List as Items, IfOk};
 ghost use Rattle.asm_formats.specs.Items.{Key};
-ghost use Rattle.asm_base.specs.Records.{Entry};
+ghost use Rattle.asm_base.specs.Records.{DirectoryRecord};
 ghost use Rattle.catalog_tables.specs.Changing.{IsAfter};
 ghost use Rattle.catalog_tables.specs.Tables.{AreTables, Tables};
 
@@ -43,5 +43,5 @@ impl Parts {
 
 /// A change of some tables leaves one set of tables and no other.
 pub fn a_change_leaves_one_set_of_tables()
-    ensures { (t u v : Tables) (put : Items Entry) (gone : Items Key) → IsAfter t put gone u → IsAfter t put gone v → u ≡ v }
+    ensures { (t u v : Tables) (put : Items DirectoryRecord) (gone : Items Key) → IsAfter t put gone u → IsAfter t put gone v → u ≡ v }
 {}

@@ -88,7 +88,7 @@ impl Parts {
     #[tactic(auto, using(crate::proofs::FaultLaws::short_is, crate::proofs::FaultLaws::unknown_is, crate::proofs::FaultLaws::on_quorum_is, crate::proofs::FaultLaws::quorum_numbered, crate::proofs::FaultLaws::no_room_is, crate::proofs::FaultLaws::sizes_are))]
     fn size_fault(&self, shape: &Shape, entries: &[PstEntry]) -> Option<Key>
         requires shape { IsTrue (is_shape shape.now) }
-        requires table { extent_table.IsTable self.now.extents }
+        requires table { extent_table.IsExtentTable self.now.extents }
         ensures some { IfSome result (BreaksRule shape.now entries.now self.now) }
         ensures none { IfNone result (AreSizesRight shape.now entries.now self.now) }
     {
@@ -117,7 +117,7 @@ impl Parts {
     ) -> Result<Vec<Units>, CatalogError>
         requires shape { IsTrue (is_shape shape.now) }
         requires entries { IsTrue (list_all is_entry entries.now) }
-        requires table { extent_table.IsTable self.now.extents }
+        requires table { extent_table.IsExtentTable self.now.extents }
         ensures units { IfOk result (λ v. HasUnits shape.now entries.now self.now v.items) }
         ensures fault { IfErr result (NamesFault (BreaksRule shape.now entries.now self.now)) }
     {

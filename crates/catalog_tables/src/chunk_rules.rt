@@ -6,7 +6,7 @@ ghost use Rattle.std.specs.Option.{option_copied};
 ghost use Rattle.asm_formats.specs.Items.{Home as FormatHome};
 ghost use Rattle.partnership.specs.asm_placement.Work.{is_regular};
 ghost use Rattle.partnership.specs.asm_placement.Naming.{is_pending};
-ghost use Rattle.catalog_tables.specs.Rules.{are_on_disks, are_on_regular, are_on_two, are_within, are_within_head, first_wrong, has_chunk, has_marks, is_on_disks, is_on_regular, is_owned, is_regular_chunk, is_within, keeps_copies};
+ghost use Rattle.catalog_tables.specs.Rules.{are_on_disks, are_on_regular, are_on_two, are_within, are_within_head, first_wrong, has_chunk, has_marks, is_on_disks, is_on_regular, is_owned, is_regular_chunk, is_home_within, keeps_copies};
 
 use crate::parts::Parts;
 use asm_base::{Home, Homes};

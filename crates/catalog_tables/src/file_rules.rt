@@ -18,7 +18,7 @@ impl Parts {
     /// The first file of which an extent that it has by its size hasn't all its copies.
     pub(crate) fn short_file(&self, shape: &Shape) -> Option<u32>
         requires shape { IsTrue (is_shape shape.now) }
-        requires table { extent_map.IsTable self.now.extents }
+        requires table { extent_map.IsExtentTable self.now.extents }
         ensures some { IfSome result (IsShortFile self.now shape.now) }
         ensures none { IfNone result (AllByRecursion (HasExtents self.now shape.now) self.now.files) }
     {
@@ -34,7 +34,7 @@ impl Parts {
     #[tactic(auto, using(crate::proofs::FileLaws::lacks_at, crate::proofs::FileLaws::lacks_one, crate::proofs::FileLaws::has_all))]
     fn lacks_extent(&self, shape: &Shape, file: u32, head: &FileHead) -> bool
         requires shape { IsTrue (is_shape shape.now) }
-        requires table { extent_map.IsTable self.now.extents }
+        requires table { extent_map.IsExtentTable self.now.extents }
         ensures lacks { OnTrue result (LacksExtent self.now shape.now (file, head.now)) }
         ensures has { OnFalse result (HasExtents self.now shape.now (file, head.now)) }
     {

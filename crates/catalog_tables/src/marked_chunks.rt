@@ -5,7 +5,7 @@ ghost use Rattle.std.specs.List.{list_any, zip};
 ghost use Rattle.std.specs.Option.{option_copied};
 ghost use Rattle.asm_formats.specs.Sets.{has_bit};
 ghost use Rattle.staleness_directory.specs.Marks.{marks_from};
-ghost use Rattle.catalog_tables.specs.MarkedExtents.{any_stale_on, first_marked, has_marked, has_stale_on, lies_on};
+ghost use Rattle.catalog_tables.specs.MarkedExtents.{any_stale_on, first_marked, has_marked, has_stale_on, is_home_on_disk};
 
 use crate::parts::Parts;
 use asm_base::{Home, Homes};
@@ -66,13 +66,13 @@ pub fn has_stale_on(disk: u8, marks: u8, homes: &Homes) -> bool
 #[tactic(auto, unfolding(asm_formats::specs::Sets::has_bit))]
 fn is_stale_on(disk: u8, marks: u8, copy: u8, home: Option<Home>) -> bool
     requires { copy < 3 }
-    ensures { result ≡ (has_bit marks copy && lies_on disk home) }
+    ensures { result ≡ (has_bit marks copy && is_home_on_disk disk home) }
 {
     marks >> copy & 1 == 1 && lies_on(disk, home)
 }
 
 fn lies_on(disk: u8, home: Option<Home>) -> bool
-    ensures { result ≡ lies_on disk home }
+    ensures { result ≡ is_home_on_disk disk home }
 {
     match home {
         None => false,

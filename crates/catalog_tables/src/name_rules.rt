@@ -3,7 +3,7 @@
 ghost use Rattle.std.specs.Prelude.{◌≡◌, None};
 ghost use Rattle.std.specs.Option.{option_copied};
 ghost use Rattle.partnership.specs.asm_placement.Naming.{is_named_as, kind_eq, names_back};
-ghost use Rattle.catalog_tables.specs.Rules.{first_wrong, has_names, is_named_back, names_file};
+ghost use Rattle.catalog_tables.specs.Rules.{first_wrong, has_names, is_named_back, names_file_in_tables};
 
 use crate::parts::Parts;
 use alias_tree::Node;
@@ -60,7 +60,7 @@ impl Parts {
 
     /// Whether the number is 0, or that of a node of this kind that names the file.
     fn names_file(&self, file: u32, kind: NodeKind, number: u32) -> bool
-        ensures { result ≡ names_file self.now file kind number }
+        ensures { result ≡ names_file_in_tables self.now file kind number }
     {
         number == 0 || is_named_as(kind, file, self.tree.get(number))
     }

@@ -59,9 +59,9 @@ fn read_others(
 ) -> Result<Parts, CatalogError>
     requires readable { AreReadable content.now }
     requires needed { HasNeeded content.now }
-    requires extents { extent_table.IsTable extents }
-    requires chunks { of_kinds extent_table.is_chunk content.now ≡ map extent_table.record_of extents }
-    requires nodes { of_kinds nodes.is_mine content.now ≡ map nodes.record_of tree }
+    requires extents { extent_table.IsExtentTable extents }
+    requires chunks { of_kinds extent_table.is_chunk content.now ≡ map extent_table.record_of_chunk extents }
+    requires nodes { of_kinds nodes.is_key_of_node content.now ≡ map nodes.record_of_node tree }
     ensures records { IfOk result (HasRecords content.now) }
     ensures tables { IfOk result AreTables }
     ensures err { IfErr result (λ e. e ≡ WithoutMemory) }
@@ -134,8 +134,8 @@ ghost use Rattle.catalog_tables.specs.Faults.{IsNeeded};
 #[tactic(auto, using(crate::proofs::ReadableLaws::extents_read))]
 fn read_extents(alloc: Global, content: &Records) -> Result<ExtentMap, CatalogError>
     requires { AreReadable content.now }
-    ensures table { IfOk result extent_table.IsTable }
-    ensures records { IfOk result (λ t. of_kinds extent_table.is_chunk content.now ≡ map extent_table.record_of t) }
+    ensures table { IfOk result extent_table.IsExtentTable }
+    ensures records { IfOk result (λ t. of_kinds extent_table.is_chunk content.now ≡ map extent_table.record_of_chunk t) }
     ensures fault { IfErr result (NamesFault (IsGap content.now)) }
 {
     if let Some(extents) = ExtentMap::from_records(alloc, content)? {
@@ -173,7 +173,7 @@ pub(crate) fn chunk_key(at: (u32, u32)) -> Key
 #[tactic(auto, using(crate::proofs::ReadableLaws::tree_read))]
 fn read_tree(alloc: Global, content: &Records) -> Result<AliasTree, CatalogError>
     requires { AreReadable content.now }
-    ensures records { IfOk result (λ t. of_kinds nodes.is_mine content.now ≡ map nodes.record_of t) }
+    ensures records { IfOk result (λ t. of_kinds nodes.is_key_of_node content.now ≡ map nodes.record_of_node t) }
     ensures fault { IfErr result (NamesFault (IsLoose content.now)) }
 {
     if let Some(tree) = AliasTree::from_records(alloc, content)? {

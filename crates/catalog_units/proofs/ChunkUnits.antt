@@ -12,7 +12,7 @@ use Rattle.catalog_tables.proofs.asm_base.Exact.{bind_some, some_is}
 use Rattle.asm_formats.specs.Items.{Homes}
 use Rattle.catalog_tables.specs.allocator.UnitMaps.{UnitMap}
 use Rattle.catalog_tables.specs.extent_map.Extents.{Chunked, chunk_at}
-use Rattle.catalog_tables.specs.asm_base.Chunks.{Chunk, chunk_cmp, is_before}
+use Rattle.catalog_tables.specs.asm_base.Chunks.{Chunk, chunk_cmp, is_chunk_before}
 use Rattle.catalog_tables.proofs.extent_map.Laws.{same_chunk}
 use Rattle.catalog_tables.proofs.extent_map.Numbering.{comes_after, is_same, tail_up}
 use Rattle.catalog_units.specs.Giving.{but, chunks_kept}
@@ -63,7 +63,7 @@ less_not : (o : Ordering) → o ≡ Less → o ≡ Equal → ⊥
 less_not o less equal = true≢false (ap is_lt (sym less ∙ equal))
 
 -- no later chunk has the key of the first
-pub tail_none : (x : Chunked) (t : List Chunked) (k : Chunk) → Ascend is_before (x ∷ t) → chunk_cmp k x.0 ≡ Equal → chunk_at t k ≡ None
+pub tail_none : (x : Chunked) (t : List Chunked) (k : Chunk) → Ascend is_chunk_before (x ∷ t) → chunk_cmp k x.0 ≡ Equal → chunk_at t k ≡ None
 tail_none x t k up here = by (chunk_at t k) refl where
   same : k ≡ x.0
   same = same_chunk k x.0 here
@@ -75,7 +75,7 @@ tail_none x t k up here = by (chunk_at t k) refl where
 -- ---- one chunk
 
 -- the homes of one chunk may be taken last
-pub one_out : (step : ℕ) (ms z : List UnitMap) (keep : Chunk → Bool) (k : Chunk) (homes : List Homes) (t : List Chunked) → Ascend is_before t → keep k ≡ true → chunk_at t k ≡ Some homes
+pub one_out : (step : ℕ) (ms z : List UnitMap) (keep : Chunk → Bool) (k : Chunk) (homes : List Homes) (t : List Chunked) → Ascend is_chunk_before t → keep k ≡ true → chunk_at t k ≡ Some homes
     → after_chunks step ms (chunks_kept keep t) ≡ Some z
     → (c : List UnitMap) × (after_chunks step ms (chunks_kept (but keep k) t) ≡ Some c) × (after_homes c (homes_of step (k, homes)) ≡ Some z)
 unfolding after_chunks
@@ -112,13 +112,13 @@ one_out step ms z keep k homes (x ∷ t) up is there e = elim (either (is_at (ch
 -- ---- a chunk given back, and a chunk put
 
 -- there are maps before the homes of a chunk that is there
-pub out_there : (step : ℕ) (z : List UnitMap) (k : Chunk) (homes : List Homes) (t : List Chunked) → Ascend is_before t → chunk_at t k ≡ Some homes
+pub out_there : (step : ℕ) (z : List UnitMap) (k : Chunk) (homes : List Homes) (t : List Chunked) → Ascend is_chunk_before t → chunk_at t k ≡ Some homes
     → (keep : Chunk → Bool) × (keep k ≡ true) × ((ms : List UnitMap) × (after_chunks step ms (chunks_kept keep t) ≡ Some z)) → (c : List UnitMap) × (after_homes c (homes_of step (k, homes)) ≡ Some z)
 out_there step z k homes t up there is =
     let r = one_out step is.2.0 z is.0 k homes t up is.1 there is.2.1 in
     (r.0, r.2)
 
-pub out_given : (step : ℕ) (z new : List UnitMap) (k : Chunk) (homes : List Homes) (t : List Chunked) → Ascend is_before t → chunk_at t k ≡ Some homes
+pub out_given : (step : ℕ) (z new : List UnitMap) (k : Chunk) (homes : List Homes) (t : List Chunked) → Ascend is_chunk_before t → chunk_at t k ≡ Some homes
     → ((before : List UnitMap) → after_homes before (homes_of step (k, homes)) ≡ Some z → before ≡ new)
     → (keep : Chunk → Bool) (ms : List UnitMap) → keep k ≡ true → after_chunks step ms (chunks_kept keep t) ≡ Some z → after_chunks step ms (chunks_kept (but keep k) t) ≡ Some new
 out_given step z new k homes t up there given keep ms is e =
@@ -130,7 +130,7 @@ pub out_not : (step : ℕ) (z : List UnitMap) (k : Chunk) (t : List Chunked) →
 out_not step z k t there keep ms is e = ap (after_chunks step ms) (none_out keep k t there) ∙ e
 
 -- units with a chunk more
-pub put_is : (step : ℕ) (old new : List UnitMap) (k : Chunk) (homes : List Homes) (t : List Chunked) (r : Bool) → Ascend is_before t → chunk_at t k ≡ Some homes → after_homes old (homes_of step (k, homes)) ≡ cond r (Some new) None
+pub put_is : (step : ℕ) (old new : List UnitMap) (k : Chunk) (homes : List Homes) (t : List Chunked) (r : Bool) → Ascend is_chunk_before t → chunk_at t k ≡ Some homes → after_homes old (homes_of step (k, homes)) ≡ cond r (Some new) None
     → (keep : Chunk → Bool) (ms z : List UnitMap) → keep k ≡ true → after_chunks step ms (chunks_kept (but keep k) t) ≡ Some old → after_chunks step ms (chunks_kept keep t) ≡ Some z → z ≡ new
 put_is step old new k homes t r up there placed keep ms z is e f =
     let o = one_out step ms z keep k homes t up is there f in

@@ -16,22 +16,22 @@ use Rattle.asm_formats.specs.Sets.{most_disks}
 use Rattle.asm_formats.specs.Status.{Entry}
 use Rattle.catalog_tables.specs.asm_placement.Placed.{Placed}
 use Rattle.catalog_tables.proofs.asm_base.Exact.{bind_some, some_is}
-use Rattle.catalog_tables.specs.allocator.UnitMaps.{IsUnusedFrom, UnitMap, is_free, resized, unused, with_run}
-use Rattle.catalog_tables.specs.Placing.{AreFit, HasUnits, IsFit, OtherMapsStay, after_homes, changed_map, changed_maps, disk_units, home_taken, homes_of, is_run_free, map_units, marked, put_maps, resized_from, resized_maps, unused_maps}
+use Rattle.catalog_tables.specs.allocator.UnitMaps.{IsUnusedFrom, UnitMap, is_free, with_unit_count, unused, with_run}
+use Rattle.catalog_tables.specs.Placing.{AreFit, HasUnits, IsFit, OtherMapsStay, after_homes, changed_map, changed_maps, disk_units, home_taken, homes_of, is_run_free, map_units, with_used_run, put_maps, resized_from, resized_maps, unused_maps}
 use Rattle.catalog_tables.specs.Tables.{Tables}
 use Rattle.catalog_tables.proofs.HomeUnits.{IsWhole, Takes, chunks_are_homes, is_in, not_true, replaced, run_fits, set_here, taken_is, takes, three_true, unused_at}
 use Rattle.catalog_tables.proofs.PlacingLaws.{from_all, run_is}
 
 -- ---- one map
 
-pub resized_whole : (m : UnitMap) (u : ℕ) → IsWhole (resized m u)
+pub resized_whole : (m : UnitMap) (u : ℕ) → IsWhole (with_unit_count m u)
 resized_whole m u = length-map-range_with_len (λ (k : ℕ). get_or m.used k false) 0 u
 
 resized_at : (m : UnitMap) (u k : ℕ) (d : Bool) → k < u → get_or (map (λ (j : ℕ). get_or m.used j false) (range_with_len 0 u)) k d ≡ get_or m.used k false
 resized_at m u k d inside = get_or-map-range_with_len (λ (j : ℕ). get_or m.used j false) 0 u k k d inside (omega arith)
 
 -- as many units make the same map
-pub resized_same : (m : UnitMap) (u : ℕ) → IsWhole m → m.units ≡ u → resized m u ≡ m
+pub resized_same : (m : UnitMap) (u : ℕ) → IsWhole m → m.units ≡ u → with_unit_count m u ≡ m
 resized_same m u whole same =
     let list : map (λ (j : ℕ). get_or m.used j false) (range_with_len 0 u) ≡ m.used =
     same_lists (map (λ (j : ℕ). get_or m.used j false) (range_with_len 0 u)) m.used (resized_whole m u ∙ sym (whole ∙ same)) (λ k d lt.
@@ -45,7 +45,7 @@ none_used n k = elim (cases_lt k n) [
   | inr past ↦ get_or_past (replicate n false) k false (omega (arith, length-replicate {A = Bool} n false, past))
 ]
 
-resized_unused : (first one other : ℕ) → resized (unused first one) other ≡ unused first other
+resized_unused : (first one other : ℕ) → with_unit_count (unused first one) other ≡ unused first other
 resized_unused first one other =
     let m : UnitMap = unused first one in
     ap (λ (xs : List Bool). record { first = first; units = other; used = xs })
@@ -57,15 +57,15 @@ resized_unused first one other =
 abbrev Below : ℕ → ℕ → ℕ → Type 0
 Below at n u = (k : ℕ) → at ≤ k → k < at + n → k < u
 
-run_resized : (m : UnitMap) (at n u : ℕ) → IsWhole m → is_run_free m at n ≡ true → Below at n u → is_run_free (resized m u) at n ≡ true
-run_resized m at n u whole free below = from_all (is_free (resized m u)) at n (λ k low high.
+run_resized : (m : UnitMap) (at n u : ℕ) → IsWhole m → is_run_free m at n ≡ true → Below at n u → is_run_free (with_unit_count m u) at n ≡ true
+run_resized m at n u whole free below = from_all (is_free (with_unit_count m u)) at n (λ k low high.
     let p = three_true (leb m.first k) (ltb k m.units) (not (get_or m.used k true)) (run_is m at n free k low high) in
     let unused_there : get_or m.used k false ≡ false = get_or_default m.used k false true (omega (arith, ltb-true k m.units p.1, whole)) ∙ not_true (get_or m.used k true) p.2 in
     rw (p.0, lt-ltb k u (below k low high), resized_at m u k true (below k low high), unused_there) refl)
 
-run_below : (m : UnitMap) (at n u : ℕ) → is_run_free (resized m u) at n ≡ true → Below at n u
+run_below : (m : UnitMap) (at n u : ℕ) → is_run_free (with_unit_count m u) at n ≡ true → Below at n u
 run_below m at n u free k low high =
-    let p = three_true (leb m.first k) (ltb k u) (not (get_or (map (λ (j : ℕ). get_or m.used j false) (range_with_len 0 u)) k true)) (run_is (resized m u) at n free k low high) in
+    let p = three_true (leb m.first k) (ltb k u) (not (get_or (map (λ (j : ℕ). get_or m.used j false) (range_with_len 0 u)) k true)) (run_is (with_unit_count m u) at n free k low high) in
     ltb-true k u p.1
 
 -- a run without units changes nothing
@@ -80,8 +80,8 @@ no_run_map m at = ap (λ (xs : List Bool). record { first = m.first; units = m.u
 long_with : (xs : List Bool) (at n : ℕ) → at + n ≤ length xs → length (take at xs ++ replicate n true ++ drop (at + n) xs) ≡ length xs
 long_with xs at n fits = omega (arith, length-append (take at xs ++ replicate n true) (drop (at + n) xs), length-append (take at xs) (replicate n true), length-take at xs, length-replicate {A = Bool} n true, length-drop (at + n) xs, fits)
 
-with_resized : (m : UnitMap) (at n u : ℕ) → IsWhole m → is_run_free m at n ≡ true → Below at n u → with_run (resized m u) at n true ≡ resized (with_run m at n true) u
-with_resized m at zero u whole free below = no_run_map (resized m u) at ∙ sym (ap (λ (x : UnitMap). resized x u) (no_run_map m at))
+with_resized : (m : UnitMap) (at n u : ℕ) → IsWhole m → is_run_free m at n ≡ true → Below at n u → with_run (with_unit_count m u) at n true ≡ with_unit_count (with_run m at n true) u
+with_resized m at zero u whole free below = no_run_map (with_unit_count m u) at ∙ sym (ap (λ (x : UnitMap). with_unit_count x u) (no_run_map m at))
 with_resized m at (suc n) u whole free below =
     let fits = run_fits m at n whole free in
     let under : at + suc n ≤ u = omega (arith, below (at + n) (omega arith) (omega arith)) in
@@ -143,24 +143,24 @@ set_apart (m ∷ ms) (suc d) zero x apart = refl
 set_apart (m ∷ ms) zero (suc c) x apart = refl
 set_apart (m ∷ ms) (suc d) (suc c) x apart = set_apart ms d c x (λ e. apart (ap suc e))
 
-pub resized_get : (es : List Entry) (ms : List UnitMap) (d i j : ℕ) → i + d ≡ j → slice_get (resized_from i es ms) d ≡ option_map (λ m. resized m (disk_units es j)) (slice_get ms d)
+pub resized_get : (es : List Entry) (ms : List UnitMap) (d i j : ℕ) → i + d ≡ j → slice_get (resized_from i es ms) d ≡ option_map (λ m. with_unit_count m (disk_units es j)) (slice_get ms d)
 unfolding resized_from
 resized_get es [] d i j e = refl
 resized_get es (m ∷ ms) zero i j e =
     let same : i ≡ j = omega (arith, e) in
-    ap (λ (n : ℕ). Some (resized m (disk_units es n))) same
+    ap (λ (n : ℕ). Some (with_unit_count m (disk_units es n))) same
 resized_get es (m ∷ ms) (suc d) i j e = resized_get es ms d (suc i) j (omega (arith, e))
 
-resized_set : (es : List Entry) (ms : List UnitMap) (d i j : ℕ) (x : UnitMap) → i + d ≡ j → resized_from i es (slice_set ms d x) ≡ slice_set (resized_from i es ms) d (resized x (disk_units es j))
+resized_set : (es : List Entry) (ms : List UnitMap) (d i j : ℕ) (x : UnitMap) → i + d ≡ j → resized_from i es (slice_set ms d x) ≡ slice_set (resized_from i es ms) d (with_unit_count x (disk_units es j))
 unfolding resized_from
 resized_set es [] d i j x e = refl
 resized_set es (m ∷ ms) zero i j x e =
     let same : i ≡ j = omega (arith, e) in
-    ap (λ (n : ℕ). resized x (disk_units es n) ∷ resized_from (suc i) es ms) same
-resized_set es (m ∷ ms) (suc d) i j x e = ap (λ (xs : List UnitMap). resized m (disk_units es i) ∷ xs) (resized_set es ms d (suc i) j x (omega (arith, e)))
+    ap (λ (n : ℕ). with_unit_count x (disk_units es n) ∷ resized_from (suc i) es ms) same
+resized_set es (m ∷ ms) (suc d) i j x e = ap (λ (xs : List UnitMap). with_unit_count m (disk_units es i) ∷ xs) (resized_set es ms d (suc i) j x (omega (arith, e)))
 
-get_resized : (es : List Entry) (ms : List UnitMap) (d : ℕ) (m : UnitMap) → slice_get ms d ≡ Some m → slice_get (resized_maps es ms) d ≡ Some (resized m (disk_units es d))
-get_resized es ms d m there = resized_get es ms d 0 d (omega arith) ∙ ap (λ (o : Option UnitMap). option_map (λ x. resized x (disk_units es d)) o) there
+get_resized : (es : List Entry) (ms : List UnitMap) (d : ℕ) (m : UnitMap) → slice_get ms d ≡ Some m → slice_get (resized_maps es ms) d ≡ Some (with_unit_count m (disk_units es d))
+get_resized es ms d m there = resized_get es ms d 0 d (omega arith) ∙ ap (λ (o : Option UnitMap). option_map (λ x. with_unit_count x (disk_units es d)) o) there
 
 -- what a home's map is behind it, and those of the other disks
 mid_here : (ms mid : List UnitMap) (h : Home) (n : ℕ) → (t : Takes ms mid h n) → slice_get mid h.disk ≡ Some (with_run t.map_before h.unit n true)
@@ -178,7 +178,7 @@ whole_step ms mid h n t whole d m there = elim (cases_eq d h.disk) [
 ]
 
 put_resized : (es : List Entry) (ms mid : List UnitMap) (h : Home) (n : ℕ) (t : Takes ms mid h n) → IsWhole t.map_before → Below h.unit n (disk_units es h.disk)
-    → slice_set (resized_maps es ms) h.disk (with_run (resized t.map_before (disk_units es h.disk)) h.unit n true) ≡ resized_maps es mid
+    → slice_set (resized_maps es ms) h.disk (with_run (with_unit_count t.map_before (disk_units es h.disk)) h.unit n true) ≡ resized_maps es mid
 put_resized es ms mid h n t whole below =
     ap (slice_set (resized_maps es ms) h.disk) (with_resized t.map_before h.unit n (disk_units es h.disk) whole t.free below)
     ∙ sym (resized_set es ms h.disk 0 h.disk (with_run t.map_before h.unit n true) (omega arith)) ∙ ap (resized_maps es) (sym t.put)
@@ -190,8 +190,8 @@ step_fits es ms mid h n t whole fit =
     let u : ℕ = disk_units es h.disk in
     let w = whole h.disk m t.there in
     let b = unused_before m h.unit n u w t.free (fit h.disk (with_run m h.unit n true) (mid_here ms mid h n t)) in
-    let there : slice_get (resized_maps es ms) h.disk ≡ Some (resized m u) = get_resized es ms h.disk m t.there in
-    let free : is_run_free (resized m u) h.unit n ≡ true = run_resized m h.unit n u w t.free b.1 in (
+    let there : slice_get (resized_maps es ms) h.disk ≡ Some (with_unit_count m u) = get_resized es ms h.disk m t.there in
+    let free : is_run_free (with_unit_count m u) h.unit n ≡ true = run_resized m h.unit n u w t.free b.1 in (
       rw (there, free) (ap (λ (xs : List UnitMap). Some xs) (put_resized es ms mid h n t w b.1)),
       λ d x at. elim (cases_eq d h.disk) [
         | inl same ↦
@@ -219,7 +219,7 @@ step_both es ms mid other h n t z whole fit =
     let m : UnitMap = t.map_before in
     let u : ℕ = disk_units es h.disk in
     let w = whole h.disk m t.there in
-    let is : z.map_before ≡ resized m u = some_is z.map_before (resized m u) (sym z.there ∙ get_resized es ms h.disk m t.there) in
+    let is : z.map_before ≡ with_unit_count m u = some_is z.map_before (with_unit_count m u) (sym z.there ∙ get_resized es ms h.disk m t.there) in
     let below : Below h.unit n u = run_below m h.unit n u (ap (λ (x : UnitMap). is_run_free x h.unit n) (sym is) ∙ z.free) in (
       z.put ∙ ap (λ (x : UnitMap). slice_set (resized_maps es ms) h.disk (with_run x h.unit n true)) is ∙ put_resized es ms mid h n t w below,
       λ d x at. elim (cases_eq d h.disk) [
@@ -265,7 +265,7 @@ unfolding resized_from
 first_resized first one other i j zero e = refl
 first_resized first one other i j (suc n) e =
     let rest = first_resized first one other (suc i) (j + 1) n (omega (arith, e)) in
-    let here : resized (unused first (disk_units one j)) (disk_units other i) ≡ unused first (disk_units other j) = resized_unused first (disk_units one j) (disk_units other i) ∙ ap (λ (k : ℕ). unused first (disk_units other k)) e in
+    let here : with_unit_count (unused first (disk_units one j)) (disk_units other i) ≡ unused first (disk_units other j) = resized_unused first (disk_units one j) (disk_units other i) ∙ ap (λ (k : ℕ). unused first (disk_units other k)) e in
     ap (λ (x : UnitMap). x ∷ resized_from (suc i) other (map (λ d. unused first (disk_units one d)) (range_with_len (j + 1) n))) here ∙ ap (λ (xs : List UnitMap). unused first (disk_units other j) ∷ xs) rest
 
 first_whole : (s : Shape) (es : List Entry) → AllWhole (unused_maps s es)
@@ -312,7 +312,7 @@ units_are_resized s one other t ms next has there =
 -- the maps of the disks before one with their next units
 mixed : ℕ → ℕ → List Entry → List UnitMap → List UnitMap
 mixed n i es [] = []
-mixed n i es (m ∷ ms) = cond (ltb i n) (resized m (disk_units es i)) m ∷ mixed n (suc i) es ms
+mixed n i es (m ∷ ms) = cond (ltb i n) (with_unit_count m (disk_units es i)) m ∷ mixed n (suc i) es ms
 
 mixed_none : (n i : ℕ) (es : List Entry) (ms : List UnitMap) → n ≤ i → mixed n i es ms ≡ ms
 unfolding mixed
@@ -327,7 +327,7 @@ mixed_all n i es (m ∷ ms) within =
     rw (lt-ltb i n (omega (arith, more)), mixed_all n (suc i) es ms (omega (arith, more))) refl
 
 -- one disk more
-mixed_put : (n i j : ℕ) (es : List Entry) (ms : List UnitMap) (m : UnitMap) → slice_get ms j ≡ Some m → i + j ≡ n → slice_set (mixed n i es ms) j (resized m (disk_units es n)) ≡ mixed (n + 1) i es ms
+mixed_put : (n i j : ℕ) (es : List Entry) (ms : List UnitMap) (m : UnitMap) → slice_get ms j ≡ Some m → i + j ≡ n → slice_set (mixed n i es ms) j (with_unit_count m (disk_units es n)) ≡ mixed (n + 1) i es ms
 unfolding mixed
 mixed_put n i j es [] m there at = absurd cc
 mixed_put n i zero es (x ∷ ms) m there at =
@@ -335,21 +335,21 @@ mixed_put n i zero es (x ∷ ms) m there at =
     let is : x ≡ m = some_is x m there in
     rw (lt-ltb i (n + 1) (omega (arith, here)), mixed_none n (suc i) es ms (omega (arith, here)), mixed_none (n + 1) (suc i) es ms (omega (arith, here)), here, is) refl
 mixed_put n i (suc j) es (x ∷ ms) m there at =
-    rw (lt-ltb i n (omega (arith, at)), lt-ltb i (n + 1) (omega (arith, at))) (ap (λ (xs : List UnitMap). resized x (disk_units es i) ∷ xs) (mixed_put n (suc i) j es ms m there (omega (arith, at))))
+    rw (lt-ltb i n (omega (arith, at)), lt-ltb i (n + 1) (omega (arith, at))) (ap (λ (xs : List UnitMap). with_unit_count x (disk_units es i) ∷ xs) (mixed_put n (suc i) j es ms m there (omega (arith, at))))
 
 -- where its units stay, or where there is none, nothing changes
-mixed_stay : (n i j : ℕ) (es : List Entry) (ms : List UnitMap) → ((m : UnitMap) → slice_get ms j ≡ Some m → resized m (disk_units es n) ≡ m) → i + j ≡ n → mixed n i es ms ≡ mixed (n + 1) i es ms
+mixed_stay : (n i j : ℕ) (es : List Entry) (ms : List UnitMap) → ((m : UnitMap) → slice_get ms j ≡ Some m → with_unit_count m (disk_units es n) ≡ m) → i + j ≡ n → mixed n i es ms ≡ mixed (n + 1) i es ms
 unfolding mixed
 mixed_stay n i j es [] same at = refl
 mixed_stay n i zero es (x ∷ ms) same at =
     let here : i ≡ n = omega (arith, at) in
-    let is : resized x (disk_units es i) ≡ x = ap (λ (k : ℕ). resized x (disk_units es k)) here ∙ same x refl in
+    let is : with_unit_count x (disk_units es i) ≡ x = ap (λ (k : ℕ). with_unit_count x (disk_units es k)) here ∙ same x refl in
     rw (lt-ltb i (n + 1) (omega (arith, here)), le-ltb i n (omega (arith, here)), mixed_none n (suc i) es ms (omega (arith, here)), mixed_none (n + 1) (suc i) es ms (omega (arith, here)), is) refl
 mixed_stay n i (suc j) es (x ∷ ms) same at =
-    rw (lt-ltb i n (omega (arith, at)), lt-ltb i (n + 1) (omega (arith, at))) (ap (λ (xs : List UnitMap). resized x (disk_units es i) ∷ xs) (mixed_stay n (suc i) j es ms same (omega (arith, at))))
+    rw (lt-ltb i n (omega (arith, at)), lt-ltb i (n + 1) (omega (arith, at))) (ap (λ (xs : List UnitMap). with_unit_count x (disk_units es i) ∷ xs) (mixed_stay n (suc i) j es ms same (omega (arith, at))))
 
 -- a map with as many units stays
-stays : (es : List Entry) (ms : List UnitMap) (d : ℕ) (m : UnitMap) → ((x : UnitMap) → slice_get ms d ≡ Some x → IsWhole x) → slice_get ms d ≡ Some m → m.units ≡ disk_units es d → (x : UnitMap) → slice_get ms d ≡ Some x → resized x (disk_units es d) ≡ x
+stays : (es : List Entry) (ms : List UnitMap) (d : ℕ) (m : UnitMap) → ((x : UnitMap) → slice_get ms d ≡ Some x → IsWhole x) → slice_get ms d ≡ Some m → m.units ≡ disk_units es d → (x : UnitMap) → slice_get ms d ≡ Some x → with_unit_count x (disk_units es d) ≡ x
 stays es ms d m whole is same x there =
     let one : m ≡ x = some_is m x (sym is ∙ there) in
     resized_same x (disk_units es d) (whole x there) (ap (λ (y : UnitMap). y.units) (sym one) ∙ same)
@@ -371,7 +371,7 @@ put_all es ms d (suc n) whole =
       no_map : (m : UnitMap) → None ≡ Some m → ⊥
       no_map m e = absurd cc
     by left at (Some m) is = in_map (eqb m.units (disk_units es d)) refl where
-      in_map : (b : Bool) → eqb m.units (disk_units es d) ≡ b → put_maps (mixed d 0 es ms) (cond b [] ((d, resized m (disk_units es d)) ∷ []) ++ left) ≡ put_maps (mixed (d + 1) 0 es ms) left
+      in_map : (b : Bool) → eqb m.units (disk_units es d) ≡ b → put_maps (mixed d 0 es ms) (cond b [] ((d, with_unit_count m (disk_units es d)) ∷ []) ++ left) ≡ put_maps (mixed (d + 1) 0 es ms) left
       in_map true same = ap (λ (xs : List UnitMap). put_maps xs left) (mixed_stay d 0 d es ms (stays es ms d m (λ x there. whole d x there) is (eqb-true m.units (disk_units es d) same)) at)
       in_map false other = ap (λ (xs : List UnitMap). put_maps xs left) (mixed_put d 0 d es ms m is at)
 
@@ -383,7 +383,7 @@ changed_are es ms whole long =
 -- maps of disks whose units stay do
 pub others_stay : (es : List Entry) (ms : List UnitMap) → AllWhole ms → OtherMapsStay es ms (resized_maps es ms)
 others_stay es ms whole d same = resized_get es ms d 0 d (omega arith) ∙ by (slice_get ms d) refl same where
-  by : (o : Option UnitMap) → slice_get ms d ≡ o → map_units o ≡ disk_units es d → option_map (λ m. resized m (disk_units es d)) o ≡ o
+  by : (o : Option UnitMap) → slice_get ms d ≡ o → map_units o ≡ disk_units es d → option_map (λ m. with_unit_count m (disk_units es d)) o ≡ o
   by None is same = refl
   by (Some m) is same = ap (λ (x : UnitMap). Some x) (resized_same m (disk_units es d) (whole d m is) same)
 
@@ -415,7 +415,7 @@ changed_past xs d units o none = rw none (no_more xs)
 pub changed_none : (xs : List (ℕ × UnitMap)) (d units : ℕ) (m : UnitMap) → m.units ≡ units → xs ≡ xs ++ changed_map d units (Some m)
 changed_none xs d units m same = rw (eq-eqb m.units units same) (no_more xs)
 
-pub changed_one : (xs ys : List (ℕ × UnitMap)) (d units : ℕ) (m x : UnitMap) → (m.units ≡ units → ⊥) → x ≡ resized m units → ys ≡ xs ++ (d, x) ∷ [] → ys ≡ xs ++ changed_map d units (Some m)
+pub changed_one : (xs ys : List (ℕ × UnitMap)) (d units : ℕ) (m x : UnitMap) → (m.units ≡ units → ⊥) → x ≡ with_unit_count m units → ys ≡ xs ++ (d, x) ∷ [] → ys ≡ xs ++ changed_map d units (Some m)
 changed_one xs ys d units m x other is put = put ∙ ap (λ (y : UnitMap). xs ++ (d, y) ∷ []) is ∙ rw (ne_eqb m.units units other) refl
 
 -- maps that are put one after the other

@@ -11,7 +11,7 @@ use Rattle.asm_formats.specs.Items.{Home}
 use Rattle.catalog_tables.specs.asm_placement.Placed.{Placed}
 use Rattle.catalog_tables.specs.allocator.UnitMaps.{IsUsedRun, UnitMap, is_free, with_run}
 use Rattle.catalog_tables.proofs.asm_base.Exact.{bind_some, some_is}
-use Rattle.catalog_tables.specs.Placing.{after_homes, home_taken, is_run_free, marked}
+use Rattle.catalog_tables.specs.Placing.{after_homes, home_taken, is_run_free, with_used_run}
 use Rattle.catalog_tables.proofs.HomeUnits.{Takes, and_false, is_in, not_true, replaced, set_here, set_other, takes, three_true}
 use Rattle.catalog_tables.proofs.PlacingLaws.{from_all, run_is}
 
@@ -117,7 +117,7 @@ runs_swap m at n b l free later =
 
 -- the maps with a run of a disk used
 abbrev run_taken : List UnitMap → ℕ → ℕ → ℕ → Option (List UnitMap)
-run_taken ms d at n = option_and_then (λ m. Some (slice_set ms d m)) (marked (slice_get ms d) at n)
+run_taken ms d at n = option_and_then (λ m. Some (slice_set ms d m)) (with_used_run (slice_get ms d) at n)
 
 takes_run : (ms next : List UnitMap) (d at n : ℕ) → run_taken ms d at n ≡ Some next → Takes ms next (record { disk = d; unit = at }) n
 takes_run ms next d at n e = takes ms next (record { disk = d; unit = at }) n e

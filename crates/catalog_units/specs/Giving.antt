@@ -2,7 +2,7 @@
 use Rattle.std.specs.Prelude.{◌≡◌, ℕ, Bool, ◌&&◌, not, List, ◌++◌, ◌<◌, map, filter, take, true, false, Some}
 use Rattle.std.specs.BTreeMap.{is_at}
 use Rattle.catalog_tables.specs.asm_formats.Items.{Key, files_kind}
-use Rattle.catalog_tables.specs.asm_base.Records.{Entry}
+use Rattle.catalog_tables.specs.asm_base.Records.{DirectoryRecord}
 use Rattle.catalog_tables.specs.page_map.Changes.{is_gone}
 use Rattle.catalog_tables.specs.allocator.UnitMaps.{UnitMap}
 use Rattle.catalog_tables.specs.extent_map.Extents.{Chunked, chunk_key}
@@ -22,12 +22,12 @@ abbrev pub AreUnitsOfKept : ℕ → List UnitMap → (Chunk → Bool) → List C
 AreUnitsOfKept step first keep t ms = after_chunks step first (chunks_kept keep t) ≡ Some ms
 
 -- the keys of a change: those of the records that are put, and those that go
-abbrev pub keys_of : List Entry → List Key → List Key
-keys_of put gone = map (λ (e : Entry). e.0) put ++ gone
+abbrev pub changed_keys : List DirectoryRecord → List Key → List Key
+changed_keys put gone = map (λ (e : DirectoryRecord). e.0) put ++ gone
 
 -- the record of the chunk isn't among these
-abbrev pub stays : List Key → Chunk → Bool
-stays keys c = not (is_gone keys (chunk_key c.0 c.1))
+abbrev pub is_chunk_kept : List Key → Chunk → Bool
+is_chunk_kept keys c = not (is_gone keys (chunk_key c.0 c.1))
 
 -- a key at a place of a change: the first of a chunk's record, or none that is new
 pub record IsNewKey (keys : List Key) (place : ℕ) (k : Key) : Type 0 where

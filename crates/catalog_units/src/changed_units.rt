@@ -10,7 +10,7 @@ ghost use Rattle.catalog_tables.specs.asm_base.Chunks.{Chunk};
 ghost use Rattle.catalog_tables.specs.extent_map.Changing.{AreChunks};
 ghost use Rattle.catalog_tables.specs.Changing.{IsAfter};
 ghost use Rattle.catalog_tables.specs.Tables.{AreTables};
-ghost use Rattle.catalog_units.specs.Giving.{AreUnitsOfKept, IsNewKey, IsOld, keys_of, stays};
+ghost use Rattle.catalog_units.specs.Giving.{AreUnitsOfKept, IsNewKey, IsOld, changed_keys, is_chunk_kept};
 ghost use Rattle.catalog_tables.specs.Placing.{after_chunks};
 
 use crate::giving::{give_at, mark_at};
@@ -19,7 +19,7 @@ use catalog_tables::{Change, ExtentMap, Key, Parts, Shape, Units, Value, record_
 /// The key at a place of a change, where the records that are put stand before the keys that go.
 fn key_at(put: &[(Key, Value)], gone: &[Key], place: usize) -> Key
     requires { place < length put.now + length gone.now }
-    ensures { result ≡ get_or (keys_of put.now gone.now) place result }
+    ensures { result ≡ get_or (changed_keys put.now gone.now) place result }
 {
     if place < put.len() {
         put[place].0
@@ -39,7 +39,7 @@ fn is_same(x: Key, y: Key) -> bool
 #[tactic(auto, using(crate::proofs::ChangeUnits::earlier_is, crate::proofs::ChangeUnits::not_yet, crate::proofs::ChangeUnits::length_keys))]
 fn is_earlier(put: &[(Key, Value)], gone: &[Key], place: usize, key: Key) -> bool
     requires { place ≤ length put.now + length gone.now }
-    ensures { result ≡ is_gone (take place (keys_of put.now gone.now)) key }
+    ensures { result ≡ is_gone (take place (changed_keys put.now gone.now)) key }
 {
     for earlier in 0..place {
         if is_same(key_at(put, gone, earlier), key) {
@@ -52,8 +52,8 @@ fn is_earlier(put: &[(Key, Value)], gone: &[Key], place: usize, key: Key) -> boo
 /// Whether the key at a place of a change is that of a chunk, and stands at no earlier place.
 fn is_new(put: &[(Key, Value)], gone: &[Key], place: usize, key: Key) -> bool
     requires { place ≤ length put.now + length gone.now }
-    ensures new { OnTrue result (IsNewKey (keys_of put.now gone.now) place key) }
-    ensures old { OnFalse result (IsOld (keys_of put.now gone.now) place key) }
+    ensures new { OnTrue result (IsNewKey (changed_keys put.now gone.now) place key) }
+    ensures old { OnFalse result (IsOld (changed_keys put.now gone.now) place key) }
 {
     key.kind == record_kind::FILES && key.b > 0 && !is_earlier(put, gone, place, key)
 }
@@ -70,8 +70,8 @@ fn give_one(
 )
     requires table { AreChunks extents.now }
     requires place { place < length put.now + length gone.now }
-    requires units { (first : Items UnitMap) × AreUnitsOfKept step first (stays (take place (keys_of put.now gone.now))) extents.now units.old }
-    ensures { (first : Items UnitMap) → AreUnitsOfKept step first (stays (take place (keys_of put.now gone.now))) extents.now units.old → AreUnitsOfKept step first (stays (take (place + 1) (keys_of put.now gone.now))) extents.now units.new }
+    requires units { (first : Items UnitMap) × AreUnitsOfKept step first (is_chunk_kept (take place (changed_keys put.now gone.now))) extents.now units.old }
+    ensures { (first : Items UnitMap) → AreUnitsOfKept step first (is_chunk_kept (take place (changed_keys put.now gone.now))) extents.now units.old → AreUnitsOfKept step first (is_chunk_kept (take (place + 1) (changed_keys put.now gone.now))) extents.now units.new }
 {
     let key = key_at(put, gone, place);
     if is_new(put, gone, place, key) {
@@ -91,7 +91,7 @@ fn mark_one(
 )
     requires table { AreChunks extents.now }
     requires place { place < length put.now + length gone.now }
-    ensures { (first after : Items UnitMap) → AreUnitsOfKept step first (stays (take (place + 1) (keys_of put.now gone.now))) extents.now units.old → AreUnitsOfKept step first (stays (take place (keys_of put.now gone.now))) extents.now after → after ≡ units.new }
+    ensures { (first after : Items UnitMap) → AreUnitsOfKept step first (is_chunk_kept (take (place + 1) (changed_keys put.now gone.now))) extents.now units.old → AreUnitsOfKept step first (is_chunk_kept (take place (changed_keys put.now gone.now))) extents.now after → after ≡ units.new }
 {
     let key = key_at(put, gone, place);
     if is_new(put, gone, place, key) {
@@ -104,7 +104,7 @@ fn mark_one(
 fn give_all(units: &mut [Units], step: u32, extents: &ExtentMap, put: &[(Key, Value)], gone: &[Key])
     requires table { AreChunks extents.now }
     requires units { (first : Items UnitMap) × after_chunks step first extents.now ≡ Some units.old }
-    ensures { (first : Items UnitMap) → after_chunks step first extents.now ≡ Some units.old → AreUnitsOfKept step first (stays (keys_of put.now gone.now)) extents.now units.new }
+    ensures { (first : Items UnitMap) → after_chunks step first extents.now ≡ Some units.old → AreUnitsOfKept step first (is_chunk_kept (changed_keys put.now gone.now)) extents.now units.new }
 {
     let count = put.len() + gone.len();
     for place in 0..count {
@@ -115,7 +115,7 @@ fn give_all(units: &mut [Units], step: u32, extents: &ExtentMap, put: &[(Key, Va
 /// Makes the units of all chunks used whose keys a change has.
 fn mark_all(units: &mut [Units], step: u32, extents: &ExtentMap, put: &[(Key, Value)], gone: &[Key])
     requires table { AreChunks extents.now }
-    ensures { (first after : Items UnitMap) → AreUnitsOfKept step first (stays (keys_of put.now gone.now)) extents.now units.old → after_chunks step first extents.now ≡ Some after → after ≡ units.new }
+    ensures { (first after : Items UnitMap) → AreUnitsOfKept step first (is_chunk_kept (changed_keys put.now gone.now)) extents.now units.old → after_chunks step first extents.now ≡ Some after → after ≡ units.new }
 {
     let count = put.len() + gone.len();
     for done in 0..count {
@@ -137,7 +137,7 @@ fn change_units(
     requires new { AreChunks new.now }
     requires units { (first : Items UnitMap) × after_chunks step first old.now ≡ Some units.old }
     // The other chunks are the same.
-    requires others { (c : Chunk) → stays (keys_of put.now gone.now) c ≡ true → chunk_at old.now c ≡ chunk_at new.now c }
+    requires others { (c : Chunk) → is_chunk_kept (changed_keys put.now gone.now) c ≡ true → chunk_at old.now c ≡ chunk_at new.now c }
     // From whichever units of no homes: those of the old extents become those of the new ones.
     ensures { (first after : Items UnitMap) → after_chunks step first old.now ≡ Some units.old → after_chunks step first new.now ≡ Some after → after ≡ units.new }
 {

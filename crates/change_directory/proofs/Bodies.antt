@@ -9,7 +9,7 @@ use Rattle.asm_group.specs.Names.{Bytes}
 use Rattle.asm_formats.specs.Bytes.{block_size, block, is_open}
 use Rattle.asm_formats.specs.Items.{Item}
 use Rattle.asm_formats.specs.Content.{page_items, is_page}
-use Rattle.asm_formats.specs.Logs.{Log, PageImage, head_of, log_head_spelling, blocks_from}
+use Rattle.asm_formats.specs.Logs.{Log, PageImage, head_of_log, log_head_spelling, blocks_from}
 use Rattle.asm_formats.specs.LogSlots.{IsLog}
 use Rattle.asm_formats.specs.Commits.{HoldsLog}
 use Rattle.asm_formats.proofs.Sizes.{are_blocks}
@@ -50,9 +50,9 @@ blocks_stored image slot k (i ∷ images) pages here inside =
 pub holds_body : (d : ℕ) (image : Image) (slot k : ℕ) (log : Log) → IsLog d log → (k + 2 + length log.images) * block_size ≤ image.size slot
     → is_open (disk_bytes image slot) k ≡ true → window (image.byte slot) ((k + 1) * block_size) (length (log_body log)) ≡ log_body log → HoldsLog (disk_bytes image slot) k log
 holds_body d image slot k log ok inside opened here =
-    let long : length (log_head_spelling (head_of log)) ≡ 4096 = are_blocks.log_head d (head_of log) ok.0 in
-    let parts = window-parts (image.byte slot) ((k + 1) * block_size) (log_head_spelling (head_of log)) (flat_map (λ (i : PageImage). i.1) log.images) here in
-    let next : (k + 1) * 4096 + length (log_head_spelling (head_of log)) ≡ (k + 2) * 4096 = omega arith in
+    let long : length (log_head_spelling (head_of_log log)) ≡ 4096 = are_blocks.log_head d (head_of_log log) ok.0 in
+    let parts = window-parts (image.byte slot) ((k + 1) * block_size) (log_head_spelling (head_of_log log)) (flat_map (λ (i : PageImage). i.1) log.images) here in
+    let next : (k + 1) * 4096 + length (log_head_spelling (head_of_log log)) ≡ (k + 2) * 4096 = omega arith in
     record {
       gate = opened;
       head = (bytes_are_listed image slot).2 ((k + 1) * block_size) block_size (omega arith)

@@ -12,7 +12,7 @@ use Rattle.asm_formats.specs.Among.{IsAmong}
 use Rattle.asm_formats.specs.Bytes.{block_size, is_open}
 use Rattle.asm_formats.specs.Regions.{region_start, region_end, has_region}
 use Rattle.asm_formats.specs.Content.{records_in}
-use Rattle.asm_formats.specs.Logs.{Log, PageImage, log_head_at, log_at, open_logs, image_of, image_in}
+use Rattle.asm_formats.specs.Logs.{Log, PageImage, log_head_at, log_at, open_logs, logged_image, image_in}
 use Rattle.asm_formats.specs.Pages.{home_page, page_at, with_images, committed}
 use Rattle.asm_formats.specs.LogSlots.{IsLogPut}
 use Rattle.asm_formats.specs.Commits.{HoldsLog}
@@ -26,13 +26,13 @@ use Rattle.change_directory.specs.declared.copy.DirCopy.{DirCopy}
 use Rattle.change_directory.specs.declared.copy.LogSlot.{LogSlot}
 use Rattle.change_directory.specs.declared.copy.LogSlot.TheVariants.{First, Second}
 use Rattle.change_directory.specs.Places.{gate_of, other_of}
-use Rattle.change_directory.specs.Logs.{is_open_at, number_at, spare_in, log_of, are_pages}
+use Rattle.change_directory.specs.Logs.{is_open_at, commit_number_at, spare_in, log_of, are_pages}
 use Rattle.asm_base.specs.Blocks.{image_of_page}
-use Rattle.change_directory.specs.Changes.{disk, content_in, IsAtHome, DecodesIn, IsAbove, MayLog, HasLogged}
+use Rattle.change_directory.specs.Changes.{copy_disk_bytes, content_in, IsAtHome, DecodesIn, IsAbove, MayLog, HasLogged}
 use Rattle.change_directory.specs.Homes.{HomesOf, HasHomed}
 use Rattle.change_directory.specs.Formatting.{AreShut, HasFormatted}
-use Rattle.change_directory.specs.Laws.{IsReady, ArePut}
-use Rattle.change_directory.specs.StoreLaws.{IsShaped, HasRegion, counted, zero_page, content_with, HasPages, HasContent, HasDue, IsUnopened}
+use Rattle.change_directory.specs.Laws.{IsCopyReady, ArePut}
+use Rattle.change_directory.specs.StoreLaws.{IsShaped, HasRegion, counting_page, zero_page, content_with, HasPages, HasContent, HasDue, IsUnopened}
 use Rattle.change_directory.proofs.Afterwards.{image_case, head_pages, logged_is_put, logged_are_due, logging_is_put}
 use Rattle.change_directory.proofs.Contents.{moment_content}
 use Rattle.change_directory.proofs.Keeping.{in_homes, logs_same, listed, other_page, keeps_content}
@@ -50,7 +50,7 @@ content_same copy number f g same =
 
 -- images that lie over the same pages
 pub over_same : (images : List PageImage) (f g : ℕ → Bytes) (p : ℕ) → f p ≡ g p → with_images images f p ≡ with_images images g p
-over_same images f g p same = ap (λ (b : Bytes). unwrap_or (image_of images p) b) same
+over_same images f g p same = ap (λ (b : Bytes). unwrap_or (logged_image images p) b) same
 
 -- what has a content has an open log slot
 pub not_shut : (copy : DirCopy) → IsShaped copy → (number : ℕ) (page : ℕ → Bytes) (x : Image) → HasContent copy number page x → AreShut copy x → ⊥
@@ -60,7 +60,7 @@ not_shut copy shaped number page x has shut =
 
 -- the log slots where bytes behind the pages are the same
 gates_behind : (copy : DirCopy) (x y : Image) → ((k : ℕ) → (region_start + copy.dir_blocks) * block_size ≤ k → y.byte copy.slot k ≡ x.byte copy.slot k) → (log : LogSlot)
-    → (is_open_at copy log y ≡ is_open_at copy log x) × (number_at copy log y ≡ number_at copy log x)
+    → (is_open_at copy log y ≡ is_open_at copy log x) × (commit_number_at copy log y ≡ commit_number_at copy log x)
 gates_behind copy x y same log = (
   ap (λ (b : ℕ). b == 165) (same (gate_of copy log * block_size) (omega (arith, low log))),
   ap (λ (l : List ℕ). (log_head_at l).commit)
@@ -71,7 +71,7 @@ gates_behind copy x y same log = (
     low First = omega arith
     low Second = omega arith
 
-pub still_above : (copy : DirCopy) (n : ℕ) (x y : Image) → ((log : LogSlot) → (is_open_at copy log y ≡ is_open_at copy log x) × (number_at copy log y ≡ number_at copy log x))
+pub still_above : (copy : DirCopy) (n : ℕ) (x y : Image) → ((log : LogSlot) → (is_open_at copy log y ≡ is_open_at copy log x) × (commit_number_at copy log y ≡ commit_number_at copy log x))
     → IsAbove copy n x → IsAbove copy n y
 still_above copy n x y same above log opened = omega (arith, above log (sym (same log).0 ∙ opened), (same log).1)
 
@@ -82,21 +82,21 @@ module _ (copy : DirCopy) (shaped : IsShaped copy) (pages : List (ℕ × Block))
   abbrev d : ℕ
   d = copy.dir_blocks
 
-  images : (p : ℕ × Block) → IsAmong pages p → image_in (open_logs d (disk copy x)) p.0 ≡ Some p.1.bytes
+  images : (p : ℕ × Block) → IsAmong pages p → image_in (open_logs d (copy_disk_bytes copy x)) p.0 ≡ Some p.1.bytes
   images = ⊎_elim (λ shut. absurd (not_shut copy shaped number page x has shut)) (λ each. each) due.due
 
-  same_logs : open_logs d (disk copy y) ≡ open_logs d (disk copy x)
-  same_logs = open_logs_same d (disk copy x) (disk copy y) (logs_same copy pages due.ascend shaped.least x y has.pages.sized step)
+  same_logs : open_logs d (copy_disk_bytes copy y) ≡ open_logs d (copy_disk_bytes copy x)
+  same_logs = open_logs_same d (copy_disk_bytes copy x) (copy_disk_bytes copy y) (logs_same copy pages due.ascend shaped.least x y has.pages.sized step)
 
-  images_after : (p : ℕ × Block) → IsAmong pages p → image_in (open_logs d (disk copy y)) p.0 ≡ Some p.1.bytes
+  images_after : (p : ℕ × Block) → IsAmong pages p → image_in (open_logs d (copy_disk_bytes copy y)) p.0 ≡ Some p.1.bytes
   images_after p among = ap (λ (l : List Log). image_in l p.0) same_logs ∙ images p among
 
-  home_stays : (p : ℕ) → p < d → ((q : ℕ × Block) → IsAmong pages q → q.0 ≡ p → ⊥) → home_page (disk copy y) p ≡ home_page (disk copy x) p
+  home_stays : (p : ℕ) → p < d → ((q : ℕ × Block) → IsAmong pages q → q.0 ≡ p → ⊥) → home_page (copy_disk_bytes copy y) p ≡ home_page (copy_disk_bytes copy x) p
   home_stays p lt none = other_page copy pages due.ascend shaped.least x y has.pages.sized step p lt none
 
-  counts_same : (p : ℕ) → p < d → counted copy y p ≡ counted copy x p
-  counts_same p lt = page_same d (disk copy x) (disk copy y) same_logs p (λ none. home_stays p lt (λ q among same.
-      none-some q.1.bytes (sym none ∙ ap (image_in (open_logs d (disk copy x))) (sym same) ∙ images q among)))
+  counts_same : (p : ℕ) → p < d → counting_page copy y p ≡ counting_page copy x p
+  counts_same p lt = page_same d (copy_disk_bytes copy x) (copy_disk_bytes copy y) same_logs p (λ none. home_stays p lt (λ q among same.
+      none-some q.1.bytes (sym none ∙ ap (image_in (open_logs d (copy_disk_bytes copy x))) (sym same) ∙ images q among)))
 
   behind : (k : ℕ) → (region_start + d) * block_size ≤ k → y.byte copy.slot k ≡ x.byte copy.slot k
   behind k far = (in_homes copy pages due.ascend x y step).byte copy.slot k (λ inside. omega (arith, far, inside.2))
@@ -106,7 +106,7 @@ module _ (copy : DirCopy) (shaped : IsShaped copy) (pages : List (ℕ × Block))
     record {
       pages = record {
         sized = omega (arith, has.pages.sized, step.size copy.slot);
-        decodes = logs_decode_same d (disk copy x) (disk copy y) (logs_same copy pages due.ascend shaped.least x y has.pages.sized step) ∙ has.pages.decodes;
+        decodes = logs_decode_same d (copy_disk_bytes copy x) (copy_disk_bytes copy y) (logs_same copy pages due.ascend shaped.least x y has.pages.sized step) ∙ has.pages.decodes;
         pages = λ p lt. counts_same p lt ∙ has.pages.pages p lt;
         above = λ n lt. still_above copy n x y (gates_behind copy x y behind) (has.pages.above n lt);
       };
@@ -118,7 +118,7 @@ module _ (copy : DirCopy) (shaped : IsShaped copy) (pages : List (ℕ × Block))
       others = λ p lt none. counts_same p lt ∙ due.others p lt none ∙ sym (home_stays p lt (absent p none));
     },
   ) where
-    absent : (p : ℕ) → image_of (map image_of_page pages) p ≡ None → (q : ℕ × Block) → IsAmong pages q → q.0 ≡ p → ⊥
+    absent : (p : ℕ) → logged_image (map image_of_page pages) p ≡ None → (q : ℕ × Block) → IsAmong pages q → q.0 ≡ p → ⊥
     absent p none = ⊎_elim (λ found. absurd (none-some found.0.1.bytes (sym none ∙ found.3))) (λ n. n.1) (image_case pages p)
 
   -- once they are written
@@ -127,18 +127,18 @@ module _ (copy : DirCopy) (shaped : IsShaped copy) (pages : List (ℕ × Block))
   homed_settles homed p lt = ⊎_elim
       (λ found.
       let q : ℕ × Block = found.0 in
-      let here : home_page (disk copy y) p ≡ q.1.bytes =
+      let here : home_page (copy_disk_bytes copy y) p ≡ q.1.bytes =
       listed copy pages due.ascend shaped.least x y has.pages.sized step y (step.size copy.slot) p lt
       ∙ ap (λ (n : ℕ). window (y.byte copy.slot) ((region_start + n) * block_size) block_size) (sym found.2) ∙ homed.homes q found.1 in
-      let image : image_in (open_logs d (disk copy y)) p ≡ Some q.1.bytes = ap (image_in (open_logs d (disk copy y))) (sym found.2) ∙ images_after q found.1 in
-      ap (λ (o : Option Bytes). unwrap_or o (home_page (disk copy y) p)) image ∙ sym here)
+      let image : image_in (open_logs d (copy_disk_bytes copy y)) p ≡ Some q.1.bytes = ap (image_in (open_logs d (copy_disk_bytes copy y))) (sym found.2) ∙ images_after q found.1 in
+      ap (λ (o : Option Bytes). unwrap_or o (home_page (copy_disk_bytes copy y) p)) image ∙ sym here)
       (λ none. homing_keeps.1.others p lt none.0)
       (image_case pages p)
 
 -- ---- a commit
 
 module _ (copy : DirCopy) (number : ℕ) (pages : List (ℕ × Block)) (put : ArePut copy number pages) (page : ℕ → Bytes) (x y : Image)
-    (ready : IsReady copy number x) (are : (p : ℕ) → p < copy.dir_blocks → counted copy x p ≡ page p) where
+    (ready : IsCopyReady copy number x) (are : (p : ℕ) → p < copy.dir_blocks → counting_page copy x p ≡ page p) where
   abbrev e : ℕ
   e = copy.dir_blocks
 
@@ -151,19 +151,19 @@ module _ (copy : DirCopy) (number : ℕ) (pages : List (ℕ × Block)) (put : Ar
   small : e ≤ 4294967296
   small = omega (arith, put.most)
 
-  committed_is : Some (committed e (disk copy x) log) ≡ content_with copy number after
-  committed_is = content_same copy number (with_images (map image_of_page pages) (page_at e (disk copy x))) after
-      (λ p lt. over_same (map image_of_page pages) (page_at e (disk copy x)) page p (are p lt))
+  committed_is : Some (committed e (copy_disk_bytes copy x) log) ≡ content_with copy number after
+  committed_is = content_same copy number (with_images (map image_of_page pages) (page_at e (copy_disk_bytes copy x))) after
+      (λ p lt. over_same (map image_of_page pages) (page_at e (copy_disk_bytes copy x)) page p (are p lt))
 
-  whole : has_region e (length (disk copy x)) ≡ true
-  whole = le-leb (region_end e * block_size) (length (disk copy x)) (omega (arith, ready.sized, (bytes_are_listed x copy.slot).0))
+  whole : has_region e (length (copy_disk_bytes copy x)) ≡ true
+  whole = le-leb (region_end e * block_size) (length (copy_disk_bytes copy x)) (omega (arith, ready.sized, (bytes_are_listed x copy.slot).0))
 
   -- while the log is put
   pub logging_keeps : MayLog copy number pages x y → (content_in copy y ≡ content_in copy x) ⊎ (content_in copy y ≡ content_with copy number after)
   logging_keeps step = ⊎_elim
       (λ same. inl (same_content copy x y same))
       (λ is_put. ⊎_elim inl (λ c. inr (c ∙ committed_is))
-      (moment_content e (disk copy x) (disk copy y) (gate_of copy (spare_in copy x)) (gate_of copy (other_of (spare_in copy x))) log small is_put whole is_put.moment))
+      (moment_content e (copy_disk_bytes copy x) (copy_disk_bytes copy y) (gate_of copy (spare_in copy x)) (gate_of copy (other_of (spare_in copy x))) log small is_put whole is_put.moment))
       (logging_is_put copy number pages put x y ready step)
 
   module _ (logged : HasLogged copy number pages x y) where
@@ -173,27 +173,27 @@ module _ (copy : DirCopy) (number : ℕ) (pages : List (ℕ × Block)) (put : Ar
     abbrev other : ℕ
     other = gate_of copy (other_of (spare_in copy x))
 
-    is_put : IsLogPut e (disk copy x) (disk copy y) k other log
+    is_put : IsLogPut e (copy_disk_bytes copy x) (copy_disk_bytes copy y) k other log
     is_put = (logged_is_put copy number pages put x y ready logged).0
 
-    holds : HoldsLog (disk copy y) k log
+    holds : HoldsLog (copy_disk_bytes copy y) k log
     holds = (logged_is_put copy number pages put x y ready logged).1
 
     sized_after : HasRegion copy y
     sized_after = omega (arith, ready.sized, logged.elsewhere.size copy.slot)
 
-    counts_after : (p : ℕ) → p < e → counted copy y p ≡ with_images (map image_of_page pages) (page_at e (disk copy x)) p
-    counts_after p lt = put_page e (disk copy x) k other is_put.may_close (disk copy y) is_put.elsewhere log small is_put.is_log is_put.above holds p lt
+    counts_after : (p : ℕ) → p < e → counting_page copy y p ≡ with_images (map image_of_page pages) (page_at e (copy_disk_bytes copy x)) p
+    counts_after p lt = put_page e (copy_disk_bytes copy x) k other is_put.may_close (copy_disk_bytes copy y) is_put.elsewhere log small is_put.is_log is_put.above holds p lt
 
     -- the numbers of the open log slots
-    spare_number : number_at copy (spare_in copy x) y ≡ number
-    spare_number = sym (number_listed copy put.least y sized_after (spare_in copy x)) ∙ ap (λ (l : Log). l.commit) (log_read e (disk copy y) k log small is_put.is_log holds)
+    spare_number : commit_number_at copy (spare_in copy x) y ≡ number
+    spare_number = sym (number_listed copy put.least y sized_after (spare_in copy x)) ∙ ap (λ (l : Log). l.commit) (log_read e (copy_disk_bytes copy y) k log small is_put.is_log holds)
 
-    other_lower : is_open_at copy (other_of (spare_in copy x)) y ≡ true → number_at copy (other_of (spare_in copy x)) y < number
+    other_lower : is_open_at copy (other_of (spare_in copy x)) y ≡ true → commit_number_at copy (other_of (spare_in copy x)) y < number
     other_lower opened =
-        let slot = other_slot e (disk copy x) k other is_put.may_close (disk copy y) is_put.elsewhere is_put.may_close.pair in
-        let was : is_open (disk copy x) other ≡ true = sym slot.gate ∙ gate_listed copy put.least y sized_after (other_of (spare_in copy x)) ∙ opened in
-        let same : (log_at e (disk copy y) other).commit ≡ (log_at e (disk copy x) other).commit = ap (λ (l : Log). l.commit) (log_at_same e (disk copy x) (disk copy y) other (slot.body was)) in
+        let slot = other_slot e (copy_disk_bytes copy x) k other is_put.may_close (copy_disk_bytes copy y) is_put.elsewhere is_put.may_close.pair in
+        let was : is_open (copy_disk_bytes copy x) other ≡ true = sym slot.gate ∙ gate_listed copy put.least y sized_after (other_of (spare_in copy x)) ∙ opened in
+        let same : (log_at e (copy_disk_bytes copy y) other).commit ≡ (log_at e (copy_disk_bytes copy x) other).commit = ap (λ (l : Log). l.commit) (log_at_same e (copy_disk_bytes copy x) (copy_disk_bytes copy y) other (slot.body was)) in
         omega (arith, same, is_put.above was, number_listed copy put.least y sized_after (other_of (spare_in copy x)))
 
     pub logged_has : HasContent copy number after y × HasDue copy pages y
@@ -201,23 +201,23 @@ module _ (copy : DirCopy) (number : ℕ) (pages : List (ℕ × Block)) (put : Ar
       record {
         pages = record {
           sized = sized_after;
-          decodes = put_decode e (disk copy x) k other is_put.may_close (disk copy y) is_put.elsewhere log small is_put.is_log is_put.above holds;
-          pages = λ p lt. counts_after p lt ∙ over_same (map image_of_page pages) (page_at e (disk copy x)) page p (are p lt);
-          above = λ n lt. either_log (λ (l : LogSlot). is_open_at copy l y ≡ true → number_at copy l y < n) (spare_in copy x)
+          decodes = put_decode e (copy_disk_bytes copy x) k other is_put.may_close (copy_disk_bytes copy y) is_put.elsewhere log small is_put.is_log is_put.above holds;
+          pages = λ p lt. counts_after p lt ∙ over_same (map image_of_page pages) (page_at e (copy_disk_bytes copy x)) page p (are p lt);
+          above = λ n lt. either_log (λ (l : LogSlot). is_open_at copy l y ≡ true → commit_number_at copy l y < n) (spare_in copy x)
               (λ opened. omega (arith, spare_number, lt)) (λ opened. omega (arith, other_lower opened, lt));
         };
-        content = put_commits e (disk copy x) k other is_put.may_close (disk copy y) is_put.elsewhere log small is_put.is_log is_put.above holds whole ∙ committed_is;
+        content = put_commits e (copy_disk_bytes copy x) k other is_put.may_close (copy_disk_bytes copy y) is_put.elsewhere log small is_put.is_log is_put.above holds whole ∙ committed_is;
       },
       record {
         ascend = head_pages e number pages put.head;
         due = logged_are_due copy number pages put x y ready logged;
         others = λ p lt none.
-            counts_after p lt ∙ ap (λ (o : Option Bytes). unwrap_or o (page_at e (disk copy x) p)) none ∙ ready.home p lt
-            ∙ sym (home_same e (disk copy x) k other is_put.may_close (disk copy y) is_put.elsewhere p lt);
+            counts_after p lt ∙ ap (λ (o : Option Bytes). unwrap_or o (page_at e (copy_disk_bytes copy x) p)) none ∙ ready.home p lt
+            ∙ sym (home_same e (copy_disk_bytes copy x) k other is_put.may_close (copy_disk_bytes copy y) is_put.elsewhere p lt);
       },
     )
 
-pub is_ready : (copy : DirCopy) (number before : ℕ) (page : ℕ → Bytes) (x : Image) → HasPages copy before page x → IsAtHome copy x → before < number → IsReady copy number x
+pub is_ready : (copy : DirCopy) (number before : ℕ) (page : ℕ → Bytes) (x : Image) → HasPages copy before page x → IsAtHome copy x → before < number → IsCopyReady copy number x
 is_ready copy number before page x has home lt = record { sized = has.sized; home = home; decodes = has.decodes; above = has.above number lt }
 
 -- ---- a copy made anew
@@ -232,17 +232,17 @@ module _ (copy : DirCopy) (shaped : IsShaped copy) (x : Image) (sized : HasRegio
   abbrev f : ℕ
   f = copy.dir_blocks
 
-  gate : (log : LogSlot) → is_open (disk copy x) (gate_of copy log) ≡ false
+  gate : (log : LogSlot) → is_open (copy_disk_bytes copy x) (gate_of copy log) ≡ false
   gate log = gate_listed copy shaped.least x sized log ∙ shut log
 
-  shut_pages : (p : ℕ) → counted copy x p ≡ home_page (disk copy x) p
+  shut_pages : (p : ℕ) → counting_page copy x p ≡ home_page (copy_disk_bytes copy x) p
   unfolding page_at
-  shut_pages p = ap (λ (l : List Log). unwrap_or (image_in l p) (home_page (disk copy x) p)) (closed_logs f (disk copy x) (gate First) (gate Second))
+  shut_pages p = ap (λ (l : List Log). unwrap_or (image_in l p) (home_page (copy_disk_bytes copy x) p)) (closed_logs f (copy_disk_bytes copy x) (gate First) (gate Second))
 
   pub shut_decodes : DecodesIn copy x
-  shut_decodes = (closed_may_close f (disk copy x) (gate_of copy First) (gate_of copy Second) (pair_of copy First) (gate First) (gate Second)).decode
+  shut_decodes = (closed_may_close f (copy_disk_bytes copy x) (gate_of copy First) (gate_of copy Second) (pair_of copy First) (gate First) (gate Second)).decode
 
-  pub unopened : (page : ℕ → Bytes) → ((p : ℕ) → p < f → home_page (disk copy x) p ≡ page p) → IsUnopened copy page x
+  pub unopened : (page : ℕ → Bytes) → ((p : ℕ) → p < f → home_page (copy_disk_bytes copy x) p ≡ page p) → IsUnopened copy page x
   unopened page are = record {
     shut = shut;
     none = shut_none copy shaped.least (short_sector copy shaped) x sized shut;
@@ -266,8 +266,8 @@ module _ (copy : DirCopy) (shaped : IsShaped copy) (x : Image) (sized : HasRegio
     unopened_stays = (shut_then, shut_none copy shaped.least (short_sector copy shaped) y sized_then shut_then)
 
     -- the pages at home
-    pub homes_then : HasHomed copy pages x y → (page : ℕ → Bytes) → ((p : ℕ) → p < f → home_page (disk copy x) p ≡ page p) → (p : ℕ) → p < f
-        → home_page (disk copy y) p ≡ with_images (map image_of_page pages) page p
+    pub homes_then : HasHomed copy pages x y → (page : ℕ → Bytes) → ((p : ℕ) → p < f → home_page (copy_disk_bytes copy x) p ≡ page p) → (p : ℕ) → p < f
+        → home_page (copy_disk_bytes copy y) p ≡ with_images (map image_of_page pages) page p
     homes_then homed page are p lt = ⊎_elim
         (λ found. listed copy pages ok shaped.least x y sized step y (step.size copy.slot) p lt
         ∙ ap (λ (n : ℕ). window (y.byte copy.slot) ((region_start + n) * block_size) block_size) (sym found.2) ∙ homed.homes found.0 found.1
@@ -291,7 +291,7 @@ unopened_homed copy pages page x y shaped is ok homed =
     (homes_then copy shaped x has.sized is.shut pages ok y homed.elsewhere homed page (λ p lt. sym (is.home p lt) ∙ has.pages p lt))
 
 module _ (copy : DirCopy) (number : ℕ) (page : ℕ → Bytes) (x y : Image) (put : ArePut copy number []) (is : IsUnopened copy page x) where
-  open_ready : IsReady copy number x
+  open_ready : IsCopyReady copy number x
   open_ready =
       let has = is.pages number in
       record { sized = has.sized; home = is.home; decodes = has.decodes; above = λ log opened. absurd (false≢true (sym (is.shut log) ∙ opened)) }

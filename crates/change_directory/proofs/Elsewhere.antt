@@ -23,9 +23,9 @@ use Rattle.change_directory.specs.declared.copy.DirCopy.{DirCopy}
 use Rattle.change_directory.specs.declared.copy.LogSlot.{LogSlot}
 use Rattle.change_directory.specs.declared.copy.LogSlot.TheVariants.{First, Second}
 use Rattle.change_directory.specs.Places.{gate_of}
-use Rattle.change_directory.specs.Logs.{SameLogSlots, is_open_at, number_at}
-use Rattle.change_directory.specs.Changes.{disk, content_in, IsAtHome, DecodesIn}
-use Rattle.change_directory.specs.StoreLaws.{IsShaped, HasRegion, RegionOf, counted, HasPages, HasDue, SameRegion, SameCopy}
+use Rattle.change_directory.specs.Logs.{SameLogSlots, is_open_at, commit_number_at}
+use Rattle.change_directory.specs.Changes.{copy_disk_bytes, content_in, IsAtHome, DecodesIn}
+use Rattle.change_directory.specs.StoreLaws.{IsShaped, HasRegion, RegionOf, counting_page, HasPages, HasDue, SameRegion, SameCopy}
 use Rattle.change_directory.proofs.Copies.{still_above}
 use Rattle.change_directory.proofs.Spares.{gate_listed, low_gate, region_logs, slot_inside}
 
@@ -57,7 +57,7 @@ module _ (copy : DirCopy) (shaped : IsShaped copy) (x y : Image) (sized : HasReg
   sized_after : HasRegion copy y
   sized_after = omega (arith, sized, same.size)
 
-  block_same : (j : ℕ) → region_start ≤ j → j < region_end d → block (disk copy y) j ≡ block (disk copy x) j
+  block_same : (j : ℕ) → region_start ≤ j → j < region_end d → block (copy_disk_bytes copy y) j ≡ block (copy_disk_bytes copy x) j
   block_same j low high =
       (bytes_are_listed y copy.slot).2 (j * block_size) block_size (omega (arith, sized_after, high))
       ∙ window-same (x.byte copy.slot) (y.byte copy.slot) (j * block_size) block_size (λ k from to. same.bytes k (omega (arith, low, from)) (omega (arith, high, to)))
@@ -69,51 +69,51 @@ module _ (copy : DirCopy) (shaped : IsShaped copy) (x y : Image) (sized : HasReg
   gates : (log : LogSlot) → is_open_at copy log y ≡ is_open_at copy log x
   gates = slots_same.gates
 
-  numbers : (log : LogSlot) → number_at copy log y ≡ number_at copy log x
+  numbers : (log : LogSlot) → commit_number_at copy log y ≡ commit_number_at copy log x
   numbers = slots_same.numbers
 
-  in_slot : (log : LogSlot) (j : ℕ) → gate_of copy log < j → j < gate_of copy log + log_blocks → block (disk copy y) j ≡ block (disk copy x) j
+  in_slot : (log : LogSlot) (j : ℕ) → gate_of copy log < j → j < gate_of copy log + log_blocks → block (copy_disk_bytes copy y) j ≡ block (copy_disk_bytes copy x) j
   in_slot log j low high = block_same j (omega (arith, low_gate copy log, low)) (omega (arith, slot_inside copy log shaped.least, high))
 
-  gate_same : (log : LogSlot) → is_open (disk copy y) (gate_of copy log) ≡ is_open (disk copy x) (gate_of copy log)
+  gate_same : (log : LogSlot) → is_open (copy_disk_bytes copy y) (gate_of copy log) ≡ is_open (copy_disk_bytes copy x) (gate_of copy log)
   gate_same log = gate_listed copy shaped.least y sized_after log ∙ gates log ∙ sym (gate_listed copy shaped.least x sized log)
 
-  slot_same : (log : LogSlot) → SameSlot (disk copy x) (disk copy y) (gate_of copy log) log_blocks
+  slot_same : (log : LogSlot) → SameSlot (copy_disk_bytes copy x) (copy_disk_bytes copy y) (gate_of copy log) log_blocks
   slot_same log = record { gate = gate_same log; body = λ opened j low high. in_slot log j low high }
 
-  logs : SameLogs d (disk copy x) (disk copy y)
+  logs : SameLogs d (copy_disk_bytes copy x) (copy_disk_bytes copy y)
   logs = record { first = slot_same First; second = slot_same Second }
 
-  open_same : open_logs d (disk copy y) ≡ open_logs d (disk copy x)
-  open_same = open_logs_same d (disk copy x) (disk copy y) logs
+  open_same : open_logs d (copy_disk_bytes copy y) ≡ open_logs d (copy_disk_bytes copy x)
+  open_same = open_logs_same d (copy_disk_bytes copy x) (copy_disk_bytes copy y) logs
 
-  homes : (p : ℕ) → p < d → home_page (disk copy y) p ≡ home_page (disk copy x) p
+  homes : (p : ℕ) → p < d → home_page (copy_disk_bytes copy y) p ≡ home_page (copy_disk_bytes copy x) p
   homes p lt = block_same (region_start + p) (omega arith) (omega (arith, lt))
 
-  pages : (p : ℕ) → p < d → counted copy y p ≡ counted copy x p
-  pages p lt = page_same d (disk copy x) (disk copy y) open_same p (λ none. homes p lt)
+  pages : (p : ℕ) → p < d → counting_page copy y p ≡ counting_page copy x p
+  pages p lt = page_same d (copy_disk_bytes copy x) (copy_disk_bytes copy y) open_same p (λ none. homes p lt)
 
-  long : length (disk copy y) ≡ length (disk copy x)
+  long : length (copy_disk_bytes copy y) ≡ length (copy_disk_bytes copy x)
   long = (bytes_are_listed y copy.slot).0 ∙ same.size ∙ sym (bytes_are_listed x copy.slot).0
 
   content : content_in copy y ≡ content_in copy x
-  content = same_logs.content_same d (disk copy x) (disk copy y) long open_same (logs_decode_same d (disk copy x) (disk copy y) logs) pages
+  content = same_logs.content_same d (copy_disk_bytes copy x) (copy_disk_bytes copy y) long open_same (logs_decode_same d (copy_disk_bytes copy x) (copy_disk_bytes copy y) logs) pages
 
-  bad_same : find (is_bad_page d (disk copy y)) (range_with_len 0 d) ≡ find (is_bad_page d (disk copy x)) (range_with_len 0 d)
-  bad_same = find_same (is_bad_page d (disk copy y)) (is_bad_page d (disk copy x)) 0 d
+  bad_same : find (is_bad_page d (copy_disk_bytes copy y)) (range_with_len 0 d) ≡ find (is_bad_page d (copy_disk_bytes copy x)) (range_with_len 0 d)
+  bad_same = find_same (is_bad_page d (copy_disk_bytes copy y)) (is_bad_page d (copy_disk_bytes copy x)) 0 d
       (λ p low high. let home = homes p (omega (arith, high)) in λ i. not (is_some (image_in (open_same i) p)) && not (is_page (home i)))
 
-  damage : directory_damage d (disk copy y) ≡ directory_damage d (disk copy x)
+  damage : directory_damage d (copy_disk_bytes copy y) ≡ directory_damage d (copy_disk_bytes copy x)
   unfolding directory_damage
   damage =
       let first = gate_same First in
       let second = gate_same Second in
-      let in_first = log_damage_same d (disk copy x) (disk copy y) (first_log d) first (in_slot First) in
-      let in_second = log_damage_same d (disk copy x) (disk copy y) (second_log d) second (in_slot Second) in
+      let in_first = log_damage_same d (copy_disk_bytes copy x) (copy_disk_bytes copy y) (first_log d) first (in_slot First) in
+      let in_second = log_damage_same d (copy_disk_bytes copy x) (copy_disk_bytes copy y) (second_log d) second (in_slot Second) in
       λ i. cond (has_region d (long i) && (first i || second i)) (option_or (option_map page_home (bad_same i)) (option_or (in_first i) (in_second i))) None
 
   decodes : DecodesIn copy x → DecodesIn copy y
-  decodes ok = logs_decode_same d (disk copy x) (disk copy y) logs ∙ ok
+  decodes ok = logs_decode_same d (copy_disk_bytes copy x) (copy_disk_bytes copy y) logs ∙ ok
 
   at_home : IsAtHome copy x → IsAtHome copy y
   at_home home p lt = pages p lt ∙ home p lt ∙ sym (homes p lt)

@@ -7,7 +7,7 @@ use Rattle.std.specs.Str.{bytes_eq}
 use Rattle.std.proofs.lemmas.Bool.{le-leb, lt-ltb, lt-leb}
 use Rattle.std.proofs.lemmas.List.{append-nil, drop-drop, length-drop, take_all}
 use Rattle.asm_group.specs.Names.{Bytes}
-use Rattle.asm_formats.specs.Bytes.{number_at, repeated, spelled_by}
+use Rattle.asm_formats.specs.Bytes.{number_at, values_at, spelled_by}
 use Rattle.asm_formats.specs.Logs.{LogHead, decoded_log_head, is_log_head, log_head_at, log_head_spelling}
 use Rattle.change_directory.specs.Loads.{are_numbers}
 use Rattle.change_directory.specs.Slots.{head_with, is_head_of}
@@ -15,7 +15,7 @@ use Rattle.change_directory.specs.Slots.{head_with, is_head_of}
 -- ---- numbers, one behind the other
 
 abbrev numbers : ℕ → Bytes → List ℕ
-numbers n bytes = (repeated (number_at w32) n bytes).0
+numbers n bytes = (values_at (number_at w32) n bytes).0
 
 numbers_len : (n : ℕ) (bytes : Bytes) → length (numbers n bytes) ≡ n
 numbers_len zero bytes = refl

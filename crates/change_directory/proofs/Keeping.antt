@@ -23,7 +23,7 @@ use Rattle.change_directory.specs.declared.copy.LogSlot.{LogSlot}
 use Rattle.change_directory.specs.declared.copy.LogSlot.TheVariants.{First, Second}
 use Rattle.change_directory.specs.Places.{gate_of, HomesAt}
 use Rattle.change_directory.specs.Logs.{are_pages}
-use Rattle.change_directory.specs.Changes.{disk}
+use Rattle.change_directory.specs.Changes.{copy_disk_bytes}
 use Rattle.change_directory.specs.Homes.{HomesOf, HasHomed, AreDue, KeepsContent}
 use Rattle.change_directory.proofs.Spares.{gate_listed}
 
@@ -51,21 +51,21 @@ module _ (copy : DirCopy) (pages : List (ℕ × Block)) (ok : are_pages copy.dir
           (inside.2.0, omega (arith, inside.2.1), omega (arith, inside.2.2, under))
 
   module _ (least : 128 ≤ copy.dir_blocks) (x y : Image) (sized : region_end copy.dir_blocks * block_size ≤ x.size copy.slot) (step : ChangesOnly (HomesOf copy pages) x y) where
-    elsewhere : SameElsewhere (disk copy x) (disk copy y) (region_start * block_size) (copy.dir_blocks * block_size)
+    elsewhere : SameElsewhere (copy_disk_bytes copy x) (copy_disk_bytes copy y) (region_start * block_size) (copy.dir_blocks * block_size)
     elsewhere = (range_change 0 copy.slot (region_start * block_size) (copy.dir_blocks * block_size) x y (in_homes x y step)).1
 
-    pub logs_same : SameLogs copy.dir_blocks (disk copy x) (disk copy y)
+    pub logs_same : SameLogs copy.dir_blocks (copy_disk_bytes copy x) (copy_disk_bytes copy y)
     logs_same = record {
-      first = slot_behind (disk copy x) (disk copy y) (region_start * block_size) (copy.dir_blocks * block_size) elsewhere (first_log copy.dir_blocks) log_blocks (omega arith);
-      second = slot_behind (disk copy x) (disk copy y) (region_start * block_size) (copy.dir_blocks * block_size) elsewhere (second_log copy.dir_blocks) log_blocks (omega arith);
+      first = slot_behind (copy_disk_bytes copy x) (copy_disk_bytes copy y) (region_start * block_size) (copy.dir_blocks * block_size) elsewhere (first_log copy.dir_blocks) log_blocks (omega arith);
+      second = slot_behind (copy_disk_bytes copy x) (copy_disk_bytes copy y) (region_start * block_size) (copy.dir_blocks * block_size) elsewhere (second_log copy.dir_blocks) log_blocks (omega arith);
     }
 
     pub listed : (image : Image) → image.size copy.slot ≡ x.size copy.slot → (page : ℕ) → page < copy.dir_blocks
-        → home_page (disk copy image) page ≡ window (image.byte copy.slot) ((region_start + page) * block_size) block_size
+        → home_page (copy_disk_bytes copy image) page ≡ window (image.byte copy.slot) ((region_start + page) * block_size) block_size
     listed image size page lt = (bytes_are_listed image copy.slot).2 ((region_start + page) * block_size) block_size (omega (arith, sized, size, lt))
 
     -- a page that isn't among these stays
-    pub other_page : (page : ℕ) → page < copy.dir_blocks → ((p : ℕ × Block) → IsAmong pages p → p.0 ≡ page → ⊥) → home_page (disk copy y) page ≡ home_page (disk copy x) page
+    pub other_page : (page : ℕ) → page < copy.dir_blocks → ((p : ℕ × Block) → IsAmong pages p → p.0 ≡ page → ⊥) → home_page (copy_disk_bytes copy y) page ≡ home_page (copy_disk_bytes copy x) page
     other_page page lt none =
         listed y (step.size copy.slot) page lt
         ∙ changes-window (HomesOf copy pages) x y copy.slot ((region_start + page) * block_size) block_size (λ k low high inside. none inside.0 inside.1 (omega (arith, low, high, inside.2.1, inside.2.2))) step
@@ -73,14 +73,14 @@ module _ (copy : DirCopy) (pages : List (ℕ × Block)) (ok : are_pages copy.dir
 
     pub keeps_content : AreDue copy pages x → KeepsContent copy x y
     keeps_content (inl shut) =
-        let gate : (log : LogSlot) → is_open (disk copy x) (gate_of copy log) ≡ false = λ log. gate_listed copy least x sized log ∙ shut log in
-        closed_content copy.dir_blocks (disk copy y) (logs_same.first.gate ∙ gate First) (logs_same.second.gate ∙ gate Second)
-        ∙ sym (closed_content copy.dir_blocks (disk copy x) (gate First) (gate Second))
+        let gate : (log : LogSlot) → is_open (copy_disk_bytes copy x) (gate_of copy log) ≡ false = λ log. gate_listed copy least x sized log ∙ shut log in
+        closed_content copy.dir_blocks (copy_disk_bytes copy y) (logs_same.first.gate ∙ gate First) (logs_same.second.gate ∙ gate Second)
+        ∙ sym (closed_content copy.dir_blocks (copy_disk_bytes copy x) (gate First) (gate Second))
     keeps_content (inr due) =
-        let logs = open_logs_same copy.dir_blocks (disk copy x) (disk copy y) logs_same in
-        content_same copy.dir_blocks (disk copy x) (disk copy y) elsewhere.size logs (logs_decode_same copy.dir_blocks (disk copy x) (disk copy y) logs_same)
-        (λ page lt. page_same copy.dir_blocks (disk copy x) (disk copy y) logs page (λ none. other_page page lt (λ p among same. counted page none p among same)))
+        let logs = open_logs_same copy.dir_blocks (copy_disk_bytes copy x) (copy_disk_bytes copy y) logs_same in
+        content_same copy.dir_blocks (copy_disk_bytes copy x) (copy_disk_bytes copy y) elsewhere.size logs (logs_decode_same copy.dir_blocks (copy_disk_bytes copy x) (copy_disk_bytes copy y) logs_same)
+        (λ page lt. page_same copy.dir_blocks (copy_disk_bytes copy x) (copy_disk_bytes copy y) logs page (λ none. other_page page lt (λ p among same. counted page none p among same)))
       where
-        counted : (page : ℕ) → image_in (open_logs copy.dir_blocks (disk copy x)) page ≡ None → (p : ℕ × Block) → IsAmong pages p → p.0 ≡ page → ⊥
+        counted : (page : ℕ) → image_in (open_logs copy.dir_blocks (copy_disk_bytes copy x)) page ≡ None → (p : ℕ × Block) → IsAmong pages p → p.0 ≡ page → ⊥
         counted page none p among same =
-            none-some _ (sym none ∙ ap (image_in (open_logs copy.dir_blocks (disk copy x))) (sym same) ∙ due p among)
+            none-some _ (sym none ∙ ap (image_in (open_logs copy.dir_blocks (copy_disk_bytes copy x))) (sym same) ∙ due p among)

@@ -17,10 +17,10 @@ use Rattle.change_directory.specs.declared.loading.Pages.{Pages}
 use Rattle.change_directory.specs.declared.open_log.OpenLog.{OpenLog}
 use Rattle.change_directory.specs.declared.open_log.OpenLogs.{OpenLogs}
 use Rattle.change_directory.specs.Places.{IsCopy, gate_of}
-use Rattle.change_directory.specs.Changes.{disk}
+use Rattle.change_directory.specs.Changes.{copy_disk_bytes}
 use Rattle.bay.specs.Told.{Told}
 use Rattle.change_directory.specs.Loads.{IsLoaded, newest_slots, slot_in}
-use Rattle.change_directory.specs.Slots.{ArePages, IsLogRead, IsPageDamage, all_due, all_filled, all_slots, damage_of, damaged_page, first_bad, has_slots, open_homes, slots_of}
+use Rattle.change_directory.specs.Slots.{ArePages, IsLogRead, IsPageDamage, all_due, all_filled, all_slots, damage_of, damaged_page, first_bad, has_slots, open_homes, slots_of_log}
 use Rattle.change_directory.proofs.Runs.{same_disk}
 use Rattle.change_directory.proofs.BlockRows.{blocks_same}
 use Rattle.change_directory.proofs.LoadLaws.{damage_is, pages_are_loaded}
@@ -52,7 +52,7 @@ damage_same : (copy : DirCopy) (logs : OpenLogs) (block : ℕ) (x y : Image) →
 damage_same copy logs block x y same is = sym (ap (damaged_page (all_slots logs) 0) (homes_same copy logs x y same)) ∙ is
 
 module _ (copy : DirCopy) (s m n t : BayState) {a c : ℕ → Type 0} (one : Runs a Same s m) (two : Runs a Same m n) (three : Runs c Same n t) (sound : IsSound s) (is : IsCopy s copy)
-    (first second : Option OpenLog) (logs : OpenLogs) (order : all_slots logs ≡ newest_slots (slots_of first ++ slots_of second)) (newest : is_some logs.newest ≡ has_slots (all_slots logs))
+    (first second : Option OpenLog) (logs : OpenLogs) (order : all_slots logs ≡ newest_slots (slots_of_log first ++ slots_of_log second)) (newest : is_some logs.newest ≡ has_slots (all_slots logs))
     (first_told : Told s m (IsLogRead copy First first)) (second_told : Told m n (IsLogRead copy Second second)) where
   both_run : Runs a Same s n
   both_run = goes_on same-trans one (stops one) two
@@ -77,23 +77,23 @@ module _ (copy : DirCopy) (s m n t : BayState) {a c : ℕ → Type 0} (one : Run
       with_logs (ArePages copy logs pages) (IsLoaded copy pages) (pages_same copy logs pages)
       (λ image sized both are. pages_are_loaded copy is.least image sized first second logs both.0 both.1 order newest pages are)
 
-  pub whole_told : (pages : Pages) → option_or (damage_of first) (damage_of second) ≡ None → Told n t (ArePages copy logs pages) → Told s t (λ image. directory_damage copy.dir_blocks (disk copy image) ≡ None)
+  pub whole_told : (pages : Pages) → option_or (damage_of first) (damage_of second) ≡ None → Told n t (ArePages copy logs pages) → Told s t (λ image. directory_damage copy.dir_blocks (copy_disk_bytes copy image) ≡ None)
   whole_told pages none =
-      with_logs (ArePages copy logs pages) (λ image. directory_damage copy.dir_blocks (disk copy image) ≡ None) (pages_same copy logs pages)
+      with_logs (ArePages copy logs pages) (λ image. directory_damage copy.dir_blocks (copy_disk_bytes copy image) ≡ None) (pages_same copy logs pages)
       (λ image sized both are.
       damage_is copy is.least image sized first second logs both.0 both.1 order newest
       ∙ ap (λ (o : Option ℕ). option_or (option_map page_home o) (option_or (damage_of first) (damage_of second))) are.sound ∙ none)
 
-  pub log_damage_told : (pages : Pages) (block : ℕ) → option_or (damage_of first) (damage_of second) ≡ Some block → Told n t (ArePages copy logs pages) → Told s t (λ image. directory_damage copy.dir_blocks (disk copy image) ≡ Some block)
+  pub log_damage_told : (pages : Pages) (block : ℕ) → option_or (damage_of first) (damage_of second) ≡ Some block → Told n t (ArePages copy logs pages) → Told s t (λ image. directory_damage copy.dir_blocks (copy_disk_bytes copy image) ≡ Some block)
   log_damage_told pages block some =
-      with_logs (ArePages copy logs pages) (λ image. directory_damage copy.dir_blocks (disk copy image) ≡ Some block) (pages_same copy logs pages)
+      with_logs (ArePages copy logs pages) (λ image. directory_damage copy.dir_blocks (copy_disk_bytes copy image) ≡ Some block) (pages_same copy logs pages)
       (λ image sized both are.
       damage_is copy is.least image sized first second logs both.0 both.1 order newest
       ∙ ap (λ (o : Option ℕ). option_or (option_map page_home o) (option_or (damage_of first) (damage_of second))) are.sound ∙ some)
 
-  pub page_damage_told : (block : ℕ) → Told n t (IsPageDamage copy logs block) → Told s t (λ image. directory_damage copy.dir_blocks (disk copy image) ≡ Some block)
+  pub page_damage_told : (block : ℕ) → Told n t (IsPageDamage copy logs block) → Told s t (λ image. directory_damage copy.dir_blocks (copy_disk_bytes copy image) ≡ Some block)
   page_damage_told block =
-      with_logs (IsPageDamage copy logs block) (λ image. directory_damage copy.dir_blocks (disk copy image) ≡ Some block) (damage_same copy logs block)
+      with_logs (IsPageDamage copy logs block) (λ image. directory_damage copy.dir_blocks (copy_disk_bytes copy image) ≡ Some block) (damage_same copy logs block)
       (λ image sized both damaged.
       damage_is copy is.least image sized first second logs both.0 both.1 order newest
       ∙ ap (λ (o : Option ℕ). option_or o (option_or (damage_of first) (damage_of second))) damaged)

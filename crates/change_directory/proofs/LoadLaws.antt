@@ -16,9 +16,9 @@ use Rattle.change_directory.specs.declared.copy.LogSlot.TheVariants.{First, Seco
 use Rattle.change_directory.specs.declared.loading.Pages.{Pages}
 use Rattle.change_directory.specs.declared.open_log.OpenLog.{OpenLog}
 use Rattle.change_directory.specs.declared.open_log.OpenLogs.{OpenLogs}
-use Rattle.change_directory.specs.Changes.{disk}
-use Rattle.change_directory.specs.Loads.{IsLoaded, OpenSlot, number_of, due_page, filled_page, filled_pages, newest_slots, open_slots}
-use Rattle.change_directory.specs.Slots.{ArePages, IsLogRead, all_due, all_filled, all_slots, damage_of, damaged_page, first_bad, has_slots, homes_in, logs_of, number_in, open_homes, slots_of}
+use Rattle.change_directory.specs.Changes.{copy_disk_bytes}
+use Rattle.change_directory.specs.Loads.{IsLoaded, OpenSlot, commit_if_any, due_page, filled_page, filled_pages, newest_slots, open_slots}
+use Rattle.change_directory.specs.Slots.{ArePages, IsLogRead, all_due, all_filled, all_slots, damage_of, damaged_page, first_bad, has_slots, home_blocks, logs_of, open_log_number, open_homes, slots_of_log}
 use Rattle.change_directory.proofs.BlockRows.{blocks_listed}
 use Rattle.change_directory.proofs.PageRows.{filled_all, due_all, bad_all}
 use Rattle.change_directory.proofs.Telling.{IsSized}
@@ -65,12 +65,12 @@ either_false false b e = (refl, e)
 
 module _ (copy : DirCopy) (least : 128 ≤ copy.dir_blocks) (image : Image) (sized : IsSized copy image) (first second : Option OpenLog) (logs : OpenLogs)
     (first_read : IsLogRead copy First first image) (second_read : IsLogRead copy Second second image)
-    (order : all_slots logs ≡ newest_slots (slots_of first ++ slots_of second)) (newest : is_some logs.newest ≡ has_slots (all_slots logs)) where
+    (order : all_slots logs ≡ newest_slots (slots_of_log first ++ slots_of_log second)) (newest : is_some logs.newest ≡ has_slots (all_slots logs)) where
   abbrev d : ℕ
   d = copy.dir_blocks
 
   abbrev bytes : Bytes
-  bytes = disk copy image
+  bytes = copy_disk_bytes copy image
 
   slots_are : all_slots logs ≡ open_slots d bytes
   unfolding open_slots
@@ -79,7 +79,7 @@ module _ (copy : DirCopy) (least : 128 ≤ copy.dir_blocks) (image : Image) (siz
   logs_are : logs_of (all_slots logs) ≡ open_logs d bytes
   logs_are = ap logs_of slots_are ∙ logs_are_open d bytes
 
-  homes_are : homes_in copy 0 d image ≡ blocks_from bytes 10 d
+  homes_are : home_blocks copy 0 d image ≡ blocks_from bytes 10 d
   homes_are = blocks_listed image copy.slot 10 d (omega (arith, sized))
 
   -- whether a log slot is open
@@ -90,11 +90,11 @@ module _ (copy : DirCopy) (least : 128 ≤ copy.dir_blocks) (image : Image) (siz
   no_slots [] e = refl
   no_slots (s ∷ slots) e = absurd cc
 
-  number_is : number_in logs.newest ≡ number_of (all_slots logs)
+  number_is : open_log_number logs.newest ≡ commit_if_any (all_slots logs)
   number_is = go logs.newest refl where
-    go : (o : Option OpenLog) → logs.newest ≡ o → number_in o ≡ number_of (all_slots logs)
-    go None e = sym (ap number_of (no_slots (all_slots logs) (sym newest ∙ ap is_some e)))
-    go (Some log) e = sym (ap (λ (o : Option OpenLog). number_of (slots_of o ++ slots_of logs.older)) e)
+    go : (o : Option OpenLog) → logs.newest ≡ o → open_log_number o ≡ commit_if_any (all_slots logs)
+    go None e = sym (ap commit_if_any (no_slots (all_slots logs) (sym newest ∙ ap is_some e)))
+    go (Some log) e = sym (ap (λ (o : Option OpenLog). commit_if_any (slots_of_log o ++ slots_of_log logs.older)) e)
 
   filled_is : (slots : List OpenSlot) → has_slots slots ≡ true → flat_map (filled_page d bytes) (range_with_len 0 d) ≡ filled_pages d bytes slots
   filled_is [] e = absurd cc
@@ -103,16 +103,16 @@ module _ (copy : DirCopy) (least : 128 ≤ copy.dir_blocks) (image : Image) (siz
   pub pages_are_loaded : (pages : Pages) → ArePages copy logs pages image → IsLoaded copy pages image
   unfolding all_filled all_due
   pages_are_loaded pages are = record {
-    number = are.number ∙ number_is ∙ ap number_of slots_are;
+    number = are.number ∙ number_is ∙ ap commit_if_any slots_are;
     blocks = are.blocks ∙ blocks (is_some logs.newest) refl ∙ ap (filled_pages d bytes) slots_are;
     due = are.due ∙ due (is_some logs.newest) refl ∙ ap (λ (ss : List OpenSlot). flat_map (due_page ss) (range_with_len 0 d)) slots_are;
   } where
-    blocks : (o : Bool) → is_some logs.newest ≡ o → all_filled (all_slots logs) 0 (cond o (homes_in copy 0 d image) []) ≡ filled_pages d bytes (all_slots logs)
+    blocks : (o : Bool) → is_some logs.newest ≡ o → all_filled (all_slots logs) 0 (cond o (home_blocks copy 0 d image) []) ≡ filled_pages d bytes (all_slots logs)
     blocks true e =
         ap (all_filled (all_slots logs) 0) homes_are ∙ filled_all d bytes (all_slots logs) logs_are 0 d ∙ filled_is (all_slots logs) (sym newest ∙ e)
     blocks false e = ap (filled_pages d bytes) (sym (no_slots (all_slots logs) (sym newest ∙ e)))
 
-    due : (o : Bool) → is_some logs.newest ≡ o → all_due (all_slots logs) 0 (cond o (homes_in copy 0 d image) []) ≡ flat_map (due_page (all_slots logs)) (range_with_len 0 d)
+    due : (o : Bool) → is_some logs.newest ≡ o → all_due (all_slots logs) 0 (cond o (home_blocks copy 0 d image) []) ≡ flat_map (due_page (all_slots logs)) (range_with_len 0 d)
     due true e = ap (all_due (all_slots logs) 0) homes_are ∙ due_all d bytes (all_slots logs) logs_are 0 10 d
     due false e = sym (none_due 0 d) ∙ ap (λ (ss : List OpenSlot). flat_map (due_page ss) (range_with_len 0 d)) (sym (no_slots (all_slots logs) (sym newest ∙ e)))
 
@@ -126,7 +126,7 @@ module _ (copy : DirCopy) (least : 128 ≤ copy.dir_blocks) (image : Image) (siz
     in_logs : option_or (log_damage d bytes (first_log d)) (log_damage d bytes (second_log d)) ≡ option_or (damage_of first) (damage_of second)
     in_logs = λ i. option_or (sym first_read.damage i) (sym second_read.damage i)
 
-    in_pages : option_map page_home (find (is_bad_page d bytes) (range_with_len 0 d)) ≡ damaged_page (all_slots logs) 0 (homes_in copy 0 d image)
+    in_pages : option_map page_home (find (is_bad_page d bytes) (range_with_len 0 d)) ≡ damaged_page (all_slots logs) 0 (home_blocks copy 0 d image)
     in_pages = ap (option_map page_home) (sym (ap (first_bad (all_slots logs) 0) homes_are ∙ bad_all d bytes (all_slots logs) logs_are 0 d))
 
     shut : (k : ℕ) → is_open bytes k ≡ false → log_damage d bytes k ≡ None
@@ -134,7 +134,7 @@ module _ (copy : DirCopy) (least : 128 ≤ copy.dir_blocks) (image : Image) (siz
 
     go : (o : Bool) → is_some logs.newest ≡ o
         → cond (is_open bytes (first_log d) || is_open bytes (second_log d)) (option_or (option_map page_home (find (is_bad_page d bytes) (range_with_len 0 d))) (option_or (log_damage d bytes (first_log d)) (log_damage d bytes (second_log d)))) None
-        ≡ option_or (damaged_page (all_slots logs) 0 (cond o (homes_in copy 0 d image) [])) (option_or (damage_of first) (damage_of second))
+        ≡ option_or (damaged_page (all_slots logs) 0 (cond o (home_blocks copy 0 d image) [])) (option_or (damage_of first) (damage_of second))
     go true e = rw (opened true e) (λ i. option_or (in_pages i) (in_logs i))
     go false e =
         let both = either_false (is_open bytes (first_log d)) (is_open bytes (second_log d)) (opened false e) in

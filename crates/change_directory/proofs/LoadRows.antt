@@ -12,7 +12,7 @@ use Rattle.asm_formats.specs.Bytes.{block_size, block, is_open}
 use Rattle.asm_formats.specs.Regions.{first_log, second_log}
 use Rattle.asm_formats.specs.Content.{is_empty_page}
 use Rattle.asm_formats.specs.Status.{ascends_from}
-use Rattle.asm_formats.specs.Logs.{PageImage, LogHead, blocks_from, decoded_log_head, image_in, image_of, images_at, log_at}
+use Rattle.asm_formats.specs.Logs.{PageImage, LogHead, blocks_from, decoded_log_head, image_in, logged_image, images_at, log_at}
 use Rattle.asm_formats.proofs.Codec.{bytes_same}
 use Rattle.asm_base.specs.Blocks.{image_of_page}
 use Rattle.change_directory.specs.Loads.{OpenSlot, commit_of, counted_block, due_page, image_block, newest_slots, open_slots}
@@ -29,11 +29,11 @@ abbrev found : Bool → PageImage → List PageImage → ℕ → Option Bytes
 found b i images p = option_map (λ (j : PageImage). j.1) (cond b (Some i) (find (λ (j : PageImage). j.0 == p) images))
 
 -- a page with an image has one
-pub has_image : (images : List PageImage) (p : ℕ) (i : PageImage) → IsAmong images i → i.0 ≡ p → image_of images p ≡ None → ⊥
+pub has_image : (images : List PageImage) (p : ℕ) (i : PageImage) → IsAmong images i → i.0 ≡ p → logged_image images p ≡ None → ⊥
 has_image [] p i h same none = h
 has_image (j ∷ images) p i h same none = go (j.0 == p) refl none (λ there n. has_image images p i there same n) h
   where
-    go : (b : Bool) → (j.0 == p) ≡ b → found b j images p ≡ None → (IsAmong images i → image_of images p ≡ None → ⊥) → (i ≡ j) ⊎ IsAmong images i → ⊥
+    go : (b : Bool) → (j.0 == p) ≡ b → found b j images p ≡ None → (IsAmong images i → logged_image images p ≡ None → ⊥) → (i ≡ j) ⊎ IsAmong images i → ⊥
     go true e n rest k = none-some j.1 (sym n)
     go false e n rest (inl here) = none-some j.1 (sym n ∙ ap (λ (b : Bool). found b j images p) (sym e ∙ eq-eqb j.0 p (ap (λ (r : PageImage). r.0) (sym here) ∙ same)))
     go false e n rest (inr there) = rest there n
@@ -50,21 +50,21 @@ module _ (f : ℕ → Bytes) where
   abbrev rows : ℕ → ℕ → List PageImage
   rows a n = flat_map row (range_with_len a n)
 
-  past : (a n p : ℕ) → p < a → image_of (rows a n) p ≡ None
+  past : (a n p : ℕ) → p < a → logged_image (rows a n) p ≡ None
   past a zero p lt = refl
   past a (suc n) p lt = go (is_empty_page (f a)) (past (a + 1) n p (omega (arith, lt)))
     where
-      go : (b : Bool) → image_of (rows (a + 1) n) p ≡ None → image_of (row_of b a ++ rows (a + 1) n) p ≡ None
+      go : (b : Bool) → logged_image (rows (a + 1) n) p ≡ None → logged_image (row_of b a ++ rows (a + 1) n) p ≡ None
       go true rest = rest
       go false rest = ap (λ (b : Bool). found b (a, f a) (rows (a + 1) n) p) (ne_eqb a p (λ e. omega (arith, lt, e))) ∙ rest
 
   -- each page is its image among these, or zeros
-  pub shown_row : (a n p : ℕ) → a ≤ p → p < a + n → unwrap_or (image_of (rows a n) p) (replicate block_size 0) ≡ f p
+  pub shown_row : (a n p : ℕ) → a ≤ p → p < a + n → unwrap_or (logged_image (rows a n) p) (replicate block_size 0) ≡ f p
   shown_row a zero p low high = absurd (omega (arith, low, high))
   shown_row a (suc n) p low high = go (is_empty_page (f a)) refl (λ differ. shown_row (a + 1) n p (omega (arith, low, differ)) (omega (arith, high))) (cases_eq a p)
     where
-      go : (b : Bool) → is_empty_page (f a) ≡ b → ((a ≡ p → ⊥) → unwrap_or (image_of (rows (a + 1) n) p) (replicate block_size 0) ≡ f p) → (a ≡ p) ⊎ (a ≡ p → ⊥)
-          → unwrap_or (image_of (row_of b a ++ rows (a + 1) n) p) (replicate block_size 0) ≡ f p
+      go : (b : Bool) → is_empty_page (f a) ≡ b → ((a ≡ p → ⊥) → unwrap_or (logged_image (rows (a + 1) n) p) (replicate block_size 0) ≡ f p) → (a ≡ p) ⊎ (a ≡ p → ⊥)
+          → unwrap_or (logged_image (row_of b a ++ rows (a + 1) n) p) (replicate block_size 0) ≡ f p
       go true e rest (inl here) =
           ap (λ (o : Option Bytes). unwrap_or o (replicate block_size 0)) (past (a + 1) n p (omega (arith, here))) ∙ sym (bytes_same (f a) (replicate block_size 0) e) ∙ ap f here
       go false e rest (inl here) = ap (λ (b : Bool). unwrap_or (found b (a, f a) (rows (a + 1) n) p) (replicate block_size 0)) (eq-eqb a p here) ∙ ap f here
@@ -144,23 +144,23 @@ module _ (d : ℕ) (bytes : Bytes) (page : ℕ) where
   is_it i = i.0 == page
 
   in_row : (k : ℕ) (ps : List ℕ)
-      → option_map (block bytes) (position_from is_it k (zip ps (blocks_from bytes k (length ps)))) ≡ image_of (zip ps (blocks_from bytes k (length ps))) page
+      → option_map (block bytes) (position_from is_it k (zip ps (blocks_from bytes k (length ps)))) ≡ logged_image (zip ps (blocks_from bytes k (length ps))) page
   in_row k [] = refl
   in_row k (p ∷ ps) = go (p == page) (in_row (k + 1) ps)
     where
       others : List PageImage
       others = zip ps (blocks_from bytes (k + 1) (length ps))
 
-      go : (b : Bool) → option_map (block bytes) (position_from is_it (k + 1) others) ≡ image_of others page
+      go : (b : Bool) → option_map (block bytes) (position_from is_it (k + 1) others) ≡ logged_image others page
           → option_map (block bytes) (cond b (Some k) (position_from is_it (k + 1) others)) ≡ found b (p, block bytes k) others page
       go true e = refl
       go false e = e
 
-  in_head : (k : ℕ) (o : Option LogHead) → option_map (block bytes) (position_from is_it (k + 2) (images_at bytes (k + 2) o)) ≡ image_of (images_at bytes (k + 2) o) page
+  in_head : (k : ℕ) (o : Option LogHead) → option_map (block bytes) (position_from is_it (k + 2) (images_at bytes (k + 2) o)) ≡ logged_image (images_at bytes (k + 2) o) page
   in_head k None = refl
   in_head k (Some h) = in_row (k + 2) h.pages
 
-  in_slot : (k : ℕ) → option_map (block bytes) (image_block (record { gate = k; log = log_at d bytes k }) page) ≡ image_of (log_at d bytes k).images page
+  in_slot : (k : ℕ) → option_map (block bytes) (image_block (record { gate = k; log = log_at d bytes k }) page) ≡ logged_image (log_at d bytes k).images page
   unfolding log_at
   in_slot k = in_head k (decoded_log_head d (block bytes (k + 1)))
 
@@ -171,10 +171,10 @@ module _ (d : ℕ) (bytes : Bytes) (page : ℕ) where
   map_or None y = refl
   map_or (Some b) y = refl
 
-  more : (s : OpenSlot) → option_map (block bytes) (image_block s page) ≡ image_of s.log.images page → (slots : List OpenSlot) → IsPlaced slots → IsPlaced (s ∷ slots)
+  more : (s : OpenSlot) → option_map (block bytes) (image_block s page) ≡ logged_image s.log.images page → (slots : List OpenSlot) → IsPlaced slots → IsPlaced (s ∷ slots)
   more s here slots others = map_or (image_block s page) (counted_block slots page) ∙ (λ i. option_or (here i) (others i))
 
-  in_order : (a b : Bool) (s t : OpenSlot) → option_map (block bytes) (image_block s page) ≡ image_of s.log.images page → option_map (block bytes) (image_block t page) ≡ image_of t.log.images page
+  in_order : (a b : Bool) (s t : OpenSlot) → option_map (block bytes) (image_block s page) ≡ logged_image s.log.images page → option_map (block bytes) (image_block t page) ≡ logged_image t.log.images page
       → IsPlaced (newest_slots (cond a (s ∷ []) [] ++ cond b (t ∷ []) []))
   in_order false false s t first second = refl
   in_order true false s t first second = more s first [] refl

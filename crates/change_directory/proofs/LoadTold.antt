@@ -15,7 +15,7 @@ use Rattle.change_directory.specs.declared.copy.DirCopy.{DirCopy}
 use Rattle.change_directory.specs.declared.copy.LogSlot.{LogSlot}
 use Rattle.change_directory.specs.declared.open_log.OpenLog.{OpenLog}
 use Rattle.change_directory.specs.Places.{IsCopy, gate_of, log_place}
-use Rattle.change_directory.specs.Logs.{is_open_at, number_at, open_number}
+use Rattle.change_directory.specs.Logs.{is_open_at, commit_number_at, open_number}
 use Rattle.bay.specs.Told.{Told}
 use Rattle.change_directory.specs.Slots.{IsLogRead, IsRestRead, cut, head_in, images_in}
 use Rattle.change_directory.proofs.Runs.{same_disk}
@@ -86,6 +86,6 @@ number_told copy log {slots} {s} {t} head number is run told = λ image holds.
     let from = run.held image holds in
     is ∙ ap (option_map (λ h. (log_head_at h).commit)) (told image holds from.0 from.1) ∙ of_head from.0 (is_open_at copy log from.0) ∙ sym (same_number copy log from.0 image from.2)
   where
-    of_head : (x : Image) (b : Bool) → option_map (λ h. (log_head_at h).commit) (cond b (Some (window (x.byte copy.slot) ((gate_of copy log + 1) * 4096) 4096)) None) ≡ cond b (Some (number_at copy log x)) None
+    of_head : (x : Image) (b : Bool) → option_map (λ h. (log_head_at h).commit) (cond b (Some (window (x.byte copy.slot) ((gate_of copy log + 1) * 4096) 4096)) None) ≡ cond b (Some (commit_number_at copy log x)) None
     of_head x true = refl
     of_head x false = refl

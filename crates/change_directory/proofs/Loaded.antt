@@ -14,7 +14,7 @@ use Rattle.asm_formats.specs.Regions.{region_end, first_log, second_log, has_reg
 use Rattle.asm_formats.specs.Content.{is_page, is_empty_page, records_in}
 use Rattle.asm_formats.specs.Items.{Item}
 use Rattle.asm_formats.specs.Status.{ascends_from}
-use Rattle.asm_formats.specs.Logs.{Log, PageImage, log_at, open_logs, logs_decode, image_of, image_in}
+use Rattle.asm_formats.specs.Logs.{Log, PageImage, log_at, open_logs, logs_decode, logged_image, image_in}
 use Rattle.asm_formats.specs.Pages.{home_page, page_at, pages_of, content_by, copy_content}
 use Rattle.asm_formats.specs.Damage.{is_bad_page, log_damage, directory_damage}
 use Rattle.asm_formats.proofs.Among.{among_map}
@@ -25,13 +25,13 @@ use Rattle.change_directory.specs.declared.copy.LogSlot.{LogSlot}
 use Rattle.change_directory.specs.declared.copy.LogSlot.TheVariants.{First, Second}
 use Rattle.change_directory.specs.declared.loading.Pages.{Pages}
 use Rattle.change_directory.specs.Places.{gate_of}
-use Rattle.change_directory.specs.Logs.{is_open_at, number_at, are_pages}
+use Rattle.change_directory.specs.Logs.{is_open_at, commit_number_at, are_pages}
 use Rattle.asm_base.specs.Blocks.{image_of_page}
-use Rattle.change_directory.specs.Changes.{disk, content_in}
+use Rattle.change_directory.specs.Changes.{copy_disk_bytes, content_in}
 use Rattle.change_directory.specs.Formatting.{AreShut}
-use Rattle.change_directory.specs.Loads.{IsLoaded, OpenSlot, commit_of, number_of, counted_block, due_page, filled_page, filled_pages, open_slots}
+use Rattle.change_directory.specs.Loads.{IsLoaded, OpenSlot, commit_of, commit_if_any, counted_block, due_page, filled_page, filled_pages, open_slots}
 use Rattle.change_directory.specs.Slots.{has_slots, logs_of}
-use Rattle.change_directory.specs.StoreLaws.{IsShaped, HasRegion, HasOpen, counted, shown_by, HasContent, HasDue, IsReadAs, StandAt, due_images}
+use Rattle.change_directory.specs.StoreLaws.{IsShaped, HasRegion, HasOpen, counting_page, shown_by, HasContent, HasDue, IsReadAs, StandAt, due_images}
 use Rattle.change_directory.proofs.Afterwards.{same_numbers}
 use Rattle.change_directory.proofs.Copies.{content_same, shut_decodes}
 use Rattle.change_directory.proofs.LoadLaws.{logs_are_open, none_due, some_open}
@@ -48,12 +48,12 @@ no_pages : (pages : List (ℕ × Block)) → map image_of_page pages ≡ [] → 
 no_pages [] e = refl
 no_pages (p ∷ pages) e = absurd (omega (arith, ap (λ (l : List PageImage). length l) e))
 
-module _ (copy : DirCopy) (shaped : IsShaped copy) (pages : Pages) (x : Image) (sized : HasRegion copy x) (loaded : IsLoaded copy pages x) (none : directory_damage copy.dir_blocks (disk copy x) ≡ None) where
+module _ (copy : DirCopy) (shaped : IsShaped copy) (pages : Pages) (x : Image) (sized : HasRegion copy x) (loaded : IsLoaded copy pages x) (none : directory_damage copy.dir_blocks (copy_disk_bytes copy x) ≡ None) where
   abbrev d : ℕ
   d = copy.dir_blocks
 
   abbrev bytes : Bytes
-  bytes = disk copy x
+  bytes = copy_disk_bytes copy x
 
   abbrev slots : List OpenSlot
   slots = open_slots d bytes
@@ -116,7 +116,7 @@ module _ (copy : DirCopy) (shaped : IsShaped copy) (pages : Pages) (x : Image) (
     slots_open : has_slots slots ≡ true
     slots_open = some_open d bytes ∙ some_opened opened
 
-    number_is : (ss : List OpenSlot) → has_slots ss ≡ true → number_of ss ≡ Some (commit_of ss)
+    number_is : (ss : List OpenSlot) → has_slots ss ≡ true → commit_if_any ss ≡ Some (commit_of ss)
     number_is [] e = absurd (false≢true e)
     number_is (s ∷ ss) e = refl
 
@@ -127,8 +127,8 @@ module _ (copy : DirCopy) (shaped : IsShaped copy) (pages : Pages) (x : Image) (
     blocks_are : map image_of_page pages.blocks.items ≡ flat_map (filled_page d bytes) (range_with_len 0 d)
     blocks_are = loaded.blocks ∙ filled_is slots slots_open
 
-    pub shown_is : (p : ℕ) → p < d → counted copy x p ≡ shown_by pages.blocks.items p
-    shown_is p lt = sym (ap (λ (images : List PageImage). unwrap_or (image_of images p) (replicate block_size 0)) blocks_are ∙ shown_row (page_at d bytes) 0 d p (omega arith) (omega (arith, lt)))
+    pub shown_is : (p : ℕ) → p < d → counting_page copy x p ≡ shown_by pages.blocks.items p
+    shown_is p lt = sym (ap (λ (images : List PageImage). unwrap_or (logged_image images p) (replicate block_size 0)) blocks_are ∙ shown_row (page_at d bytes) 0 d p (omega arith) (omega (arith, lt)))
 
     content_is : (ss : List OpenSlot) → slots ≡ ss → has_slots ss ≡ true → content_in copy x ≡ Some (record { commit = commit_of ss; items = records_in (pages_of d bytes) })
     unfolding copy_content
@@ -138,7 +138,7 @@ module _ (copy : DirCopy) (shaped : IsShaped copy) (pages : Pages) (x : Image) (
         cond-true (has_region d (length bytes)) (content_by d bytes (open_logs d bytes)) None region ∙ ap (content_by d bytes) logs
         ∙ ap (λ (o : Option (List Item)). Some (record { commit = s.log.commit; items = o })) (cond-true (logs_decode d bytes) (records_in (pages_of d bytes)) None sound.0)
 
-    lower : (log : LogSlot) → is_open_at copy log x ≡ true → number_at copy log x ≤ commit_of slots
+    lower : (log : LogSlot) → is_open_at copy log x ≡ true → commit_number_at copy log x ≤ commit_of slots
     lower log is = omega (arith, number_listed copy shaped.least x sized log, go log (gate log ∙ is))
       where
         go : (l : LogSlot) → is_open bytes (gate_of copy l) ≡ true → (log_at d bytes (gate_of copy l)).commit ≤ commit_of slots
@@ -177,7 +177,7 @@ module _ (copy : DirCopy) (shaped : IsShaped copy) (pages : Pages) (x : Image) (
   loaded_is_content = record {
     decodes = ⊎_elim (λ shut. shut_decodes copy shaped x sized shut) (λ opened. (sound opened).0) shut_or_open;
     either = shut_or_open;
-    shut = λ shut. (shut_none copy shaped.least (short_sector copy shaped) x sized shut, loaded.number ∙ ap number_of (shut_slots shut), shut_blocks shut, shut_dues shut);
+    shut = λ shut. (shut_none copy shaped.least (short_sector copy shaped) x sized shut, loaded.number ∙ ap commit_if_any (shut_slots shut), shut_blocks shut, shut_dues shut);
     opened = λ opened. (commit_of slots, loaded.number ∙ number_is opened slots (slots_open opened), has_content opened);
     ascend = ascend;
     decode = block_rows (λ (i : PageImage). is_page i.1) (λ opened p lt full. (sound opened).1 p lt);
@@ -189,12 +189,12 @@ module _ (copy : DirCopy) (shaped : IsShaped copy) (pages : Pages) (x : Image) (
   images_are : (p : ℕ) → option_map (block bytes) (counted_block slots p) ≡ image_in (open_logs d bytes) p
   images_are p = image_stands d bytes p ∙ ap (λ (ls : List Log). image_in ls p) (logs_are_open d bytes)
 
-  each : (p q : ℕ) → IsAmong pages.due.items (p, q) → (p < d) × (image_in (open_logs d bytes) p ≡ Some (counted copy x p)) × (block bytes q ≡ counted copy x p)
+  each : (p q : ℕ) → IsAmong pages.due.items (p, q) → (p < d) × (image_in (open_logs d bytes) p ≡ Some (counting_page copy x p)) × (block bytes q ≡ counting_page copy x p)
   unfolding page_at
   each p q among =
       let is = due_is slots 0 d p q (subst (λ (l : List (ℕ × ℕ)). IsAmong l (p, q)) loaded.due among) in
       let image : image_in (open_logs d bytes) p ≡ Some (block bytes q) = sym (images_are p) ∙ ap (option_map (block bytes)) is.1 in
-      let here : block bytes q ≡ counted copy x p = ap (λ (o : Option Bytes). unwrap_or o (home_page bytes p)) (sym image) in
+      let here : block bytes q ≡ counting_page copy x p = ap (λ (o : Option Bytes). unwrap_or o (home_page bytes p)) (sym image) in
       (omega (arith, is.0), image ∙ ap Some here, here)
 
   all : (p : ℕ) (image : Bytes) → p < d → image_in (open_logs d bytes) p ≡ Some image → (q : ℕ) × IsAmong pages.due.items (p, q)
@@ -217,7 +217,7 @@ module _ (copy : DirCopy) (shaped : IsShaped copy) (pages : Pages) (x : Image) (
         let image : p.1.bytes ≡ shown_by pages.blocks.items there.0.0 = ap (λ (i : PageImage). i.1) there.2 in
         (there.0.1, subst (λ (n : ℕ). IsAmong pages.due.items (n, there.0.1)) (sym number) there.1, image ∙ ap (shown_by pages.blocks.items) (sym number))
 
-    absent : (p : ℕ) → image_of (map image_of_page dues) p ≡ None → (q : ℕ) → IsAmong pages.due.items (p, q) → ⊥
+    absent : (p : ℕ) → logged_image (map image_of_page dues) p ≡ None → (q : ℕ) → IsAmong pages.due.items (p, q) → ⊥
     absent p without q among =
         has_image (map image_of_page dues) p (p, shown_by pages.blocks.items p)
         (subst (λ (l : List PageImage). IsAmong l (p, shown_by pages.blocks.items p)) (sym are) (among_map (λ (e : ℕ × ℕ). (e.0, shown_by pages.blocks.items e.0)) pages.due.items (p, q) among)) refl without
@@ -249,6 +249,6 @@ module _ (copy : DirCopy) (shaped : IsShaped copy) (pages : Pages) (x : Image) (
           here.1 ∙ ap Some (shown_is opened p.0 here.0 ∙ sym from.2))) shut_or_open;
       others = λ p lt without. go p lt without (image_in (open_logs d bytes) p) refl;
     } where
-      go : (p : ℕ) → p < d → image_of (map image_of_page dues) p ≡ None → (o : Option Bytes) → image_in (open_logs d bytes) p ≡ o → unwrap_or (image_in (open_logs d bytes) p) (home_page bytes p) ≡ home_page bytes p
+      go : (p : ℕ) → p < d → logged_image (map image_of_page dues) p ≡ None → (o : Option Bytes) → image_in (open_logs d bytes) p ≡ o → unwrap_or (image_in (open_logs d bytes) p) (home_page bytes p) ≡ home_page bytes p
       go p lt without None e = ap (λ (o : Option Bytes). unwrap_or o (home_page bytes p)) e
       go p lt without (Some image) e = let there = all p image lt e in absurd (absent p without there.0 there.1)

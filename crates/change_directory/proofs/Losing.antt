@@ -5,7 +5,7 @@ use Rattle.std.proofs.lemmas.Bool.{cases_Bool, cond-true, cond-false}
 use Rattle.std.proofs.lemmas.Option.{none-some}
 use Rattle.bay.specs.Image.{Image, Same, ChangesOnly, Range}
 use Rattle.bay.specs.State.{BayState, IsSound}
-use Rattle.bay.specs.Calls.{Call, Done, cost}
+use Rattle.bay.specs.Calls.{Call, ChangesEachImage, cost}
 use Rattle.bay.proofs.Calls.{stops}
 use Rattle.bay.proofs.OneCall.{Follows, afforded, wider}
 use Rattle.bay.proofs.Images.{changes-within}
@@ -28,9 +28,9 @@ use Rattle.change_directory.specs.declared.copy.LogSlot.{LogSlot}
 use Rattle.change_directory.specs.declared.copy.LogSlot.TheVariants.{First, Second}
 use Rattle.change_directory.specs.Places.{gate_of, other_of, log_place}
 use Rattle.change_directory.specs.Logs.{is_open_at, spare_in}
-use Rattle.change_directory.specs.Changes.{disk, content_in, IsAtHome, DecodesIn}
+use Rattle.change_directory.specs.Changes.{copy_disk_bytes, content_in, IsAtHome, DecodesIn}
 use Rattle.change_directory.specs.Places.{HomesAt}
-use Rattle.change_directory.specs.Formatting.{AreShut, HasShutSpare, HasShut, IsWhole, Loses, Zeroes, HasFormatted, ShutsSafely, FormatsSafely}
+use Rattle.change_directory.specs.Formatting.{AreShut, HasShutSpare, HasShut, IsWholeCopy, Loses, Zeroes, HasFormatted, ShutsSafely, FormatsSafely}
 use Rattle.change_directory.specs.Works.{ReadCall, TellsNow}
 use Rattle.change_directory.proofs.Spares.{spare_same, gate_listed, may_close}
 use Rattle.change_directory.proofs.Runs.{same_disk, same_content}
@@ -41,13 +41,13 @@ module _ (copy : DirCopy) (least : 128 ≤ copy.dir_blocks) (short : copy.sector
   -- without an open log slot there is no content
   pub shut_none : (x : Image) → region_end copy.dir_blocks * block_size ≤ x.size copy.slot → AreShut copy x → content_in copy x ≡ None
   shut_none x sized shut =
-      closed_content copy.dir_blocks (disk copy x) (gate_listed copy least x sized First ∙ shut First) (gate_listed copy least x sized Second ∙ shut Second)
+      closed_content copy.dir_blocks (copy_disk_bytes copy x) (gate_listed copy least x sized First ∙ shut First) (gate_listed copy least x sized Second ∙ shut Second)
 
   module _ (l : LogSlot) (x y : Image) (sized : region_end copy.dir_blocks * block_size ≤ x.size copy.slot) (close : MayClose (log_place copy l 65) copy.slot x y) where
     abbrev at : ℕ
     at = gate_of copy l * block_size
 
-    same : SameElsewhere (disk copy x) (disk copy y) at copy.sector
+    same : SameElsewhere (copy_disk_bytes copy x) (copy_disk_bytes copy y) at copy.sector
     same = (range_change 0 copy.slot at copy.sector x y close.elsewhere).1
 
     in_slot : ChangesOnly (Range copy.slot at (log_blocks * block_size)) x y
@@ -66,30 +66,30 @@ module _ (copy : DirCopy) (least : 128 ≤ copy.dir_blocks) (short : copy.sector
         shows_now : shown (log_place copy l 65) copy.slot y ≡ Some (body_in (log_place copy l 65) copy.slot y)
         shows_now = cond-true (is_open_at copy l y) (Some (body_in (log_place copy l 65) copy.slot y)) None opened
 
-    here : is_open_at copy l y ≡ true → SameSlot (disk copy x) (disk copy y) (gate_of copy l) log_blocks
+    here : is_open_at copy l y ≡ true → SameSlot (copy_disk_bytes copy x) (copy_disk_bytes copy y) (gate_of copy l) log_blocks
     here opened = record {
       gate = gate_listed copy least y sized_after l ∙ opened ∙ sym (gate_listed copy least x sized l ∙ was_open opened);
-      body = λ was j first last. block_out (disk copy x) (disk copy y) at copy.sector same j (inl (omega (arith, first, short)));
+      body = λ was j first last. block_out (copy_disk_bytes copy x) (copy_disk_bytes copy y) at copy.sector same j (inl (omega (arith, first, short)));
     }
 
-    logs_same : is_open_at copy l y ≡ true → SameLogs copy.dir_blocks (disk copy x) (disk copy y)
+    logs_same : is_open_at copy l y ≡ true → SameLogs copy.dir_blocks (copy_disk_bytes copy x) (copy_disk_bytes copy y)
     logs_same opened = go l refl
       where
-        go : (m : LogSlot) → l ≡ m → SameLogs copy.dir_blocks (disk copy x) (disk copy y)
+        go : (m : LogSlot) → l ≡ m → SameLogs copy.dir_blocks (copy_disk_bytes copy x) (copy_disk_bytes copy y)
         go First is = record {
-          first = subst (λ (k : ℕ). SameSlot (disk copy x) (disk copy y) k log_blocks) (ap (gate_of copy) is) (here opened);
-          second = slot_behind (disk copy x) (disk copy y) at copy.sector same (second_log copy.dir_blocks) log_blocks (omega (arith, ap (gate_of copy) is, short));
+          first = subst (λ (k : ℕ). SameSlot (copy_disk_bytes copy x) (copy_disk_bytes copy y) k log_blocks) (ap (gate_of copy) is) (here opened);
+          second = slot_behind (copy_disk_bytes copy x) (copy_disk_bytes copy y) at copy.sector same (second_log copy.dir_blocks) log_blocks (omega (arith, ap (gate_of copy) is, short));
         }
         go Second is = record {
-          first = slot_before (disk copy x) (disk copy y) at copy.sector same (first_log copy.dir_blocks) log_blocks (omega (arith, ap (gate_of copy) is)) (omega arith);
-          second = subst (λ (k : ℕ). SameSlot (disk copy x) (disk copy y) k log_blocks) (ap (gate_of copy) is) (here opened);
+          first = slot_before (copy_disk_bytes copy x) (copy_disk_bytes copy y) at copy.sector same (first_log copy.dir_blocks) log_blocks (omega (arith, ap (gate_of copy) is)) (omega arith);
+          second = subst (λ (k : ℕ). SameSlot (copy_disk_bytes copy x) (copy_disk_bytes copy y) k log_blocks) (ap (gate_of copy) is) (here opened);
         }
 
     -- the gate reads open still
     pub open_keeps : is_open_at copy l y ≡ true → content_in copy y ≡ content_in copy x
     open_keeps opened =
-        copy_same (disk copy x) (disk copy y) at copy.sector same copy.dir_blocks (logs_same opened)
-        (λ page lt. block_out (disk copy x) (disk copy y) at copy.sector same (region_start + page) (inr (omega (arith, lt, behind l))))
+        copy_same (copy_disk_bytes copy x) (copy_disk_bytes copy y) at copy.sector same copy.dir_blocks (logs_same opened)
+        (λ page lt. block_out (copy_disk_bytes copy x) (copy_disk_bytes copy y) at copy.sector same (region_start + page) (inr (omega (arith, lt, behind l))))
       where
         behind : (m : LogSlot) → region_start + copy.dir_blocks ≤ gate_of copy m
         behind First = omega arith
@@ -98,16 +98,16 @@ module _ (copy : DirCopy) (least : 128 ≤ copy.dir_blocks) (short : copy.sector
     -- the spare slot may be closed
     pub spare_keeps : l ≡ spare_in copy x → IsAtHome copy x → DecodesIn copy x → content_in copy y ≡ content_in copy x
     spare_keeps is home decodes = ⊎_elim open_keeps
-        (λ shut. closed_keeps copy.dir_blocks (disk copy x) (gate_of copy (spare_in copy x)) (gate_of copy (other_of (spare_in copy x))) (may_close copy least x sized home decodes)
-        (disk copy y) (same_slot is) (ap (λ (m : LogSlot). is_open (disk copy y) (gate_of copy m)) (sym is) ∙ gate_listed copy least y sized_after l ∙ shut))
+        (λ shut. closed_keeps copy.dir_blocks (copy_disk_bytes copy x) (gate_of copy (spare_in copy x)) (gate_of copy (other_of (spare_in copy x))) (may_close copy least x sized home decodes)
+        (copy_disk_bytes copy y) (same_slot is) (ap (λ (m : LogSlot). is_open (copy_disk_bytes copy y) (gate_of copy m)) (sym is) ∙ gate_listed copy least y sized_after l ∙ shut))
         (cases_Bool (is_open_at copy l y))
       where
-        same_slot : l ≡ spare_in copy x → SameElsewhere (disk copy x) (disk copy y) (gate_of copy (spare_in copy x) * block_size) (log_blocks * block_size)
-        same_slot e = subst (λ (k : ℕ). SameElsewhere (disk copy x) (disk copy y) (k * block_size) (log_blocks * block_size)) (ap (gate_of copy) e) ((range_change 0 copy.slot at (log_blocks * block_size) x y in_slot).1)
+        same_slot : l ≡ spare_in copy x → SameElsewhere (copy_disk_bytes copy x) (copy_disk_bytes copy y) (gate_of copy (spare_in copy x) * block_size) (log_blocks * block_size)
+        same_slot e = subst (λ (k : ℕ). SameElsewhere (copy_disk_bytes copy x) (copy_disk_bytes copy y) (k * block_size) (log_blocks * block_size)) (ap (gate_of copy) e) ((range_change 0 copy.slot at (log_blocks * block_size) x y in_slot).1)
 
 -- ---- step by step
 
-whole_same : (copy : DirCopy) (x w : Image) → Same x w → IsWhole copy x → IsWhole copy w
+whole_same : (copy : DirCopy) (x w : Image) → Same x w → IsWholeCopy copy x → IsWholeCopy copy w
 whole_same copy x w same whole =
     let lists = sym (same_disk copy x w same) in
     record {
@@ -157,8 +157,8 @@ module _ (copy : DirCopy) (least : 128 ≤ copy.dir_blocks) (short : copy.sector
   -- it was read which slot is the spare one, and that one is closed
   pub spare_shuts : {E F : Type 0} {result : Result (Unit {0}) E} (log : LogSlot) (place : Place) → place ≡ log_place copy log 65 → {a b c : BayState} → IsSound b
       → ReadCall {E = F} (Ok log) copy.slot (λ l. TellsNow (λ image. l ≡ spare_in copy image)) 4 a b
-      → Call result copy.slot (WaitsFor b copy.slot (MayClose place copy.slot)) (Done (FromHeld b copy.slot (Closes place copy.slot))) (cost 4 place.sector) b c
-      → Call result copy.slot (ShutsSafely copy) (Done (HasShutSpare copy log)) (cost 8 copy.sector) a c
+      → Call result copy.slot (WaitsFor b copy.slot (MayClose place copy.slot)) (ChangesEachImage (FromHeld b copy.slot (Closes place copy.slot))) (cost 4 place.sector) b c
+      → Call result copy.slot (ShutsSafely copy) (ChangesEachImage (HasShutSpare copy log)) (cost 8 copy.sector) a c
   spare_shuts log place at sound read close =
       let sector : place.sector ≡ copy.sector = ap (λ (p : Place). p.sector) at in
       afforded (record { calls = omega arith; bytes = λ s. omega (arith, sector) })

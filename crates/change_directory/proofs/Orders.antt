@@ -11,12 +11,12 @@ use Rattle.asm_base.specs.declared.block.Block.{Block}
 use Rattle.asm_group.specs.Names.{Bytes}
 use Rattle.asm_formats.specs.Status.{ascends_from}
 use Rattle.asm_formats.specs.Content.{is_empty_page, is_page}
-use Rattle.asm_formats.specs.Logs.{PageImage, image_in, image_of}
+use Rattle.asm_formats.specs.Logs.{PageImage, image_in, logged_image}
 use Rattle.change_directory.specs.declared.loading.Pages.{Pages}
 use Rattle.change_directory.specs.declared.open_log.OpenLog.{OpenLog}
 use Rattle.asm_base.specs.Blocks.{image_of_page}
 use Rattle.change_directory.specs.Loads.{AreInOrder, OpenSlot, are_numbers, counted_block, due_page, newest_slots}
-use Rattle.change_directory.specs.Slots.{AreTaken, AreUpTo, GoesUpTo, IsSoundRead, all_due, all_filled, are_sound, bad_image, counted_page, damage_of, filled, first_bad, is_bad, logs_of, slots_of}
+use Rattle.change_directory.specs.Slots.{AreTaken, AreUpTo, GoesUpTo, IsSoundRead, all_due, all_filled, are_sound, bad_image, counted_page, damage_of, filled, first_bad, is_bad, logs_of, slots_of_log}
 use Rattle.change_directory.proofs.Afterwards.{same_numbers}
 use Rattle.change_directory.proofs.LoadRows.{all_by_images}
 
@@ -57,12 +57,12 @@ numbers_more n ns are =
 abbrev found : Bool → PageImage → List PageImage → ℕ → Option Bytes
 found b i images p = option_map (λ (j : PageImage). j.1) (cond b (Some i) (find (λ (j : PageImage). j.0 == p) images))
 
-image_is_page : (images : List PageImage) (page : ℕ) (image : Bytes) → list_all (λ (i : PageImage). is_page i.1) images ≡ true → image_of images page ≡ Some image → is_page image ≡ true
+image_is_page : (images : List PageImage) (page : ℕ) (image : Bytes) → list_all (λ (i : PageImage). is_page i.1) images ≡ true → logged_image images page ≡ Some image → is_page image ≡ true
 image_is_page [] page image all some = absurd (none-some image some)
 image_is_page (i ∷ images) page image all some =
     let p = and_parts (is_page i.1) (list_all (λ (j : PageImage). is_page j.1) images) all in
     go (i.0 == page) p.0 (image_is_page images page image p.1) some where
-      go : (b : Bool) → is_page i.1 ≡ true → (image_of images page ≡ Some image → is_page image ≡ true) → found b i images page ≡ Some image → is_page image ≡ true
+      go : (b : Bool) → is_page i.1 ≡ true → (logged_image images page ≡ Some image → is_page image ≡ true) → found b i images page ≡ Some image → is_page image ≡ true
       go true here rest e = ap is_page (sym (same_Some i.1 image e)) ∙ here
       go false here rest e = rest e
 
@@ -70,7 +70,7 @@ counted_is_page : (slots : List OpenSlot) (page : ℕ) (image : Bytes) → are_s
 counted_is_page [] page image sound some = absurd (none-some image some)
 counted_is_page (slot ∷ slots) page image sound some =
     let p = and_parts (list_all (λ (i : PageImage). is_page i.1) slot.log.images) (are_sound slots) sound in
-    go (image_of slot.log.images page) (image_is_page slot.log.images page image p.0) (counted_is_page slots page image p.1) some where
+    go (logged_image slot.log.images page) (image_is_page slot.log.images page image p.0) (counted_is_page slots page image p.1) some where
       go : (o : Option Bytes) → (o ≡ Some image → is_page image ≡ true) → (image_in (logs_of slots) page ≡ Some image → is_page image ≡ true)
           → option_or o (image_in (logs_of slots) page) ≡ Some image → is_page image ≡ true
       go None here rest e = rest e
@@ -220,10 +220,10 @@ no_damage : (first second : Option ℕ) → option_or first second ≡ None → 
 no_damage None second e = (refl, e)
 no_damage (Some a) second e = absurd (none-some a (sym e))
 
-pub slots_are_sound : (first second : Option OpenLog) (slots : List OpenSlot) → slots ≡ newest_slots (slots_of first ++ slots_of second) → IsSoundRead first → IsSoundRead second
+pub slots_are_sound : (first second : Option OpenLog) (slots : List OpenSlot) → slots ≡ newest_slots (slots_of_log first ++ slots_of_log second) → IsSoundRead first → IsSoundRead second
     → option_or (damage_of first) (damage_of second) ≡ None → are_sound slots ≡ true
 slots_are_sound first second slots order one two none =
     let d = no_damage (damage_of first) (damage_of second) none in
-    let both : are_sound (slots_of first ++ slots_of second) ≡ true =
-    list_all-append (λ (s : OpenSlot). list_all (λ (i : PageImage). is_page i.1) s.log.images) (slots_of first) (slots_of second) ∙ and_from (are_sound (slots_of first)) (are_sound (slots_of second)) (one d.0) (two d.1) in
-    ap are_sound order ∙ in_order_sound (slots_of first ++ slots_of second) both
+    let both : are_sound (slots_of_log first ++ slots_of_log second) ≡ true =
+    list_all-append (λ (s : OpenSlot). list_all (λ (i : PageImage). is_page i.1) s.log.images) (slots_of_log first) (slots_of_log second) ∙ and_from (are_sound (slots_of_log first)) (are_sound (slots_of_log second)) (one d.0) (two d.1) in
+    ap are_sound order ∙ in_order_sound (slots_of_log first ++ slots_of_log second) both

@@ -14,7 +14,7 @@ use Rattle.asm_formats.specs.Damage.{is_bad_page}
 use Rattle.change_directory.specs.declared.loading.Pages.{Pages}
 use Rattle.asm_base.specs.Blocks.{image_of_page}
 use Rattle.change_directory.specs.Loads.{OpenSlot, counted_block, due_page, filled_page}
-use Rattle.change_directory.specs.Slots.{AreTaken, Takes, all_filled, all_due, cut, damaged_page, first_bad, counted_page, filled, is_bad, logs_of}
+use Rattle.change_directory.specs.Slots.{AreTaken, TakesUpPages, all_filled, all_due, cut, damaged_page, first_bad, counted_page, filled, is_bad, logs_of}
 use Rattle.change_directory.proofs.BlockRows.{cut_add, cut_len, cut_more}
 
 -- ---- some pages, and then others
@@ -96,7 +96,7 @@ module _ (slots : List OpenSlot) where
   -- ---- one page
 
   pub taken_image : (page block : ℕ) (home image : Bytes) (a b : Pages) → counted_block slots page ≡ Some block → image_in (logs_of slots) page ≡ Some image
-      → Takes (filled page image) ((page, block) ∷ []) a b → AreTaken slots page (home ∷ []) a b
+      → TakesUpPages (filled page image) ((page, block) ∷ []) a b → AreTaken slots page (home ∷ []) a b
   unfolding all_filled all_due first_bad
   taken_image page block home image a b counted there takes =
       let one : filled page image ≡ filled page (counted_page slots page home) ++ [] =
@@ -112,7 +112,7 @@ module _ (slots : List OpenSlot) where
       }
 
   pub taken_home : (page : ℕ) (home : Bytes) (a b : Pages) → counted_block slots page ≡ None → image_in (logs_of slots) page ≡ None → is_page home ≡ true
-      → Takes (filled page home) [] a b → AreTaken slots page (home ∷ []) a b
+      → TakesUpPages (filled page home) [] a b → AreTaken slots page (home ∷ []) a b
   unfolding all_filled all_due first_bad
   taken_home page home a b counted there ok takes =
       let one : filled page home ≡ filled page (counted_page slots page home) ++ [] =

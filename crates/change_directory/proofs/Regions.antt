@@ -7,7 +7,7 @@ use Rattle.bay.proofs.Images.{changes-within, changes-same}
 use Rattle.gate_slot.specs.Slot.{GateOf, PlaceOf}
 use Rattle.asm_base.specs.declared.block.Block.{Block}
 use Rattle.asm_formats.specs.Regions.{region_start}
-use Rattle.asm_formats.specs.Logs.{Log, PageImage, head_of}
+use Rattle.asm_formats.specs.Logs.{Log, PageImage, head_of_log}
 use Rattle.asm_formats.proofs.LogReading.{log_head_len}
 use Rattle.change_directory.specs.declared.copy.DirCopy.{DirCopy}
 use Rattle.change_directory.specs.declared.copy.LogSlot.{LogSlot}
@@ -68,7 +68,7 @@ module _ (copy : DirCopy) (least : 128 ≤ copy.dir_blocks) (short : copy.sector
 few_pages : (copy : DirCopy) (number : ℕ) (pages : List (ℕ × Block)) → ArePut copy number pages → length pages ≤ 64
 few_pages copy number pages put =
     let log : Log = log_of number pages in
-    omega (arith, log_head_len copy.dir_blocks (head_of log) put.head, length-map log.images (λ (i : PageImage). i.0), length-map pages image_of_page)
+    omega (arith, log_head_len copy.dir_blocks (head_of_log log) put.head, length-map log.images (λ (i : PageImage). i.0), length-map pages image_of_page)
 
 pub steps_stay_inside : StepsStayInside
 steps_stay_inside = record {

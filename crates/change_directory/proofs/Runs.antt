@@ -16,7 +16,7 @@ use Rattle.asm_base.specs.declared.block.Block.{Block}
 use Rattle.asm_group.specs.Names.{Bytes}
 use Rattle.asm_formats.specs.Bytes.{block_size, is_open}
 use Rattle.asm_formats.specs.Regions.{region_end, log_blocks, has_region}
-use Rattle.asm_formats.specs.Logs.{Log, PageImage, head_of}
+use Rattle.asm_formats.specs.Logs.{Log, PageImage, head_of_log}
 use Rattle.asm_formats.specs.Pages.{copy_content}
 use Rattle.asm_formats.specs.LogSlots.{IsLog, IsLogPut, LogMoment, log_as_before, log_closed, log_put}
 use Rattle.asm_formats.specs.Commits.{HoldsLog}
@@ -27,8 +27,8 @@ use Rattle.change_directory.specs.declared.copy.LogSlot.{LogSlot}
 use Rattle.change_directory.specs.Places.{IsCopy, gate_of, other_of, log_place}
 use Rattle.change_directory.specs.Logs.{is_open_at, spare_in, log_of, log_body}
 use Rattle.asm_base.specs.Blocks.{image_of_page}
-use Rattle.change_directory.specs.Changes.{disk, content_in, MayLog, HasLogged, MayCommit, HasCommitted}
-use Rattle.change_directory.specs.Laws.{IsReady}
+use Rattle.change_directory.specs.Changes.{copy_disk_bytes, content_in, MayLog, HasLogged, MayCommit, HasCommitted}
+use Rattle.change_directory.specs.Laws.{IsCopyReady}
 use Rattle.change_directory.proofs.Bodies.{holds_body}
 use Rattle.change_directory.proofs.Contents.{put_content, moment_content}
 use Rattle.change_directory.proofs.Spares.{slot_inside, gate_listed, may_close, is_above}
@@ -125,7 +125,7 @@ module _ (copy : DirCopy) (number : ℕ) (pages : List (ℕ × Block)) where
     elsewhere = changes-trans (PlaceOf (place_of l) copy.slot) x w y (changes-same (PlaceOf (place_of l) copy.slot) x w same) put.elsewhere;
   }
 
-pub same_disk : (copy : DirCopy) (x y : Image) → Same x y → disk copy y ≡ disk copy x
+pub same_disk : (copy : DirCopy) (x y : Image) → Same x y → copy_disk_bytes copy y ≡ copy_disk_bytes copy x
 same_disk copy x y same =
     ap (λ (n : ℕ). window (y.byte copy.slot) 0 n) (same.size copy.slot) ∙ window-same (x.byte copy.slot) (y.byte copy.slot) 0 (x.size copy.slot) (λ k low high. same.byte copy.slot k)
 
@@ -133,7 +133,7 @@ pub same_content : (copy : DirCopy) (x y : Image) → Same x y → content_in co
 same_content copy x y same = ap (copy_content copy.dir_blocks) (same_disk copy x y same)
 
 module _ (copy : DirCopy) (least : 128 ≤ copy.dir_blocks) (most : copy.dir_blocks ≤ 16384) (sector : copy.sector ≤ 4096) (number : ℕ) (pages : List (ℕ × Block))
-    (ok : IsLog copy.dir_blocks (log_of number pages)) (x y : Image) (ready : IsReady copy number x) where
+    (ok : IsLog copy.dir_blocks (log_of number pages)) (x y : Image) (ready : IsCopyReady copy number x) where
   abbrev log : Log
   log = log_of number pages
 
@@ -150,7 +150,7 @@ module _ (copy : DirCopy) (least : 128 ≤ copy.dir_blocks) (most : copy.dir_blo
   count = length-map pages image_of_page
 
   few : length pages ≤ 64
-  few = omega (arith, log_head_len copy.dir_blocks (head_of log) ok.0, length-map log.images (λ (i : PageImage). i.0), count)
+  few = omega (arith, log_head_len copy.dir_blocks (head_of_log log) ok.0, length-map log.images (λ (i : PageImage). i.0), count)
 
   inside : k + 66 ≤ region_end copy.dir_blocks
   inside = slot_inside copy (spare_in copy x) least
@@ -166,7 +166,7 @@ module _ (copy : DirCopy) (least : 128 ≤ copy.dir_blocks) (most : copy.dir_blo
         within s b (inl gate) = (gate.0, omega (arith, gate.1), omega (arith, gate.2, sector))
         within s b (inr body) = (body.0, omega (arith, body.1), omega (arith, body.2, few))
 
-    is_put : LogMoment (disk copy x) (disk copy y) k log → IsLogPut copy.dir_blocks (disk copy x) (disk copy y) k other log
+    is_put : LogMoment (copy_disk_bytes copy x) (copy_disk_bytes copy y) k log → IsLogPut copy.dir_blocks (copy_disk_bytes copy x) (copy_disk_bytes copy y) k other log
     is_put moment = record {
       may_close = may_close copy least x ready.sized ready.home ready.decodes;
       above = λ opened. is_above copy least x ready.sized number ready.above (other_of (spare_in copy x)) opened;
@@ -175,21 +175,21 @@ module _ (copy : DirCopy) (least : 128 ≤ copy.dir_blocks) (most : copy.dir_blo
       moment = moment;
     }
 
-    gate_after : is_open (disk copy y) k ≡ is_open_at copy (spare_in copy x) y
+    gate_after : is_open (copy_disk_bytes copy y) k ≡ is_open_at copy (spare_in copy x) y
     gate_after = gate_listed copy least y sized_after (spare_in copy x)
 
-    whole : has_region copy.dir_blocks (length (disk copy x)) ≡ true
-    whole = le-leb (region_end copy.dir_blocks * block_size) (length (disk copy x)) (omega (arith, ready.sized, (bytes_are_listed x copy.slot).0))
+    whole : has_region copy.dir_blocks (length (copy_disk_bytes copy x)) ≡ true
+    whole = le-leb (region_end copy.dir_blocks * block_size) (length (copy_disk_bytes copy x)) (omega (arith, ready.sized, (bytes_are_listed x copy.slot).0))
 
     -- the slot shows the log
-    has_log : is_open_at copy (spare_in copy x) y ≡ true → body_in place copy.slot y ≡ log_body log → HoldsLog (disk copy y) k log
+    has_log : is_open_at copy (spare_in copy x) y ≡ true → body_in place copy.slot y ≡ log_body log → HoldsLog (copy_disk_bytes copy y) k log
     has_log opened body =
         let long : (length pages + 1) * 4096 ≡ length (log_body log) = sym (length-window (y.byte copy.slot) ((k + 1) * block_size) ((length pages + 1) * block_size)) ∙ ap length body in
         holds_body copy.dir_blocks y copy.slot k log ok (omega (arith, sized_after, inside, few, count)) (gate_after ∙ opened)
         (ap (λ (n : ℕ). window (y.byte copy.slot) ((k + 1) * block_size) n) (sym long) ∙ body)
 
     -- the slot is as before
-    as_before : is_open_at copy (spare_in copy x) y ≡ true → is_open_at copy (spare_in copy x) x ≡ true → body_in place copy.slot y ≡ body_in place copy.slot x → LogMoment (disk copy x) (disk copy y) k log
+    as_before : is_open_at copy (spare_in copy x) y ≡ true → is_open_at copy (spare_in copy x) x ≡ true → body_in place copy.slot y ≡ body_in place copy.slot x → LogMoment (copy_disk_bytes copy x) (copy_disk_bytes copy y) k log
     as_before opened was body = log_as_before (gate_after ∙ opened ∙ sym (gate_listed copy least x ready.sized (spare_in copy x) ∙ was))
         (λ j first last.
         let at : ℕ = j * block_size in
@@ -216,7 +216,7 @@ module _ (copy : DirCopy) (least : 128 ≤ copy.dir_blocks) (most : copy.dir_blo
             outside above (inl gate) = omega (arith, gate.2, sector)
             outside above (inr here) = omega (arith, here.2, above)
 
-  moment_of : MayPut place copy.slot (log_body log) x y → LogMoment (disk copy x) (disk copy y) k log
+  moment_of : MayPut place copy.slot (log_body log) x y → LogMoment (copy_disk_bytes copy x) (copy_disk_bytes copy y) k log
   moment_of put = ⊎_elim
       (λ opened. go opened put.shows)
       (λ shut. log_closed (gate_after put.elsewhere ∙ shut))
@@ -226,29 +226,29 @@ module _ (copy : DirCopy) (least : 128 ≤ copy.dir_blocks) (most : copy.dir_blo
       shows_now opened = cond-true (is_open_at copy (spare_in copy x) y) (Some (body_in place copy.slot y)) None opened
 
       before : is_open_at copy (spare_in copy x) y ≡ true → (b : Bool) → is_open_at copy (spare_in copy x) x ≡ b → Some (body_in place copy.slot y) ≡ cond b (Some (body_in place copy.slot x)) None
-          → LogMoment (disk copy x) (disk copy y) k log
+          → LogMoment (copy_disk_bytes copy x) (copy_disk_bytes copy y) k log
       before opened true was e = as_before put.elsewhere opened was (same_Some (body_in place copy.slot y) (body_in place copy.slot x) e)
       before opened false was e = absurd (none-some _ (sym e))
 
       go : is_open_at copy (spare_in copy x) y ≡ true
           → (shown place copy.slot y ≡ shown place copy.slot x) ⊎ ((shown place copy.slot y ≡ None) ⊎ (shown place copy.slot y ≡ Some (log_body log)))
-          → LogMoment (disk copy x) (disk copy y) k log
+          → LogMoment (copy_disk_bytes copy x) (copy_disk_bytes copy y) k log
       go opened (inl same) = before opened (is_open_at copy (spare_in copy x) x) refl (sym (shows_now opened) ∙ same)
       go opened (inr (inl none)) = absurd (none-some _ (sym none ∙ shows_now opened))
       go opened (inr (inr some)) =
           let held = has_log put.elsewhere opened (same_Some (body_in place copy.slot y) (log_body log) (sym (shows_now opened) ∙ some)) in
           log_put held.gate held.head held.images
 
-  pub put_logging : MayPut place copy.slot (log_body log) x y → IsLogPut copy.dir_blocks (disk copy x) (disk copy y) k other log
+  pub put_logging : MayPut place copy.slot (log_body log) x y → IsLogPut copy.dir_blocks (copy_disk_bytes copy x) (copy_disk_bytes copy y) k other log
   put_logging put = is_put put.elsewhere (moment_of put)
 
   pub may_commit : MayLog copy number pages x y → MayCommit copy log x y
   may_commit (inl same) = inl (same_content copy x y same)
   may_commit (inr put) =
       let moment = moment_of put in
-      moment_content copy.dir_blocks (disk copy x) (disk copy y) k other log (omega arith) (is_put put.elsewhere moment) (whole put.elsewhere) moment
+      moment_content copy.dir_blocks (copy_disk_bytes copy x) (copy_disk_bytes copy y) k other log (omega arith) (is_put put.elsewhere moment) (whole put.elsewhere) moment
 
-  pub holds_logged : HasLogged copy number pages x y → HoldsLog (disk copy y) k log
+  pub holds_logged : HasLogged copy number pages x y → HoldsLog (copy_disk_bytes copy y) k log
   holds_logged put = ⊎_elim
       (λ opened.
       let shows_now : shown place copy.slot y ≡ Some (body_in place copy.slot y) = cond-true (is_open_at copy (spare_in copy x) y) (Some (body_in place copy.slot y)) None opened in
@@ -258,9 +258,9 @@ module _ (copy : DirCopy) (least : 128 ≤ copy.dir_blocks) (most : copy.dir_blo
       absurd (none-some _ (sym shows_none ∙ put.shows)))
       (cases_Bool (is_open_at copy (spare_in copy x) y))
 
-  pub put_logged : HasLogged copy number pages x y → IsLogPut copy.dir_blocks (disk copy x) (disk copy y) k other log
+  pub put_logged : HasLogged copy number pages x y → IsLogPut copy.dir_blocks (copy_disk_bytes copy x) (copy_disk_bytes copy y) k other log
   put_logged put = let held = holds_logged put in is_put put.elsewhere (log_put held.gate held.head held.images)
 
   pub has_committed : HasLogged copy number pages x y → HasCommitted copy log x y
   has_committed put =
-      put_content copy.dir_blocks (disk copy x) (disk copy y) k other log (omega arith) (put_logged put) (whole put.elsewhere) (holds_logged put)
+      put_content copy.dir_blocks (copy_disk_bytes copy x) (copy_disk_bytes copy y) k other log (omega arith) (put_logged put) (whole put.elsewhere) (holds_logged put)

@@ -7,7 +7,7 @@ use Rattle.bay.specs.Image.{Image, window}
 use Rattle.asm_group.specs.Names.{Bytes}
 use Rattle.asm_formats.specs.Bytes.{block, is_open}
 use Rattle.asm_formats.specs.Content.{is_page}
-use Rattle.asm_formats.specs.Logs.{LogHead, PageImage, blocks_from, decoded_log_head, image_in, image_of, images_at, log_at, log_head_at}
+use Rattle.asm_formats.specs.Logs.{LogHead, PageImage, blocks_from, decoded_log_head, image_in, logged_image, images_at, log_at, log_head_at}
 use Rattle.asm_formats.specs.Damage.{head_damage}
 use Rattle.asm_images.proofs.Bridges.{bytes_are_listed}
 use Rattle.change_directory.specs.declared.copy.DirCopy.{DirCopy}
@@ -16,9 +16,9 @@ use Rattle.change_directory.specs.declared.open_log.OpenLog.{OpenLog}
 use Rattle.change_directory.specs.Places.{gate_of}
 use Rattle.change_directory.specs.Logs.{is_open_at}
 use Rattle.asm_base.specs.Blocks.{image_of_page}
-use Rattle.change_directory.specs.Changes.{disk}
+use Rattle.change_directory.specs.Changes.{copy_disk_bytes}
 use Rattle.change_directory.specs.Loads.{OpenSlot, counted_block, image_block}
-use Rattle.change_directory.specs.Slots.{IsLogRead, IsRestRead, bad_image, head_in, images_in, logs_of, place_in, slot_of, slots_of}
+use Rattle.change_directory.specs.Slots.{IsLogRead, IsRestRead, bad_image, head_in, images_in, logs_of, place_in, slot_of, slots_of_log}
 use Rattle.change_directory.proofs.HeadLaws.{pages_of}
 use Rattle.change_directory.proofs.BlockRows.{blocks_listed}
 use Rattle.change_directory.proofs.Spares.{gate_listed, slot_inside}
@@ -39,7 +39,7 @@ module _ (copy : DirCopy) (least : 128 ≤ copy.dir_blocks) (log : LogSlot) (ima
   k = gate_of copy log
 
   abbrev bytes : Bytes
-  bytes = disk copy image
+  bytes = copy_disk_bytes copy image
 
   images_listed : (pages : List ℕ) → length pages ≤ 64 → images_in copy log pages image ≡ zip pages (blocks_from bytes (k + 2) (length pages))
   images_listed pages few =
@@ -124,8 +124,8 @@ or_none None = refl
 or_none (Some x) = refl
 
 -- in one slot
-pub block_is_place : (log : OpenLog) (page : ℕ) → counted_block (slots_of (Some log)) page ≡ place_in (log.gate + 2) (map image_of_page log.images.items) page
+pub block_is_place : (log : OpenLog) (page : ℕ) → counted_block (slots_of_log (Some log)) page ≡ place_in (log.gate + 2) (map image_of_page log.images.items) page
 block_is_place log page = or_none (image_block (slot_of log) page) ∙ place_is (log.gate + 2) page (map image_of_page log.images.items)
 
-pub image_is_only : (log : OpenLog) (page : ℕ) → image_in (logs_of (slots_of (Some log))) page ≡ image_of (map image_of_page log.images.items) page
-image_is_only log page = or_none (image_of (map image_of_page log.images.items) page)
+pub image_is_only : (log : OpenLog) (page : ℕ) → image_in (logs_of (slots_of_log (Some log))) page ≡ logged_image (map image_of_page log.images.items) page
+image_is_only log page = or_none (logged_image (map image_of_page log.images.items) page)

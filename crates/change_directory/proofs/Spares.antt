@@ -8,14 +8,14 @@ use Rattle.asm_formats.specs.Bytes.{block_size, is_open}
 use Rattle.asm_formats.specs.Regions.{region_start, region_end, first_log, second_log}
 use Rattle.asm_formats.specs.Logs.{log_at, log_head_at}
 use Rattle.asm_formats.specs.Slots.{ArePair}
-use Rattle.asm_formats.specs.LogSlots.{IsFree, MayClose}
+use Rattle.asm_formats.specs.LogSlots.{IsFreeLog, MayCloseLog}
 use Rattle.asm_images.proofs.Bridges.{bytes_are_listed}
 use Rattle.change_directory.specs.declared.copy.DirCopy.{DirCopy}
 use Rattle.change_directory.specs.declared.copy.LogSlot.{LogSlot}
 use Rattle.change_directory.specs.declared.copy.LogSlot.TheVariants.{First, Second}
 use Rattle.change_directory.specs.Places.{gate_of, other_of}
-use Rattle.change_directory.specs.Logs.{SameLogSlots, is_open_at, number_at, open_number, spare_of, spare_in}
-use Rattle.change_directory.specs.Changes.{disk, IsAtHome, DecodesIn, IsAbove}
+use Rattle.change_directory.specs.Logs.{SameLogSlots, is_open_at, commit_number_at, open_number, spare_of, spare_in}
+use Rattle.change_directory.specs.Changes.{copy_disk_bytes, IsAtHome, DecodesIn, IsAbove}
 use Rattle.change_directory.specs.StoreLaws.{SameRegion}
 
 -- ---- the choice
@@ -52,7 +52,7 @@ spare_same copy x held same = spare_logs copy held x (same_logs copy held x same
 pub same_number : (copy : DirCopy) (log : LogSlot) (old image : Image) → Same old image → open_number copy log image ≡ open_number copy log old
 same_number copy log old image same =
     let opens : is_open_at copy log image ≡ is_open_at copy log old = ap (λ (b : ℕ). b == 165) (same.byte copy.slot (gate_of copy log * block_size)) in
-    let numbers : number_at copy log image ≡ number_at copy log old =
+    let numbers : commit_number_at copy log image ≡ commit_number_at copy log old =
     ap (λ (l : List ℕ). (log_head_at l).commit) (window-same (old.byte copy.slot) (image.byte copy.slot) ((gate_of copy log + 1) * block_size) block_size (λ k low high. same.byte copy.slot k)) in
     λ i. cond (opens i) (Some (numbers i)) None
 
@@ -89,37 +89,37 @@ region_logs copy x y least same = record {
 }
 
 module _ (copy : DirCopy) (least : 128 ≤ copy.dir_blocks) (x : Image) (sized : region_end copy.dir_blocks * block_size ≤ x.size copy.slot) where
-  pub gate_listed : (log : LogSlot) → is_open (disk copy x) (gate_of copy log) ≡ is_open_at copy log x
+  pub gate_listed : (log : LogSlot) → is_open (copy_disk_bytes copy x) (gate_of copy log) ≡ is_open_at copy log x
   gate_listed log =
       let inside = slot_inside copy log least in
       ap (λ (b : ℕ). b == 165) ((bytes_are_listed x copy.slot).1 (gate_of copy log * block_size) (omega (arith, inside, sized)))
 
-  pub number_listed : (log : LogSlot) → (log_at copy.dir_blocks (disk copy x) (gate_of copy log)).commit ≡ number_at copy log x
+  pub number_listed : (log : LogSlot) → (log_at copy.dir_blocks (copy_disk_bytes copy x) (gate_of copy log)).commit ≡ commit_number_at copy log x
   unfolding log_at
   number_listed log =
       let inside = slot_inside copy log least in
       ap (λ (l : List ℕ). (log_head_at l).commit) ((bytes_are_listed x copy.slot).2 ((gate_of copy log + 1) * block_size) block_size (omega (arith, inside, sized)))
 
-  pub free_slot : IsFree copy.dir_blocks (disk copy x) (gate_of copy (spare_in copy x)) (gate_of copy (other_of (spare_in copy x)))
-  free_slot = go (spare_in copy x) (chosen (is_open_at copy First x) (is_open_at copy Second x) (number_at copy First x) (number_at copy Second x))
+  pub free_slot : IsFreeLog copy.dir_blocks (copy_disk_bytes copy x) (gate_of copy (spare_in copy x)) (gate_of copy (other_of (spare_in copy x)))
+  free_slot = go (spare_in copy x) (chosen (is_open_at copy First x) (is_open_at copy Second x) (commit_number_at copy First x) (commit_number_at copy Second x))
     where
-      go : (log : LogSlot) → IsSpare log (is_open_at copy First x) (is_open_at copy Second x) (number_at copy First x) (number_at copy Second x)
-          → IsFree copy.dir_blocks (disk copy x) (gate_of copy log) (gate_of copy (other_of log))
+      go : (log : LogSlot) → IsSpare log (is_open_at copy First x) (is_open_at copy Second x) (commit_number_at copy First x) (commit_number_at copy Second x)
+          → IsFreeLog copy.dir_blocks (copy_disk_bytes copy x) (gate_of copy log) (gate_of copy (other_of log))
       go First (inl shut) = inl (gate_listed First ∙ shut)
       go First (inr p) = inr (gate_listed Second ∙ p.0, inl (omega (arith, number_listed First, number_listed Second, p.1)))
       go Second (inl shut) = inl (gate_listed Second ∙ shut)
       go Second (inr p) = inr (
         gate_listed First ∙ p.0,
         ⊎_elim
-            (λ (below : number_at copy Second x < number_at copy First x). inl (omega (arith, number_listed First, number_listed Second)))
-            (λ (above : number_at copy First x ≤ number_at copy Second x). inr (omega (arith, number_listed First, number_listed Second, p.1), omega arith))
-            (cases_lt (number_at copy Second x) (number_at copy First x)),
+            (λ (below : commit_number_at copy Second x < commit_number_at copy First x). inl (omega (arith, number_listed First, number_listed Second)))
+            (λ (above : commit_number_at copy First x ≤ commit_number_at copy Second x). inr (omega (arith, number_listed First, number_listed Second, p.1), omega arith))
+            (cases_lt (commit_number_at copy Second x) (commit_number_at copy First x)),
       )
 
-  pub may_close : IsAtHome copy x → DecodesIn copy x → MayClose copy.dir_blocks (disk copy x) (gate_of copy (spare_in copy x)) (gate_of copy (other_of (spare_in copy x)))
+  pub may_close : IsAtHome copy x → DecodesIn copy x → MayCloseLog copy.dir_blocks (copy_disk_bytes copy x) (gate_of copy (spare_in copy x)) (gate_of copy (other_of (spare_in copy x)))
   may_close home decodes = record { pair = pair_of copy (spare_in copy x); free = free_slot; decode = decodes; checkpointed = λ opened. home }
 
-  pub is_above : (number : ℕ) → IsAbove copy number x → (log : LogSlot) → is_open (disk copy x) (gate_of copy log) ≡ true → (log_at copy.dir_blocks (disk copy x) (gate_of copy log)).commit < number
+  pub is_above : (number : ℕ) → IsAbove copy number x → (log : LogSlot) → is_open (copy_disk_bytes copy x) (gate_of copy log) ≡ true → (log_at copy.dir_blocks (copy_disk_bytes copy x) (gate_of copy log)).commit < number
   is_above number above log opened =
       let lower = above log (sym (gate_listed log) ∙ opened) in
       subst (λ (n : ℕ). n < number) (sym (number_listed log)) lower

@@ -2,11 +2,11 @@
 use Rattle.std.proofs.Common.{◌≡◌, ◌⊎◌, inl, ⊎_elim, ℕ, ◌+◌, ◌*◌, ◌%◌, ◌<◌, ◌≤◌, true, sym, subst, Option, arith}
 use Rattle.std.specs.Prelude.{IsSome, unwrap_or, List, length}
 use Rattle.bay.specs.State.{BayState, KeepsAttached, size_of}
-use Rattle.gate_slot.specs.Slot.{IsUsable}
+use Rattle.gate_slot.specs.Slot.{IsUsablePlace}
 use Rattle.asm_base.specs.declared.block.Block.{Block}
 use Rattle.asm_formats.specs.Bytes.{block_size}
 use Rattle.asm_formats.specs.Regions.{region_end}
-use Rattle.asm_formats.specs.Logs.{head_of, is_log_head}
+use Rattle.asm_formats.specs.Logs.{head_of_log, is_log_head}
 use Rattle.asm_formats.proofs.LogReading.{log_head_len}
 use Rattle.change_directory.specs.declared.copy.DirCopy.{DirCopy}
 use Rattle.change_directory.specs.declared.copy.LogSlot.{LogSlot}
@@ -25,7 +25,7 @@ short_sector sector is = ⊎_elim (λ (e : sector ≡ 512). omega arith) (λ (e 
 pub some_sector : (sector : ℕ) → (sector ≡ 512) ⊎ (sector ≡ 4096) → 0 < sector
 some_sector sector is = ⊎_elim (λ (e : sector ≡ 512). omega arith) (λ (e : sector ≡ 4096). omega arith) is
 
-pub usable_log : {state : BayState} {copy : DirCopy} (log : LogSlot) (blocks : ℕ) → IsCopy state copy → blocks ≤ 65 → IsUsable state copy.slot (log_place copy log blocks)
+pub usable_log : {state : BayState} {copy : DirCopy} (log : LogSlot) (blocks : ℕ) → IsCopy state copy → blocks ≤ 65 → IsUsablePlace state copy.slot (log_place copy log blocks)
 usable_log {state} {copy} log blocks is few =
     let short : copy.sector ≤ 4096 = short_sector copy.sector is.sector_size in
     let region : (14 + 2 * copy.dir_blocks) * 4096 ≤ size_of state copy.slot = is.inside in
@@ -55,5 +55,5 @@ still_copy {old} {new} {copy} is keeps = record {
 }
 
 -- a log has at most 64 pages
-pub few_pages : (d number : ℕ) (pages : List (ℕ × Block)) → is_log_head d (head_of (log_of number pages)) ≡ true → length pages ≤ 64
-few_pages d number pages ok = omega (arith, log_head_len d (head_of (log_of number pages)) ok, pages_are_counted number pages)
+pub few_pages : (d number : ℕ) (pages : List (ℕ × Block)) → is_log_head d (head_of_log (log_of number pages)) ≡ true → length pages ≤ 64
+few_pages d number pages ok = omega (arith, log_head_len d (head_of_log (log_of number pages)) ok, pages_are_counted number pages)

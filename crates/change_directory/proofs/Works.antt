@@ -5,30 +5,30 @@ use Rattle.bay.specs.Image.{Image, Same, ChangesOnly, Range, Puts}
 use Rattle.bay.specs.State.{BayState, IsSound, IsSlot, KeepsAttached}
 use Rattle.bay.specs.Counts.{Rose}
 use Rattle.bay.specs.Moments.{Runs, Ends, Holds, Durable, Joins}
-use Rattle.bay.specs.Calls.{Cost, Calls, Call, Done, Held, Settles, both_costs, cost}
+use Rattle.bay.specs.Calls.{Cost, Calls, Call, ChangesEachImage, Held, Settles, both_costs, cost}
 use Rattle.bay.proofs.Calls.{attached-trans, both_done, stops, synced}
 use Rattle.bay.proofs.Images.{same-refl, same-trans, changes-same, changes-trans}
 use Rattle.bay.proofs.OneCall.{Follows, call_of_parts, cheaper, joined, no_call, of_parts, on_region, wider}
-use Rattle.change_directory.specs.Works.{Reads, DoneSynced, WentHeld}
+use Rattle.change_directory.specs.Works.{OnlyReads, DoneSynced, WentHeld}
 use Rattle.change_directory.proofs.Runs.{goes_on_told, done_told}
 
 -- ---- reads
 
 module _ {slot : ℕ} where
   -- a read of the bay
-  pub one_read : {a b : BayState} → KeepsAttached a b → b.calls ≤ a.calls + 1 → b.written slot ≡ a.written slot → Runs (IsSlot slot) Same a b → Reads slot 1 a b
+  pub one_read : {a b : BayState} → KeepsAttached a b → b.calls ≤ a.calls + 1 → b.written slot ≡ a.written slot → Runs (IsSlot slot) Same a b → OnlyReads slot 1 a b
   one_read attached calls written runs = record { calls = of_parts 1 0 attached calls (omega (arith, written)) runs; written = written }
 
   -- none yet
-  pub no_reads : {a : BayState} → Reads slot 0 a a
+  pub no_reads : {a : BayState} → OnlyReads slot 0 a a
   no_reads = record { calls = no_call same-refl; written = refl }
 
   -- reads, and others behind them
-  pub reads_on : {m n : ℕ} {a b c : BayState} → Reads slot m a b → Reads slot n b c → Reads slot (m + n) a c
+  pub reads_on : {m n : ℕ} {a b c : BayState} → OnlyReads slot m a b → OnlyReads slot n b c → OnlyReads slot (m + n) a c
   reads_on one two = record { calls = joined same-trans one.calls (stops one.calls.runs) two.calls; written = two.written ∙ one.written }
 
   -- so many at most
-  pub reads_fit : {m n : ℕ} {a b : BayState} → m ≤ n → Reads slot m a b → Reads slot n a b
+  pub reads_fit : {m n : ℕ} {a b : BayState} → m ≤ n → OnlyReads slot m a b → OnlyReads slot n a b
   reads_fit fits reads = record { calls = cheaper (record { calls = fits; bytes = λ s. omega arith }) reads.calls; written = reads.written }
 
 -- an answer that is no error
@@ -48,9 +48,9 @@ joined_told {slots} {done} {step} {whole} {first} {second} {a} {b} {c} sound cal
 
 -- with their answer
 pub then_told : {E : Type 0} {result : Result (Unit {0}) E} {slot : ℕ} {read step done whole whole_done : Image → Image → Type 0} {first second : Cost} {a b c : BayState} → IsSound b
-    → Calls (IsSlot slot) whole first a b → Ends read a b → Call result slot step (Done done) second b c
+    → Calls (IsSlot slot) whole first a b → Ends read a b → Call result slot step (ChangesEachImage done) second b c
     → ((held : Image) → b.holds ≡ Some held → Joins read step whole) → ((held : Image) → b.holds ≡ Some held → Joins read done whole_done)
-    → Call result slot whole (Done whole_done) (both_costs first second) a c
+    → Call result slot whole (ChangesEachImage whole_done) (both_costs first second) a c
 then_told {result = Ok v} sound calls ends call goes gives = record { calls = joined_told sound calls ends call.calls goes; done = done_told sound ends call.done gives; cause = tt }
 then_told {result = Err e} {slot = slot} sound calls ends call goes gives = record {
   calls = joined_told sound calls ends call.calls goes;

@@ -66,14 +66,14 @@ abbrev pub MayLoseContent : DirCopy → Image → Image → Type 0
 MayLoseContent copy old new = (content_in copy new ≡ content_in copy old) ⊎ (content_in copy new ≡ None)
 
 -- the copy's blocks lie inside the image, its open log slots decode, and their checkpoint is done
-pub record IsWhole (copy : DirCopy) (x : Image) : Type 0 where
+pub record IsWholeCopy (copy : DirCopy) (x : Image) : Type 0 where
   pub sized : region_end copy.dir_blocks * block_size ≤ x.size copy.slot
   pub home : IsAtHome copy x
   pub decodes : DecodesIn copy x
 
 -- the content of a whole copy stays, or is gone
 abbrev pub Loses : DirCopy → Image → Image → Type 0
-Loses copy old new = IsWhole copy old → MayLoseContent copy old new
+Loses copy old new = IsWholeCopy copy old → MayLoseContent copy old new
 
 -- a step of the closing of both log slots, by which the content of a whole copy stays or is gone
 pub record ShutsSafely (copy : DirCopy) (old new : Image) : Type 0 where

@@ -10,7 +10,7 @@ use Rattle.change_directory.specs.declared.copy.DirCopy.{DirCopy}
 use Rattle.change_directory.specs.declared.copy.LogSlot.{LogSlot}
 use Rattle.change_directory.specs.Places.{HomeOf}
 use Rattle.change_directory.specs.Logs.{is_open_at}
-use Rattle.change_directory.specs.Changes.{disk, content_in}
+use Rattle.change_directory.specs.Changes.{copy_disk_bytes, content_in}
 
 -- the bytes of these pages at home
 abbrev pub HomesOf : DirCopy → List (ℕ × Block) → ℕ → ℕ → Type 0
@@ -29,7 +29,7 @@ pub record HasHomed (copy : DirCopy) (pages : List (ℕ × Block)) (old new : Im
 abbrev pub AreDue : DirCopy → List (ℕ × Block) → Image → Type 0
 AreDue copy pages image =
     ((log : LogSlot) → is_open_at copy log image ≡ false)
-    ⊎ ((p : ℕ × Block) → IsAmong pages p → image_in (open_logs copy.dir_blocks (disk copy image)) p.0 ≡ Some p.1.bytes)
+    ⊎ ((p : ℕ × Block) → IsAmong pages p → image_in (open_logs copy.dir_blocks (copy_disk_bytes copy image)) p.0 ≡ Some p.1.bytes)
 
 -- the content stays
 abbrev pub KeepsContent : DirCopy → Image → Image → Type 0

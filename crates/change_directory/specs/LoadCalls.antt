@@ -16,14 +16,14 @@ use Rattle.change_directory.specs.declared.open_log.OpenLog.{OpenLog}
 use Rattle.change_directory.specs.declared.open_log.OpenLogs.{OpenLogs}
 use Rattle.bay.specs.Told.{Told}
 use Rattle.change_directory.specs.Loads.{OpenSlot, damaged_block}
-use Rattle.change_directory.specs.Slots.{ArePages, AreTaken, AreUpTo, GoesUpTo, IsLogRead, IsRestRead, IsSoundRead, all_slots, damaged_page, homes_in, images_in}
-use Rattle.change_directory.specs.Works.{Reads}
+use Rattle.change_directory.specs.Slots.{ArePages, AreTaken, AreUpTo, GoesUpTo, IsLogRead, IsRestRead, IsSoundRead, all_slots, damaged_page, home_blocks, images_in}
+use Rattle.change_directory.specs.Works.{OnlyReads}
 
 -- Reads of a load with their answer. `refuses` is what a refusal says.
 pub record LoadCall {T : Type 0} (result : Result T LoadFault) (slot : ℕ)
     (does : T → BayState → BayState → Type 0) (refuses : LoadFault → BayState → BayState → Type 0)
     (most : ℕ) (old new : BayState) : Type 0 where
-  pub reads : Reads slot most old new
+  pub reads : OnlyReads slot most old new
   -- at Ok they tell this
   pub done : IfOk result (λ value. does value old new)
   -- no block is damaged, or the one that is named
@@ -67,18 +67,18 @@ pub record Piece : Type 0 where
   pub count : ℕ
 
 -- the blocks of a piece at home
-abbrev pub homes_of : Piece → Image → List Bytes
-homes_of piece = homes_in piece.copy piece.first piece.count
+abbrev pub piece_home_blocks : Piece → Image → List Bytes
+piece_home_blocks piece = home_blocks piece.copy piece.first piece.count
 
 -- the pages of a piece were taken up
 pub record TakesPiece (piece : Piece) (before after : Pages) (old new : BayState) : Type 0 where
-  pub taken : Told old new (λ image. AreTaken piece.slots piece.first (homes_of piece image) before after)
+  pub taken : Told old new (λ image. AreTaken piece.slots piece.first (piece_home_blocks piece image) before after)
   -- the numbers go on ascending, where the images are pages
   pub up_to : GoesUpTo piece.slots piece.first (piece.first + piece.count) before after
 
 -- the first of its blocks that must be a page and isn't
 abbrev pub IsPieceDamage : Piece → ℕ → Image → Type 0
-IsPieceDamage piece block image = damaged_page piece.slots piece.first (homes_of piece image) ≡ Some block
+IsPieceDamage piece block image = damaged_page piece.slots piece.first (piece_home_blocks piece image) ≡ Some block
 
 -- the pages of a copy were read
 pub record PagesAreRead (copy : DirCopy) (logs : OpenLogs) (pages : Pages)
@@ -88,5 +88,5 @@ pub record PagesAreRead (copy : DirCopy) (logs : OpenLogs) (pages : Pages)
   pub up_to : AreUpTo (all_slots logs) copy.dir_blocks pages
 
 -- so many pages from one on
-abbrev pub piece_of : DirCopy → OpenLogs → ℕ → ℕ → Piece
-piece_of copy logs first count = record { copy = copy; slots = all_slots logs; first = first; count = count }
+abbrev pub piece_of_pages : DirCopy → OpenLogs → ℕ → ℕ → Piece
+piece_of_pages copy logs first count = record { copy = copy; slots = all_slots logs; first = first; count = count }

@@ -16,7 +16,7 @@ use Rattle.change_directory.specs.declared.loading.LoadFault.{LoadFault}
 use Rattle.change_directory.specs.declared.loading.LoadFault.TheVariants.{Fault, Damaged, NoMemory}
 use Rattle.change_directory.specs.Logs.{are_pages, bytes_of_page}
 use Rattle.asm_base.specs.Blocks.{image_of_page}
-use Rattle.change_directory.specs.Changes.{disk}
+use Rattle.change_directory.specs.Changes.{copy_disk_bytes}
 
 -- ---- the open log slots, with the blocks where they stand
 
@@ -54,9 +54,9 @@ commit_of [] = 0
 commit_of (slot ∷ older) = slot.log.commit
 
 -- the same, where there is one
-abbrev pub number_of : List OpenSlot → Option ℕ
-number_of [] = None
-number_of (slot ∷ older) = Some slot.log.commit
+abbrev pub commit_if_any : List OpenSlot → Option ℕ
+commit_if_any [] = None
+commit_if_any (slot ∷ older) = Some slot.log.commit
 
 -- a page that counts and isn't zeros
 abbrev pub filled_page : ℕ → Bytes → ℕ → List PageImage
@@ -73,10 +73,10 @@ due_page slots page = option_to_list (option_map (λ b. (page, b)) (counted_bloc
 
 -- what was loaded of a copy
 pub record IsLoaded (copy : DirCopy) (pages : Pages) (image : Image) : Type 0 where
-  pub number : pages.number ≡ number_of (open_slots copy.dir_blocks (disk copy image))
-  pub blocks : map image_of_page pages.blocks.items ≡ filled_pages copy.dir_blocks (disk copy image) (open_slots copy.dir_blocks (disk copy image))
+  pub number : pages.number ≡ commit_if_any (open_slots copy.dir_blocks (copy_disk_bytes copy image))
+  pub blocks : map image_of_page pages.blocks.items ≡ filled_pages copy.dir_blocks (copy_disk_bytes copy image) (open_slots copy.dir_blocks (copy_disk_bytes copy image))
   -- ascending
-  pub due : pages.due.items ≡ flat_map (due_page (open_slots copy.dir_blocks (disk copy image))) (range_with_len 0 copy.dir_blocks)
+  pub due : pages.due.items ≡ flat_map (due_page (open_slots copy.dir_blocks (copy_disk_bytes copy image))) (range_with_len 0 copy.dir_blocks)
 
 -- numbers of pages, ascending
 abbrev pub are_numbers : ℕ → List ℕ → Bool

@@ -18,7 +18,7 @@ use Rattle.change_directory.specs.declared.open_log.OpenLogs.{OpenLogs}
 use Rattle.change_directory.specs.Places.{gate_of}
 use Rattle.change_directory.specs.Logs.{log_of, is_open_at}
 use Rattle.asm_base.specs.Blocks.{image_of_page}
-use Rattle.change_directory.specs.Changes.{disk}
+use Rattle.change_directory.specs.Changes.{copy_disk_bytes}
 use Rattle.change_directory.specs.Loads.{OpenSlot, slot_in, due_page, are_numbers}
 
 -- ---- heads
@@ -59,9 +59,9 @@ place_in at (image ∷ images) page = if image.0 == page then Some at else place
 abbrev pub slot_of : OpenLog → OpenSlot
 slot_of log = record { gate = log.gate; log = log_of log.number log.images.items }
 
-abbrev pub slots_of : Option OpenLog → List OpenSlot
-slots_of None = []
-slots_of (Some log) = slot_of log ∷ []
+abbrev pub slots_of_log : Option OpenLog → List OpenSlot
+slots_of_log None = []
+slots_of_log (Some log) = slot_of log ∷ []
 
 abbrev pub damage_of : Option OpenLog → Option ℕ
 damage_of None = None
@@ -79,13 +79,13 @@ images_in copy log pages image = zip pages (blocks_at (image.byte copy.slot) (ga
 pub record IsRestRead (copy : DirCopy) (log : LogSlot) (head : Bytes) (read : OpenLog) (image : Image) : Type 0 where
   pub gate : read.gate ≡ gate_of copy log
   pub number : read.number ≡ (log_head_at head).commit
-  pub images : map image_of_page read.images.items ≡ images_at (disk copy image) (gate_of copy log + 2) (decoded_log_head copy.dir_blocks head)
-  pub damage : read.damage ≡ head_damage (disk copy image) (gate_of copy log) (decoded_log_head copy.dir_blocks head)
+  pub images : map image_of_page read.images.items ≡ images_at (copy_disk_bytes copy image) (gate_of copy log + 2) (decoded_log_head copy.dir_blocks head)
+  pub damage : read.damage ≡ head_damage (copy_disk_bytes copy image) (gate_of copy log) (decoded_log_head copy.dir_blocks head)
 
 -- the log slot was read, and its first damaged block
 pub record IsLogRead (copy : DirCopy) (log : LogSlot) (read : Option OpenLog) (image : Image) : Type 0 where
-  pub slots : slots_of read ≡ slot_in copy.dir_blocks (disk copy image) (gate_of copy log)
-  pub damage : damage_of read ≡ log_damage copy.dir_blocks (disk copy image) (gate_of copy log)
+  pub slots : slots_of_log read ≡ slot_in copy.dir_blocks (copy_disk_bytes copy image) (gate_of copy log)
+  pub damage : damage_of read ≡ log_damage copy.dir_blocks (copy_disk_bytes copy image) (gate_of copy log)
 
 -- each image of these slots is a page
 abbrev pub are_sound : List OpenSlot → Bool
@@ -93,11 +93,11 @@ are_sound slots = list_all (λ (s : OpenSlot). list_all (λ (i : PageImage). is_
 
 -- a slot without a damaged block has only such images
 abbrev pub IsSoundRead : Option OpenLog → Type 0
-IsSoundRead read = damage_of read ≡ None → IsTrue (are_sound (slots_of read))
+IsSoundRead read = damage_of read ≡ None → IsTrue (are_sound (slots_of_log read))
 
 -- both log slots
 abbrev pub all_slots : OpenLogs → List OpenSlot
-all_slots logs = slots_of logs.newest ++ slots_of logs.older
+all_slots logs = slots_of_log logs.newest ++ slots_of_log logs.older
 
 -- there is one
 abbrev pub has_slots : List OpenSlot → Bool
@@ -139,20 +139,20 @@ abbrev pub damaged_page : List OpenSlot → ℕ → List Bytes → Option ℕ
 damaged_page slots page homes = option_map page_home (first_bad slots page homes)
 
 -- the homes of pages
-abbrev pub homes_in : DirCopy → ℕ → ℕ → Image → List Bytes
-homes_in copy page n image = blocks_at (image.byte copy.slot) (region_start + page) n
+abbrev pub home_blocks : DirCopy → ℕ → ℕ → Image → List Bytes
+home_blocks copy page n image = blocks_at (image.byte copy.slot) (region_start + page) n
 
 -- ---- what was taken up
 
 -- these pages and these blocks were taken up behind the others
-pub record Takes (blocks : List PageImage) (due : List (ℕ × ℕ)) (old new : Pages) : Type 0 where
+pub record TakesUpPages (blocks : List PageImage) (due : List (ℕ × ℕ)) (old new : Pages) : Type 0 where
   pub number : new.number ≡ old.number
   pub blocks_are : map image_of_page new.blocks.items ≡ map image_of_page old.blocks.items ++ blocks
   pub due_are : new.due.items ≡ old.due.items ++ due
 
 -- pages were taken up by these homes, and each that counts is a page
 pub record AreTaken (slots : List OpenSlot) (page : ℕ) (homes : List Bytes) (old new : Pages) : Type 0 where
-  pub takes : Takes (all_filled slots page homes) (all_due slots page homes) old new
+  pub takes : TakesUpPages (all_filled slots page homes) (all_due slots page homes) old new
   pub sound : first_bad slots page homes ≡ None
 
 -- The pages below a number stand in order: their numbers ascend, none is zeros, each is a page where the slots' images are, and so ascend the due pages' numbers.
@@ -166,16 +166,16 @@ pub record AreUpTo (slots : List OpenSlot) (n : ℕ) (pages : Pages) : Type 0 wh
 abbrev pub GoesUpTo : List OpenSlot → ℕ → ℕ → Pages → Pages → Type 0
 GoesUpTo slots m n old new = AreUpTo slots m old → AreUpTo slots n new
 
-abbrev pub number_in : Option OpenLog → Option ℕ
-number_in None = None
-number_in (Some log) = Some log.number
+abbrev pub open_log_number : Option OpenLog → Option ℕ
+open_log_number None = None
+open_log_number (Some log) = Some log.number
 
 -- all pages, where a log slot is open
 abbrev pub open_homes : DirCopy → OpenLogs → Image → List Bytes
-open_homes copy logs image = if is_some logs.newest then homes_in copy 0 copy.dir_blocks image else []
+open_homes copy logs image = if is_some logs.newest then home_blocks copy 0 copy.dir_blocks image else []
 
 pub record ArePages (copy : DirCopy) (logs : OpenLogs) (pages : Pages) (image : Image) : Type 0 where
-  pub number : pages.number ≡ number_in logs.newest
+  pub number : pages.number ≡ open_log_number logs.newest
   pub blocks : map image_of_page pages.blocks.items ≡ all_filled (all_slots logs) 0 (open_homes copy logs image)
   pub due : pages.due.items ≡ all_due (all_slots logs) 0 (open_homes copy logs image)
   pub sound : first_bad (all_slots logs) 0 (open_homes copy logs image) ≡ None

@@ -8,15 +8,15 @@ use Rattle.asm_formats.specs.Among.{IsAmong}
 use Rattle.asm_formats.specs.Bytes.{block_size, block}
 use Rattle.asm_formats.specs.Regions.{region_start, region_end}
 use Rattle.asm_formats.specs.Content.{Content, records_in, is_page, is_empty_page}
-use Rattle.asm_formats.specs.Logs.{PageImage, open_logs, image_of, image_in}
+use Rattle.asm_formats.specs.Logs.{PageImage, open_logs, logged_image, image_in}
 use Rattle.asm_formats.specs.Pages.{home_page, page_at, with_images}
 use Rattle.asm_formats.specs.Damage.{directory_damage}
 use Rattle.change_directory.specs.declared.copy.DirCopy.{DirCopy}
 use Rattle.change_directory.specs.declared.copy.LogSlot.{LogSlot}
 use Rattle.change_directory.specs.declared.loading.Pages.{Pages}
-use Rattle.change_directory.specs.Logs.{is_open_at, number_at, bytes_of_page, are_pages}
+use Rattle.change_directory.specs.Logs.{is_open_at, commit_number_at, bytes_of_page, are_pages}
 use Rattle.asm_base.specs.Blocks.{image_of_page}
-use Rattle.change_directory.specs.Changes.{disk, content_in, IsAtHome, DecodesIn, IsAbove, MayLog, HasLogged}
+use Rattle.change_directory.specs.Changes.{copy_disk_bytes, content_in, IsAtHome, DecodesIn, IsAbove, MayLog, HasLogged}
 use Rattle.change_directory.specs.Homes.{HomesOf, HasHomed, AreDue}
 use Rattle.change_directory.specs.Formatting.{AreShut, MayFormat, HasFormatted, MayLoseContent}
 use Rattle.change_directory.specs.Laws.{ArePut}
@@ -43,8 +43,8 @@ abbrev pub HasOpen : DirCopy → Image → Type 0
 HasOpen copy x = (log : LogSlot) × (is_open_at copy log x ≡ true)
 
 -- the page that counts
-abbrev pub counted : DirCopy → Image → ℕ → Bytes
-counted copy x page = page_at copy.dir_blocks (disk copy x) page
+abbrev pub counting_page : DirCopy → Image → ℕ → Bytes
+counting_page copy x page = page_at copy.dir_blocks (copy_disk_bytes copy x) page
 
 -- a page without a record
 abbrev pub zero_page : ℕ → Bytes
@@ -62,7 +62,7 @@ content_with copy number page = Some (record { commit = number; items = records_
 pub record HasPages (copy : DirCopy) (number : ℕ) (page : ℕ → Bytes) (x : Image) : Type 0 where
   pub sized : HasRegion copy x
   pub decodes : DecodesIn copy x
-  pub pages : (p : ℕ) → p < copy.dir_blocks → counted copy x p ≡ page p
+  pub pages : (p : ℕ) → p < copy.dir_blocks → counting_page copy x p ≡ page p
   pub above : (n : ℕ) → number < n → IsAbove copy n x
 
 -- the same, and they are the content under this number
@@ -74,7 +74,7 @@ pub record HasContent (copy : DirCopy) (number : ℕ) (page : ℕ → Bytes) (x 
 pub record HasDue (copy : DirCopy) (pages : List (ℕ × Block)) (x : Image) : Type 0 where
   pub ascend : IsTrue (are_pages copy.dir_blocks pages)
   pub due : AreDue copy pages x
-  pub others : (p : ℕ) → p < copy.dir_blocks → image_of (map image_of_page pages) p ≡ None → counted copy x p ≡ home_page (disk copy x) p
+  pub others : (p : ℕ) → p < copy.dir_blocks → logged_image (map image_of_page pages) p ≡ None → counting_page copy x p ≡ home_page (copy_disk_bytes copy x) p
 
 -- ---- a load
 
@@ -92,8 +92,8 @@ pub record IsReadAs (copy : DirCopy) (pages : Pages) (x : Image) : Type 0 where
 -- of each due page the block where it counts
 pub record StandAt (copy : DirCopy) (pages : Pages) (x : Image) : Type 0 where
   pub each : (p b : ℕ) → IsAmong pages.due.items (p, b)
-      → (p < copy.dir_blocks) × (image_in (open_logs copy.dir_blocks (disk copy x)) p ≡ Some (counted copy x p)) × (block (disk copy x) b ≡ counted copy x p)
-  pub all : (p : ℕ) (image : Bytes) → p < copy.dir_blocks → image_in (open_logs copy.dir_blocks (disk copy x)) p ≡ Some image → (b : ℕ) × IsAmong pages.due.items (p, b)
+      → (p < copy.dir_blocks) × (image_in (open_logs copy.dir_blocks (copy_disk_bytes copy x)) p ≡ Some (counting_page copy x p)) × (block (copy_disk_bytes copy x) b ≡ counting_page copy x p)
+  pub all : (p : ℕ) (image : Bytes) → p < copy.dir_blocks → image_in (open_logs copy.dir_blocks (copy_disk_bytes copy x)) p ≡ Some image → (b : ℕ) × IsAmong pages.due.items (p, b)
 
 -- the due pages as they were loaded
 abbrev pub due_images : Pages → List PageImage
@@ -102,20 +102,20 @@ due_images pages = map (λ (d : ℕ × ℕ). (d.0, shown_by pages.blocks.items d
 -- What is loaded of a copy without damage is its content.
 abbrev pub LoadedIsContent : Type 0
 LoadedIsContent =
-    (copy : DirCopy) (pages : Pages) (x : Image) → IsShaped copy → HasRegion copy x → IsLoaded copy pages x → directory_damage copy.dir_blocks (disk copy x) ≡ None
+    (copy : DirCopy) (pages : Pages) (x : Image) → IsShaped copy → HasRegion copy x → IsLoaded copy pages x → directory_damage copy.dir_blocks (copy_disk_bytes copy x) ≡ None
     → IsReadAs copy pages x
 
 -- The due pages stand in the blocks that were loaded with them, and are all.
 abbrev pub DuesStand : Type 0
 DuesStand =
-    (copy : DirCopy) (pages : Pages) (x : Image) → IsShaped copy → HasRegion copy x → IsLoaded copy pages x → directory_damage copy.dir_blocks (disk copy x) ≡ None
+    (copy : DirCopy) (pages : Pages) (x : Image) → IsShaped copy → HasRegion copy x → IsLoaded copy pages x → directory_damage copy.dir_blocks (copy_disk_bytes copy x) ≡ None
     → StandAt copy pages x
 
 -- They are what a checkpoint is asked for.
 abbrev pub LoadedIsDue : Type 0
 LoadedIsDue =
     (copy : DirCopy) (pages : Pages) (dues : List (ℕ × Block)) (x : Image) → IsShaped copy → HasRegion copy x → IsLoaded copy pages x
-    → directory_damage copy.dir_blocks (disk copy x) ≡ None → map image_of_page dues ≡ due_images pages → HasDue copy dues x
+    → directory_damage copy.dir_blocks (copy_disk_bytes copy x) ≡ None → map image_of_page dues ≡ due_images pages → HasDue copy dues x
 
 -- ---- a checkpoint
 
@@ -194,11 +194,11 @@ OpeningHasNoneOrAll =
 -- the copy says the same
 pub record SameCopy (copy : DirCopy) (x y : Image) : Type 0 where
   pub content : content_in copy y ≡ content_in copy x
-  pub damage : directory_damage copy.dir_blocks (disk copy y) ≡ directory_damage copy.dir_blocks (disk copy x)
-  pub pages : (p : ℕ) → p < copy.dir_blocks → counted copy y p ≡ counted copy x p
-  pub homes : (p : ℕ) → p < copy.dir_blocks → home_page (disk copy y) p ≡ home_page (disk copy x) p
+  pub damage : directory_damage copy.dir_blocks (copy_disk_bytes copy y) ≡ directory_damage copy.dir_blocks (copy_disk_bytes copy x)
+  pub pages : (p : ℕ) → p < copy.dir_blocks → counting_page copy y p ≡ counting_page copy x p
+  pub homes : (p : ℕ) → p < copy.dir_blocks → home_page (copy_disk_bytes copy y) p ≡ home_page (copy_disk_bytes copy x) p
   pub gates : (log : LogSlot) → is_open_at copy log y ≡ is_open_at copy log x
-  pub numbers : (log : LogSlot) → number_at copy log y ≡ number_at copy log x
+  pub numbers : (log : LogSlot) → commit_number_at copy log y ≡ commit_number_at copy log x
   pub decodes : DecodesIn copy x → DecodesIn copy y
   pub at_home : IsAtHome copy x → IsAtHome copy y
   pub has_pages : (number : ℕ) (page : ℕ → Bytes) → HasPages copy number page x → HasPages copy number page y

@@ -9,7 +9,7 @@ use Rattle.bay.specs.Calls.{Cost, cost, Calls, Call, Held}
 use Rattle.bay.specs.Told.{Told}
 
 -- Calls on one slot that only read, so many at most.
-pub record Reads (slot most : ℕ) (old new : BayState) : Type 0 where
+pub record OnlyReads (slot most : ℕ) (old new : BayState) : Type 0 where
   -- the same disks stay attached, and hold what they held
   pub calls : Calls (IsSlot slot) Same (cost most 0) old new
   -- no byte is handed to `write`
@@ -18,7 +18,7 @@ pub record Reads (slot most : ℕ) (old new : BayState) : Type 0 where
 -- Reads with their answer.
 pub record ReadCall {T E : Type 0} (result : Result T E) (slot : ℕ)
     (does : T → BayState → BayState → Type 0) (most : ℕ) (old new : BayState) : Type 0 where
-  pub reads : Reads slot most old new
+  pub reads : OnlyReads slot most old new
   -- at Ok they tell this
   pub done : IfOk result (λ value. does value old new)
   -- they fail only where the slot failed

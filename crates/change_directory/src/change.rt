@@ -4,9 +4,9 @@ ghost use Rattle.std.specs.List.{list_all};
 ghost use Rattle.bay.specs.State.{KeepsAttached, IsSlot};
 ghost use Rattle.bay.specs.Counts.{Rose};
 ghost use Rattle.bay.specs.Moments.{Runs, Ends, NowOnly};
-ghost use Rattle.bay.specs.Calls.{Call, Done, cost};
+ghost use Rattle.bay.specs.Calls.{Call, ChangesEachImage, cost};
 ghost use Rattle.asm_formats.specs.Content.{is_page};
-ghost use Rattle.asm_formats.specs.Logs.{head_of, is_log_head};
+ghost use Rattle.asm_formats.specs.Logs.{head_of_log, is_log_head};
 ghost use Rattle.change_directory.specs.Places.{IsCopy};
 ghost use Rattle.change_directory.specs.Logs.{AreLogsSettled, log_of, bytes_of_page};
 ghost use Rattle.change_directory.specs.Changes.{IsAtHome, DecodesIn, IsAbove, MayLog, HasLogged, MayCommit, HasCommitted};
@@ -28,7 +28,7 @@ pub fn commit<B: Bay>(
 ) -> Result<(), Fault>
     requires copy { IsCopy (B.state bay.old) copy }
     // At most 64 pages, ascending and below the copy's number of them.
-    requires pages { IsTrue (is_log_head copy.dir_blocks (head_of (log_of number pages.now))) }
+    requires pages { IsTrue (is_log_head copy.dir_blocks (head_of_log (log_of number pages.now))) }
     requires above { number < 2 ^ 64 - 1 → NowOnly (B.state bay.old) (IsAbove copy number) }
     // The checkpoint of the open log slots is done, and synced.
     requires home { NowOnly (B.state bay.old) (IsAtHome copy) }
@@ -59,7 +59,7 @@ fn put_log<B: Bay>(
     requires pages { length pages.now ≤ 64 }
     requires logs { AreLogsSettled copy (B.state bay.old) }
     ensures { Call result copy.slot (MayLog copy number pages.now)
-        (Done (HasLogged copy number pages.now))
+        (ChangesEachImage (HasLogged copy number pages.now))
         (cost 11 (2 * copy.sector + (length pages.now + 1) * 4096))
         (B.state bay.old) (B.state bay.new) }
 {

@@ -4,7 +4,7 @@ ghost use Rattle.bay.specs.Image.{ChangesOnly};
 ghost use Rattle.bay.specs.State.{KeepsAttached, IsSlot};
 ghost use Rattle.bay.specs.Counts.{Rose};
 ghost use Rattle.bay.specs.Moments.{Runs, Ends, Durable, NowOnly};
-ghost use Rattle.bay.specs.Calls.{Call, Done, Held, cost};
+ghost use Rattle.bay.specs.Calls.{Call, ChangesEachImage, Held, cost};
 ghost use Rattle.change_directory.specs.Places.{IsCopy, HomesAt};
 ghost use Rattle.change_directory.specs.Changes.{IsAtHome, DecodesIn};
 ghost use Rattle.change_directory.specs.Formatting.{HasShutSpare, HasShut, MayFormat, HasFormatted, Zeroes, MayLoseContent, ShutsSafely, FormatsSafely};
@@ -57,7 +57,7 @@ fn erase<B: Bay>(bay: &mut B, copy: DirCopy) -> Result<(), Fault>
 /// Closes the log slot that doesn't hold the content, and then the other one.
 fn close_logs<B: Bay>(bay: &mut B, copy: DirCopy) -> Result<(), Fault>
     requires { IsCopy (B.state bay.old) copy }
-    ensures { Call result copy.slot (ShutsSafely copy) (Done (HasShut copy))
+    ensures { Call result copy.slot (ShutsSafely copy) (ChangesEachImage (HasShut copy))
         (cost 12 (2 * copy.sector)) (B.state bay.old) (B.state bay.new) }
 {
     let spare = close_spare(bay, copy)?;

@@ -1,9 +1,9 @@
 // The body of a log slot: its head and its images, one behind the other.
 ghost use Rattle.std.specs.Prelude.{◌≡◌, ◌≤◌, ◌+◌, ◌*◌, ◌++◌, length, take, flat_map};
 ghost use Rattle.std.specs.Int.{w32};
-ghost use Rattle.asm_formats.specs.Bytes.{number};
-ghost use Rattle.asm_formats.specs.Logs.{head_of, log_head_spelling};
-ghost use Rattle.asm_base.specs.Cursors.{Puts};
+ghost use Rattle.asm_formats.specs.Bytes.{number_bytes};
+ghost use Rattle.asm_formats.specs.Logs.{head_of_log, log_head_spelling};
+ghost use Rattle.asm_base.specs.Cursors.{PutsField};
 ghost use Rattle.change_directory.specs.Logs.{bytes_of_page, log_of, log_body, number_field};
 
 use crate::pages::gather;
@@ -38,7 +38,7 @@ fn put_body(head: &[u8], pages: &[(u32, Block)], to: &mut [u8])
 #[tactic(auto, using(crate::proofs::Gathering::head_is_fields))]
 fn encode_head(number: u64, pages: &[(u32, Block)], block: &mut Block)
     requires { length pages.now ≤ 64 }
-    ensures { block.new.bytes ≡ log_head_spelling (head_of (log_of number pages.now)) }
+    ensures { block.new.bytes ≡ log_head_spelling (head_of_log (log_of number pages.now)) }
 {
     let mut to = Writer { block, at: 0 };
     put_bytes(&mut to, b"ASML");
@@ -51,7 +51,7 @@ fn encode_head(number: u64, pages: &[(u32, Block)], block: &mut Block)
 fn put_numbers(to: &mut Writer, pages: &[(u32, Block)])
     requires few { length pages.now ≤ 64 }
     requires room { to.old.at + 4 + 4 * length pages.now ≤ 4096 }
-    ensures puts { Puts to.old to.new (number w32 (length pages.now) ++ flat_map number_field pages.now) }
+    ensures puts { PutsField to.old to.new (number_bytes w32 (length pages.now) ++ flat_map number_field pages.now) }
     ensures at { to.new.at ≡ to.old.at + 4 + 4 * length pages.now }
 {
     put_u32(to, pages.len() as u32);

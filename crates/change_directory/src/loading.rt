@@ -9,11 +9,11 @@ ghost use Rattle.asm_formats.specs.Regions.{page_home};
 ghost use Rattle.asm_formats.specs.Content.{is_empty_page, is_page};
 ghost use Rattle.asm_formats.specs.Damage.{directory_damage};
 ghost use Rattle.change_directory.specs.Places.{IsCopy};
-ghost use Rattle.change_directory.specs.Changes.{disk};
+ghost use Rattle.change_directory.specs.Changes.{copy_disk_bytes};
 ghost use Rattle.bay.specs.Told.{Told};
 ghost use Rattle.change_directory.specs.Loads.{AreInOrder, IsLoaded, damaged_block};
-ghost use Rattle.change_directory.specs.Slots.{AreTaken, GoesUpTo, IsPageDamage, Takes, all_slots, cut, damage_of, damaged_page, filled, number_in};
-ghost use Rattle.change_directory.specs.LoadCalls.{Damages, IsPieceDamage, LoadCall, PagesAreRead, TakesPiece, piece_of};
+ghost use Rattle.change_directory.specs.Slots.{AreTaken, GoesUpTo, IsPageDamage, TakesUpPages, all_slots, cut, damage_of, damaged_page, filled, open_log_number};
+ghost use Rattle.change_directory.specs.LoadCalls.{Damages, IsPieceDamage, LoadCall, PagesAreRead, TakesPiece, piece_of_pages};
 ghost use Rattle.change_directory.specs.declared.loading.LoadFault.TheVariants.{Fault as DiskFault, NoMemory as OutOfMemory};
 
 use crate::copy::{DirCopy, LogSlot};
@@ -73,8 +73,8 @@ pub fn load<B: Bay>(alloc: Global, bay: &mut B, copy: DirCopy) -> Result<Pages, 
     requires { IsCopy (B.state bay.old) copy }
     ensures loaded { IfOk result (λ pages. Told (B.state bay.old) (B.state bay.new) (IsLoaded copy pages)) }
     ensures order { IfOk result (AreInOrder copy.dir_blocks) }
-    ensures whole { OnOk result (Told (B.state bay.old) (B.state bay.new) (λ image. directory_damage copy.dir_blocks (disk copy image) ≡ None)) }
-    ensures damage { IfErr result (λ e. IfSome (damaged_block e) (λ block. Told (B.state bay.old) (B.state bay.new) (λ image. directory_damage copy.dir_blocks (disk copy image) ≡ Some block))) }
+    ensures whole { OnOk result (Told (B.state bay.old) (B.state bay.new) (λ image. directory_damage copy.dir_blocks (copy_disk_bytes copy image) ≡ None)) }
+    ensures damage { IfErr result (λ e. IfSome (damaged_block e) (λ block. Told (B.state bay.old) (B.state bay.new) (λ image. directory_damage copy.dir_blocks (copy_disk_bytes copy image) ≡ Some block))) }
     ensures attached { KeepsAttached (B.state bay.old) (B.state bay.new) }
     ensures calls { (B.state bay.new).calls ≤ (B.state bay.old).calls + copy.dir_blocks / 64 + 7 }
     ensures written { (B.state bay.new).written copy.slot ≡ (B.state bay.old).written copy.slot }
@@ -110,7 +110,7 @@ fn damage_in(log: &Option<OpenLog>) -> Option<u64>
 
 /// The commit number of the content. None where no log slot is open.
 fn number_of(logs: &OpenLogs) -> Option<u64>
-    ensures { result ≡ number_in logs.now.newest }
+    ensures { result ≡ open_log_number logs.now.newest }
 {
     match &logs.newest {
         None => None,
@@ -151,8 +151,8 @@ fn read_pages<B: Bay>(
 ) -> Result<(), LoadFault>
     requires { IsCopy (B.state bay.old) copy }
     ensures { LoadCall result copy.slot
-        (λ done. TakesPiece (piece_of copy logs.now 0 copy.dir_blocks) pages.old pages.new)
-        (Damages (IsPieceDamage (piece_of copy logs.now 0 copy.dir_blocks)))
+        (λ done. TakesPiece (piece_of_pages copy logs.now 0 copy.dir_blocks) pages.old pages.new)
+        (Damages (IsPieceDamage (piece_of_pages copy logs.now 0 copy.dir_blocks)))
         (copy.dir_blocks / 64 + 1) (B.state bay.old) (B.state bay.new) }
 {
     let pieces = copy.dir_blocks.div_ceil(PIECE_PAGES);
@@ -177,8 +177,8 @@ fn read_piece<B: Bay>(
     requires few { count ≤ 64 }
     requires inside { first + count ≤ copy.dir_blocks }
     ensures { LoadCall result copy.slot
-        (λ done. TakesPiece (piece_of copy logs.now first count) pages.old pages.new)
-        (Damages (IsPieceDamage (piece_of copy logs.now first count))) 1
+        (λ done. TakesPiece (piece_of_pages copy logs.now first count) pages.old pages.new)
+        (Damages (IsPieceDamage (piece_of_pages copy logs.now first count))) 1
         (B.state bay.old) (B.state bay.new) }
 {
     let mut all = [0; PIECE];
@@ -200,8 +200,8 @@ fn fill_piece<B: Bay>(
     requires inside { first + count ≤ copy.dir_blocks }
     requires room { length all.old ≡ 262144 }
     ensures { LoadCall result copy.slot
-        (λ done. TakesPiece (piece_of copy logs.now first count) pages.old pages.new)
-        (Damages (IsPieceDamage (piece_of copy logs.now first count))) 1
+        (λ done. TakesPiece (piece_of_pages copy logs.now first count) pages.old pages.new)
+        (Damages (IsPieceDamage (piece_of_pages copy logs.now first count))) 1
         (B.state bay.old) (B.state bay.new) }
 {
     let bytes = &mut all[..count as usize * 4096];
@@ -247,7 +247,7 @@ fn take_page(page: u32, home: Block, logs: &OpenLogs, pages: &mut Pages) -> Resu
 
 /// Takes up a page by its image.
 fn put_image(page: u32, block: u64, image: &Block, pages: &mut Pages) -> Result<(), LoadFault>
-    ensures put { OnOk result (Takes (filled page image.now.bytes) ((page, block) ∷ []) pages.old pages.new) }
+    ensures put { OnOk result (TakesUpPages (filled page image.now.bytes) ((page, block) ∷ []) pages.old pages.new) }
     ensures no_damage { IfErr result (λ e. e ≡ LoadFault.NoMemory) }
 {
     pages.due.push((page, block)).map_err(|_| NoMemory)?;
@@ -258,7 +258,7 @@ fn put_image(page: u32, block: u64, image: &Block, pages: &mut Pages) -> Result<
 /// Takes up a page by its home.
 fn put_home(page: u32, home: Block, pages: &mut Pages) -> Result<(), LoadFault>
     requires { page < 16384 }
-    ensures put { OnOk result (Takes (filled page home.bytes) [] pages.old pages.new) }
+    ensures put { OnOk result (TakesUpPages (filled page home.bytes) [] pages.old pages.new) }
     ensures page { OnOk result (is_page home.bytes ≡ true) }
     ensures damage { IfErr result (λ e. IfSome (damaged_block e) (λ block. (block ≡ page_home page) × (is_page home.bytes ≡ false))) }
     ensures no_fault { IsErrOf result LoadFault.Fault → ⊥ }
@@ -273,7 +273,7 @@ fn put_home(page: u32, home: Block, pages: &mut Pages) -> Result<(), LoadFault>
 
 /// Keeps a page that isn't zeros.
 fn put_filled(page: u32, block: Block, pages: &mut Pages) -> Result<(), LoadFault>
-    ensures put { OnOk result (Takes (filled page block.bytes) [] pages.old pages.new) }
+    ensures put { OnOk result (TakesUpPages (filled page block.bytes) [] pages.old pages.new) }
     ensures no_damage { IfErr result (λ e. e ≡ LoadFault.NoMemory) }
 {
     if is_empty(&block) {

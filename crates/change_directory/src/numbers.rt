@@ -4,10 +4,10 @@ ghost use Rattle.std.specs.Int.{w32};
 ghost use Rattle.std.specs.List.{list_all};
 ghost use Rattle.std.specs.Option.{option_map};
 ghost use Rattle.std.specs.Str.{bytes_eq};
-ghost use Rattle.asm_formats.specs.Bytes.{number, number_at, repeated};
+ghost use Rattle.asm_formats.specs.Bytes.{number_bytes, number_at, values_at};
 ghost use Rattle.asm_formats.specs.Logs.{decoded_log_head, log_head_at, log_head_spelling};
 ghost use Rattle.asm_formats.specs.Status.{ascends_from};
-ghost use Rattle.asm_base.specs.Cursors.{Puts};
+ghost use Rattle.asm_base.specs.Cursors.{PutsField};
 ghost use Rattle.change_directory.specs.Loads.{are_numbers};
 ghost use Rattle.change_directory.specs.Slots.{head_with, is_head_of};
 
@@ -76,7 +76,7 @@ fn head_count(head: &[u8]) -> u32
 #[tactic(auto, using(crate::proofs::HeadLaws::numbers_more, crate::proofs::HeadLaws::numbers_done))]
 fn numbers_at(alloc: Global, count: u32, bytes: &[u8]) -> Result<Vec<u32>, NoMemory>
     requires { 4 * count ≤ length bytes.now }
-    ensures value { IfOk result (λ v. v.items ≡ (repeated (number_at w32) count bytes.now).0) }
+    ensures value { IfOk result (λ v. v.items ≡ (values_at (number_at w32) count bytes.now).0) }
     ensures len { IfOk result (λ v. vec_len v ≡ count) }
 {
     let mut numbers = Vec::new(alloc);
@@ -148,7 +148,7 @@ fn spell_head(number: u64, pages: &[u32], block: &mut Block)
 fn put_counted(to: &mut Writer, pages: &[u32])
     requires few { length pages.now ≤ 64 }
     requires room { to.old.at + 4 + 4 * length pages.now ≤ 4096 }
-    ensures puts { Puts to.old to.new (number w32 (length pages.now) ++ flat_map (number w32) pages.now) }
+    ensures puts { PutsField to.old to.new (number_bytes w32 (length pages.now) ++ flat_map (number_bytes w32) pages.now) }
     ensures at { to.new.at ≡ to.old.at + 4 + 4 * length pages.now }
 {
     put_u32(to, pages.len() as u32);

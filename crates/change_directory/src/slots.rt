@@ -1,11 +1,11 @@
 // The log slots, read.
 ghost use Rattle.std.specs.Prelude.{◌≡◌, ◌≤◌, ◌<◌, ◌+◌, ◌*◌, ◌^◌, ◌++◌, ◌∷◌, [], length, map, zip, take, drop, vec_len, IfOk, OnOk};
 ghost use Rattle.std.specs.Option.{is_some, option_map};
-ghost use Rattle.asm_formats.specs.Logs.{image_in, image_of};
+ghost use Rattle.asm_formats.specs.Logs.{image_in, logged_image};
 ghost use Rattle.change_directory.specs.Places.{IsCopy};
 ghost use Rattle.asm_base.specs.Blocks.{image_of_page};
 ghost use Rattle.change_directory.specs.Loads.{counted_block, newest_slots};
-ghost use Rattle.change_directory.specs.Slots.{all_slots, bad_image, cut, has_slots, head_in, logs_of, place_in, slots_of};
+ghost use Rattle.change_directory.specs.Slots.{all_slots, bad_image, cut, has_slots, head_in, logs_of, place_in, slots_of_log};
 ghost use Rattle.change_directory.specs.Works.{ReadCall, ToldOver};
 ghost use Rattle.change_directory.specs.LoadCalls.{ImagesAreRead, LoadCall, LogIsRead, NoDamage, RestIsRead};
 
@@ -188,8 +188,8 @@ fn first_bad(at: u64, images: &[(u32, Block)]) -> Option<u64>
 /// The image of a page in a log slot, and its block.
 #[tactic(auto, using(crate::proofs::SlotLaws::block_is_place, crate::proofs::SlotLaws::image_is_only))]
 fn image_in_slot(log: &Option<OpenLog>, page: u32) -> Option<(u64, &Block)>
-    ensures block { option_map (λ c. c.0) result ≡ counted_block (slots_of log.now) page }
-    ensures image { option_map (λ c. c.1.now.bytes) result ≡ image_in (logs_of (slots_of log.now)) page }
+    ensures block { option_map (λ c. c.0) result ≡ counted_block (slots_of_log log.now) page }
+    ensures image { option_map (λ c. c.1.now.bytes) result ≡ image_in (logs_of (slots_of_log log.now)) page }
 {
     match log {
         None => None,
@@ -201,7 +201,7 @@ fn image_in_slot(log: &Option<OpenLog>, page: u32) -> Option<(u64, &Block)>
 fn image_from(at: u64, images: &[(u32, Block)], page: u32) -> Option<(u64, &Block)>
     requires { at + length images.now < 2 ^ 64 }
     ensures block { option_map (λ c. c.0) result ≡ place_in at (map image_of_page images.now) page }
-    ensures image { option_map (λ c. c.1.now.bytes) result ≡ image_of (map image_of_page images.now) page }
+    ensures image { option_map (λ c. c.1.now.bytes) result ≡ logged_image (map image_of_page images.now) page }
 {
     match images {
         [] => None,
@@ -228,7 +228,7 @@ pub(crate) fn counted_image(logs: &OpenLogs, page: u32) -> Option<(u64, &Block)>
 
 /// Two log slots, the greater commit number first, the first where they are equal.
 pub(crate) fn in_order(first: Option<OpenLog>, second: Option<OpenLog>) -> OpenLogs
-    ensures slots { all_slots result ≡ newest_slots (slots_of first ++ slots_of second) }
+    ensures slots { all_slots result ≡ newest_slots (slots_of_log first ++ slots_of_log second) }
     ensures newest { is_some result.newest ≡ has_slots (all_slots result) }
 {
     match (first, second) {

@@ -7,20 +7,20 @@ use Rattle.command_line.specs.Command.{asm_command, number_in, images_in}
 use Rattle.command_line.specs.Paths.{Text}
 
 -- the words have the form, with this number and these images
-abbrev pub Reads : List Text → Option Text → List Text → Type 0
-Reads words number images = (fault_of asm_command words ≡ []) × (number_in words ≡ number) × (images_in words ≡ images)
+abbrev pub ReadsWords : List Text → Option Text → List Text → Type 0
+ReadsWords words number images = (fault_of asm_command words ≡ []) × (number_in words ≡ number) × (images_in words ≡ images)
 
 -- the words don't have the form, and this is why
 abbrev pub Refuses : List Text → ErrorKind → Type 0
 Refuses words why = fault_of asm_command words ≡ why ∷ []
 
 pub record WordRows : Type 0 where
-  pub images : Reads (codes "a" ∷ codes "b" ∷ []) None (codes "a" ∷ codes "b" ∷ [])
-  pub number_apart : Reads (codes "--generate" ∷ codes "7" ∷ codes "a" ∷ []) (Some (codes "7")) (codes "a" ∷ [])
-  pub number_attached : Reads (codes "a" ∷ codes "--generate=7" ∷ codes "b" ∷ []) (Some (codes "7")) (codes "a" ∷ codes "b" ∷ [])
-  pub number_between : Reads (codes "a" ∷ codes "--generate" ∷ codes "x" ∷ codes "b" ∷ []) (Some (codes "x")) (codes "a" ∷ codes "b" ∷ [])
-  pub after_hyphens : Reads (codes "--" ∷ codes "--generate" ∷ codes "-x" ∷ []) None (codes "--generate" ∷ codes "-x" ∷ [])
-  pub one_hyphen : Reads (codes "-" ∷ []) None (codes "-" ∷ [])
+  pub images : ReadsWords (codes "a" ∷ codes "b" ∷ []) None (codes "a" ∷ codes "b" ∷ [])
+  pub number_apart : ReadsWords (codes "--generate" ∷ codes "7" ∷ codes "a" ∷ []) (Some (codes "7")) (codes "a" ∷ [])
+  pub number_attached : ReadsWords (codes "a" ∷ codes "--generate=7" ∷ codes "b" ∷ []) (Some (codes "7")) (codes "a" ∷ codes "b" ∷ [])
+  pub number_between : ReadsWords (codes "a" ∷ codes "--generate" ∷ codes "x" ∷ codes "b" ∷ []) (Some (codes "x")) (codes "a" ∷ codes "b" ∷ [])
+  pub after_hyphens : ReadsWords (codes "--" ∷ codes "--generate" ∷ codes "-x" ∷ []) None (codes "--generate" ∷ codes "-x" ∷ [])
+  pub one_hyphen : ReadsWords (codes "-" ∷ []) None (codes "-" ∷ [])
   pub no_words : Refuses [] kind.MissingRequiredArgument
   pub no_image : Refuses (codes "--generate" ∷ codes "7" ∷ []) kind.MissingRequiredArgument
   pub value_missing : Refuses (codes "a" ∷ codes "--generate" ∷ []) kind.InvalidValue

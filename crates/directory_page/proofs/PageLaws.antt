@@ -8,14 +8,14 @@ use Rattle.asm_base.specs.asm_formats.Items.{Item}
 use Rattle.asm_base.specs.asm_formats.Values.{decoded_item}
 use Rattle.asm_base.specs.asm_formats.Records.{Frame, decoded_record}
 use Rattle.asm_base.specs.asm_formats.Content.{is_empty_page, is_page, page_items}
-use Rattle.asm_base.specs.Records.{Entry}
-use Rattle.asm_base.specs.Frames.{Head, entry_frame, entry_in, framed, head_reading}
+use Rattle.asm_base.specs.Records.{DirectoryRecord}
+use Rattle.asm_base.specs.Frames.{Head, entry_frame, framed_entry, framed, head_reading}
 use Rattle.asm_base.proofs.Exact.{IsBytes}
 use Rattle.asm_base.proofs.FrameLaws.{frame_is_read}
 use Rattle.directory_page.specs.Frames.{is_framed, is_value_of}
 
 -- the value of an entry is decoded
-abbrev says : Option Entry → Bool
+abbrev says : Option DirectoryRecord → Bool
 says None = false
 says (Some e) = is_some (decoded_item e.0 e.1)
 
@@ -26,14 +26,14 @@ framed_says (Some ((k, len), rest)) = go (nat_le len 4064 && (nat_le len (length
   go true = refl
   go false = refl
 
-entry_says : (e : Option Entry) → says e ≡ is_some (option_and_then (λ (f : Frame). decoded_item f.key f.value) (option_map entry_frame e))
+entry_says : (e : Option DirectoryRecord) → says e ≡ is_some (option_and_then (λ (f : Frame). decoded_item f.key f.value) (option_map entry_frame e))
 entry_says None = refl
 entry_says (Some (k, v)) = refl
 
 pub record_is_framed : (bytes : Bytes) → length bytes ≡ 4096 → IsBytes bytes → is_framed (head_reading bytes) ≡ is_some (decoded_record bytes)
 unfolding decoded_record
 record_is_framed bytes len are =
-    framed_says (head_reading bytes) ∙ entry_says (entry_in bytes)
+    framed_says (head_reading bytes) ∙ entry_says (framed_entry bytes)
     ∙ ap (λ (o : Option Frame). is_some (option_and_then (λ (f : Frame). decoded_item f.key f.value) o)) (frame_is_read bytes len are)
 
 -- a page that isn't zeros is one where a record is decoded

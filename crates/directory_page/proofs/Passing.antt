@@ -7,7 +7,7 @@ use Rattle.asm_base.specs.Readings.{Reading, both, as_a, repeated}
 use Rattle.asm_base.specs.Records.{all_of}
 use Rattle.asm_base.proofs.Exact.{IsBytes}
 use Rattle.asm_base.proofs.Tables.{bytes_are}
-use Rattle.directory_page.specs.Checks.{Check, passed, in_turn, times, is_all}
+use Rattle.directory_page.specs.Checks.{Check, passed, checks_in_turn, times, is_all}
 
 -- the check gives what the reading leaves
 pub record Passing {A : Type 0} (check : Check) (reading : Reading A) : Type 0 where
@@ -16,7 +16,7 @@ pub record Passing {A : Type 0} (check : Check) (reading : Reading A) : Type 0 w
 pub read_passes : {A : Type 0} (r : Reading A) → Passing (passed r) r
 read_passes r = record { same = λ bytes. refl }
 
-pub both_pass : {A B : Type 0} {c d : Check} {r : Reading A} {q : Reading B} → Passing c r → Passing d q → Passing (in_turn c d) (both r q)
+pub both_pass : {A B : Type 0} {c d : Check} {r : Reading A} {q : Reading B} → Passing c r → Passing d q → Passing (checks_in_turn c d) (both r q)
 both_pass {A} {B} {c} {d} {r} {q} first second = record { same = λ bytes. ap (λ (o : Option (List ℕ)). option_and_then d o) (first.same bytes) ∙ go (r bytes) } where
   inner : (x : A) (o : Option (B × List ℕ)) → option_map (λ (y : B × List ℕ). y.1) o ≡ option_map (λ (y : (A × B) × List ℕ). y.1) (option_and_then (λ (y : B × List ℕ). Some ((x, y.0), y.1)) o)
   inner x None = refl

@@ -11,8 +11,8 @@ abbrev pub passed : {A : Type 0} → Reading A → Check
 passed reading bytes = option_map (λ x. x.1) (reading bytes)
 
 -- the first, and then the second of what is left
-abbrev pub in_turn : Check → Check → Check
-in_turn first second bytes = option_and_then second (first bytes)
+abbrev pub checks_in_turn : Check → Check → Check
+checks_in_turn first second bytes = option_and_then second (first bytes)
 
 -- one check n times
 unfoldable pub times : ℕ → Check → Check

@@ -11,16 +11,16 @@ use Rattle.asm_base.specs.Readings.{Reading, byte_reading, flag_reading, number_
 use Rattle.asm_base.specs.Words.{stripe_reading, node_kind_reading, pending_kind_reading}
 use Rattle.asm_base.specs.Parts.{home_reading}
 use Rattle.record_values.specs.Values.{copies_reading, named_reading, system_reading}
-use Rattle.directory_page.specs.Checks.{Check, passed, in_turn, times, is_all}
+use Rattle.directory_page.specs.Checks.{Check, passed, checks_in_turn, times, is_all}
 
 -- ---- files
 
 -- the numbers behind the type's name
 unfoldable pub file_numbers_check : Check
-file_numbers_check = in_turn (passed (number_reading w64)) (in_turn (passed (number_reading w64)) (in_turn (passed system_reading) (passed (number_reading w32))))
+file_numbers_check = checks_in_turn (passed (number_reading w64)) (checks_in_turn (passed (number_reading w64)) (checks_in_turn (passed system_reading) (passed (number_reading w32))))
 
 unfoldable pub file_check : Check
-file_check = in_turn (passed copies_reading) (in_turn (passed stripe_reading) (in_turn (passed (name_reading 30)) file_numbers_check))
+file_check = checks_in_turn (passed copies_reading) (checks_in_turn (passed stripe_reading) (checks_in_turn (passed (name_reading 30)) file_numbers_check))
 
 -- ---- chunks
 
@@ -34,12 +34,12 @@ chunk_check = times chunk_len extent_check
 -- ---- disks
 
 unfoldable pub disk_check : Check
-disk_check = in_turn (passed (number_reading w64)) (in_turn (passed named_reading) (passed named_reading))
+disk_check = checks_in_turn (passed (number_reading w64)) (checks_in_turn (passed named_reading) (passed named_reading))
 
 -- ---- operations
 
 unfoldable pub pending_check : Check
-pending_check = in_turn (passed pending_kind_reading) (in_turn (passed (number_reading w32)) (passed (number_reading w64)))
+pending_check = checks_in_turn (passed pending_kind_reading) (checks_in_turn (passed (number_reading w32)) (passed (number_reading w64)))
 
 -- ---- templates
 
@@ -50,7 +50,7 @@ ascend_after before (t ∷ ts) = precedes (folded before) (folded t.name) && asc
 
 -- what stands behind its name
 unfoldable pub template_rest_check : Check
-template_rest_check = in_turn (passed copies_reading) (in_turn (passed stripe_reading) (passed flag_reading))
+template_rest_check = checks_in_turn (passed copies_reading) (checks_in_turn (passed stripe_reading) (passed flag_reading))
 
 -- a template, of which the name is kept
 abbrev pub template_name_reading : Reading Bytes
@@ -68,19 +68,19 @@ templates_check bytes = option_and_then (λ n. if nat_le n.0 most_templates then
 -- ---- nodes
 
 unfoldable pub node_check : Check
-node_check = in_turn (passed (number_reading w32)) (in_turn (passed node_kind_reading) (in_turn (passed (number_reading w32)) (passed (name_reading 80))))
+node_check = checks_in_turn (passed (number_reading w32)) (checks_in_turn (passed node_kind_reading) (checks_in_turn (passed (number_reading w32)) (passed (name_reading 80))))
 
 -- ---- settings
 
 unfoldable pub settings_check : Check
 settings_check =
-    in_turn (passed (number_reading w64)) (in_turn (passed (number_reading w64)) (in_turn (passed (text_reading 30)) (in_turn (passed (text_reading 30)) (passed (text_reading 30)))))
+    checks_in_turn (passed (number_reading w64)) (checks_in_turn (passed (number_reading w64)) (checks_in_turn (passed (text_reading 30)) (checks_in_turn (passed (text_reading 30)) (passed (text_reading 30)))))
 
 -- ---- marks
 
 -- of each extent of a chunk at most three copies are stale
-unfoldable pub are_marks : Bytes → Bool
-are_marks bytes = (length bytes == chunk_len) && list_all (λ m. nat_lt m 8) bytes
+unfoldable pub is_marks_value : Bytes → Bool
+is_marks_value bytes = (length bytes == chunk_len) && list_all (λ m. nat_lt m 8) bytes
 
 -- ---- the value of a key
 
@@ -102,6 +102,6 @@ single_passes kind a bytes =
 abbrev pub value_passes : ℕ → ℕ → ℕ → Bytes → Bool
 value_passes kind a b bytes =
     if kind == files_kind then (if b == 0 then is_all (file_check bytes) else is_all (chunk_check bytes))
-    else if kind == marks_kind then nat_lt b (2 ^ 32 - 1) && are_marks bytes
+    else if kind == marks_kind then nat_lt b (2 ^ 32 - 1) && is_marks_value bytes
     else if b == 0 then single_passes kind a bytes
     else false

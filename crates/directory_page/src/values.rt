@@ -6,7 +6,7 @@ ghost use Rattle.std.specs.Option.{is_some};
 ghost use Rattle.asm_base.specs.Readings.{number_reading};
 ghost use Rattle.asm_base.specs.asm_formats.Values.{decoded_item};
 ghost use Rattle.directory_page.specs.Checks.{Passes, is_all, passed};
-ghost use Rattle.directory_page.specs.Values.{file_check, file_numbers_check, chunk_check, extent_check, disk_check, pending_check, node_check, settings_check, are_marks, operation_passes, single_passes, value_passes};
+ghost use Rattle.directory_page.specs.Values.{file_check, file_numbers_check, chunk_check, extent_check, disk_check, pending_check, node_check, settings_check, is_marks_value, operation_passes, single_passes, value_passes};
 
 use crate::fields::{
     pass_copies, pass_home, pass_node_kind, pass_pending_kind, pass_stripe, pass_system,
@@ -248,7 +248,7 @@ fn pass_settings(from: &mut Reader) -> Option<()>
 
 #[tactic(auto, unfolding(crate::specs::Values::are_marks))]
 fn are_marks(bytes: &[u8]) -> bool
-    ensures { result ≡ are_marks bytes.now }
+    ensures { result ≡ is_marks_value bytes.now }
 {
     bytes.len() == CHUNK_LEN && are_small(bytes)
 }

@@ -11,7 +11,7 @@ use Rattle.page_map.specs.Loaded.{AreFilled}
 use Rattle.std.proofs.lemmas.List.{append-nil}
 use Rattle.change_directory.specs.declared.copy.DirCopy.{DirCopy}
 use Rattle.directory_store.specs.declared.due.Due.{Due}
-use Rattle.directory_store.specs.Reading.{IsBehind, IsNewest, KeepsOne, PutsKept, copies_of, is_same_page, same_pages}
+use Rattle.directory_store.specs.Reading.{IsBehind, IsNewest, KeepsOne, PutsKept, copies_of_readings, is_same_page, same_pages}
 use Rattle.asm_formats.specs.Logs.{PageImage}
 use Rattle.std.proofs.lemmas.List.{take_more}
 use Rattle.asm_base.specs.Blocks.{image_of_page}
@@ -113,7 +113,7 @@ more_kept r q qs c0 c1 c2 d0 d1 d2 (inl one) rest = record {
   dues = one.1 ∷ rest.dues;
   are_kept = inl (one.0, rest.kept, refl, rest.are_kept);
   are_dues = (one.1, one.2, rest.dues, refl, rest.are_dues);
-  copies_are = rest.copies_are ∙ ap (λ (l : List DirCopy). l ++ copies_of rest.kept) one.3 ∙ append_assoc c0 (q.copy ∷ []) (copies_of rest.kept);
+  copies_are = rest.copies_are ∙ ap (λ (l : List DirCopy). l ++ copies_of_readings rest.kept) one.3 ∙ append_assoc c0 (q.copy ∷ []) (copies_of_readings rest.kept);
   dues_are = rest.dues_are ∙ ap (λ (l : List Due). l ++ rest.dues) one.4 ∙ append_assoc d0 (one.1 ∷ []) rest.dues;
 }
 more_kept r q qs c0 c1 c2 d0 d1 d2 (inr one) rest = record {
@@ -121,7 +121,7 @@ more_kept r q qs c0 c1 c2 d0 d1 d2 (inr one) rest = record {
   dues = rest.dues;
   are_kept = inr (one.0, rest.are_kept);
   are_dues = rest.are_dues;
-  copies_are = rest.copies_are ∙ ap (λ (l : List DirCopy). l ++ copies_of rest.kept) one.1;
+  copies_are = rest.copies_are ∙ ap (λ (l : List DirCopy). l ++ copies_of_readings rest.kept) one.1;
   dues_are = rest.dues_are ∙ ap (λ (l : List Due). l ++ rest.dues) one.2;
 }
 

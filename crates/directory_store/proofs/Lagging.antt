@@ -20,10 +20,10 @@ use Rattle.asm_formats.specs.Pages.{IsCheckpointed}
 use Rattle.asm_formats.specs.Status.{ascends_from}
 use Rattle.change_directory.specs.declared.copy.DirCopy.{DirCopy}
 use Rattle.change_directory.specs.declared.loading.Pages.{Pages}
-use Rattle.change_directory.specs.Changes.{disk, content_in, DecodesIn, IsAtHome}
+use Rattle.change_directory.specs.Changes.{copy_disk_bytes, content_in, DecodesIn, IsAtHome}
 use Rattle.change_directory.specs.Formatting.{AreShut}
 use Rattle.change_directory.specs.Homes.{HasHomed, HomesOf, KeepsContent}
-use Rattle.change_directory.specs.Loads.{IsLoaded, number_of, due_page, filled_pages, open_slots}
+use Rattle.change_directory.specs.Loads.{IsLoaded, commit_if_any, due_page, filled_pages, open_slots}
 use Rattle.change_directory.specs.Logs.{are_pages}
 use Rattle.asm_base.specs.Blocks.{image_of_page}
 use Rattle.change_directory.specs.Places.{IsCopy}
@@ -77,7 +77,7 @@ few_pages d pages ok = let h = fewer 0 d pages (omega arith) (pages_from 0 d pag
 -- ---- what is read is what a stop leaves
 
 -- a disk that reads as another one is listed as it
-disk_as : (copy : DirCopy) (x h : Image) → x.size copy.slot ≡ h.size copy.slot → ((k : ℕ) → x.byte copy.slot k ≡ h.byte copy.slot k) → disk copy x ≡ disk copy h
+disk_as : (copy : DirCopy) (x h : Image) → x.size copy.slot ≡ h.size copy.slot → ((k : ℕ) → x.byte copy.slot k ≡ h.byte copy.slot k) → copy_disk_bytes copy x ≡ copy_disk_bytes copy h
 disk_as copy x h size byte =
     ap (λ (n : ℕ). window (x.byte copy.slot) 0 n) size ∙ window-same (h.byte copy.slot) (x.byte copy.slot) 0 (h.size copy.slot) (λ k low high. byte k)
 
@@ -91,7 +91,7 @@ size_as s slot x h sound some left held = go (s.attached slot) refl some
 
 -- What is told of a copy that was read after a sync holds of each image that a stop may leave now.
 module _ (copy : DirCopy) (m t : BayState) (sound : IsSound m) (sound_t : IsSound t) (is : IsCopy m copy) (durable : Durable copy.slot m) (run : Runs (IsSlot copy.slot) Same m t) where
-  pub told_now : (P : Image → Type 0) → ((x h : Image) → disk copy x ≡ disk copy h → P h → P x) → Told m t P → NowOnly t P
+  pub told_now : (P : Image → Type 0) → ((x h : Image) → copy_disk_bytes copy x ≡ copy_disk_bytes copy h → P h → P x) → Told m t P → NowOnly t P
   told_now P carry told = record { now = λ x left. go x left }
     where
       go : (x : Image) → t.leaves t.calls x → P x
@@ -106,14 +106,14 @@ module _ (copy : DirCopy) (m t : BayState) (sound : IsSound m) (sound_t : IsSoun
 -- ---- what is due
 
 -- what was loaded of a disk that reads as another one
-pub loaded_as : (copy : DirCopy) (pages : Pages) (x h : Image) → disk copy x ≡ disk copy h → IsLoaded copy pages h → IsLoaded copy pages x
+pub loaded_as : (copy : DirCopy) (pages : Pages) (x h : Image) → copy_disk_bytes copy x ≡ copy_disk_bytes copy h → IsLoaded copy pages h → IsLoaded copy pages x
 loaded_as copy pages x h e is = record {
-  number = is.number ∙ ap (λ (b : Bytes). number_of (open_slots copy.dir_blocks b)) (sym e);
+  number = is.number ∙ ap (λ (b : Bytes). commit_if_any (open_slots copy.dir_blocks b)) (sym e);
   blocks = is.blocks ∙ ap (λ (b : Bytes). filled_pages copy.dir_blocks b (open_slots copy.dir_blocks b)) (sym e);
   due = is.due ∙ ap (λ (b : Bytes). flat_map (due_page (open_slots copy.dir_blocks b)) (range_with_len 0 copy.dir_blocks)) (sym e);
 }
 
-pub damage_as : (copy : DirCopy) (damage : Option ℕ) (x h : Image) → disk copy x ≡ disk copy h → directory_damage copy.dir_blocks (disk copy h) ≡ damage → directory_damage copy.dir_blocks (disk copy x) ≡ damage
+pub damage_as : (copy : DirCopy) (damage : Option ℕ) (x h : Image) → copy_disk_bytes copy x ≡ copy_disk_bytes copy h → directory_damage copy.dir_blocks (copy_disk_bytes copy h) ≡ damage → directory_damage copy.dir_blocks (copy_disk_bytes copy x) ≡ damage
 damage_as copy damage x h e is = ap (directory_damage copy.dir_blocks) e ∙ is
 
 no_dues : (dues : List (ℕ × Block)) → map image_of_page dues ≡ [] → dues ≡ []
@@ -132,10 +132,10 @@ module _ (copy : DirCopy) (shape : IsShaped copy) where
   }
 
   -- a damaged copy that is readable is at home
-  pub damaged_home : (x : Image) (block : ℕ) → directory_damage copy.dir_blocks (disk copy x) ≡ Some block → IsReadable copy x → IsAtHome copy x
-  damaged_home x block is readable = ⊎_elim (λ (none : directory_damage copy.dir_blocks (disk copy x) ≡ None). absurd (none-some block (sym none ∙ is))) (λ home. home) readable.whole
+  pub damaged_home : (x : Image) (block : ℕ) → directory_damage copy.dir_blocks (copy_disk_bytes copy x) ≡ Some block → IsReadable copy x → IsAtHome copy x
+  damaged_home x block is readable = ⊎_elim (λ (none : directory_damage copy.dir_blocks (copy_disk_bytes copy x) ≡ None). absurd (none-some block (sym none ∙ is))) (λ home. home) readable.whole
 
-  module _ (pages : Pages) (dues : List (ℕ × Block)) (x : Image) (sized : HasRegion copy x) (loaded : IsLoaded copy pages x) (none : directory_damage copy.dir_blocks (disk copy x) ≡ None)
+  module _ (pages : Pages) (dues : List (ℕ × Block)) (x : Image) (sized : HasRegion copy x) (loaded : IsLoaded copy pages x) (none : directory_damage copy.dir_blocks (copy_disk_bytes copy x) ≡ None)
       (are : map image_of_page dues ≡ due_images pages) where
     pub has_due : HasDue copy dues x
     has_due = loaded_is_due copy shape pages x sized loaded none dues are
@@ -181,7 +181,7 @@ module _ (copy : DirCopy) where
       let lists = sym (same_disk copy x y same) in
       record {
         decodes = subst (λ (b : Bytes). logs_decode copy.dir_blocks b ≡ true) lists is.decodes;
-        whole = ⊎_elim (λ (none : directory_damage copy.dir_blocks (disk copy x) ≡ None). inl (ap (directory_damage copy.dir_blocks) (sym lists) ∙ none))
+        whole = ⊎_elim (λ (none : directory_damage copy.dir_blocks (copy_disk_bytes copy x) ≡ None). inl (ap (directory_damage copy.dir_blocks) (sym lists) ∙ none))
             (λ (home : IsAtHome copy x). inr (subst (λ (b : Bytes). IsCheckpointed copy.dir_blocks b) lists home)) is.whole;
       }
 

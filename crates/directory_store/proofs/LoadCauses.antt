@@ -9,12 +9,12 @@ use Rattle.asm_base.specs.declared.block.Block.{Block}
 use Rattle.asm_formats.specs.Among.{IsAmong}
 use Rattle.asm_formats.specs.Content.{page_items}
 use Rattle.change_directory.specs.declared.copy.DirCopy.{DirCopy}
-use Rattle.change_directory.specs.Changes.{disk}
+use Rattle.change_directory.specs.Changes.{copy_disk_bytes}
 use Rattle.change_directory.specs.Loads.{open_slots}
-use Rattle.change_directory.specs.StoreLaws.{IsShaped, counted, zero_page}
+use Rattle.change_directory.specs.StoreLaws.{IsShaped, counting_page, zero_page}
 use Rattle.directory_store.specs.Copies.{AreNamedCopies}
 use Rattle.directory_store.specs.Loading.{HasTwins, LoadCause}
-use Rattle.directory_store.specs.Reading.{AreCopiesRead, HasTwin, IsBuildFault, IsMapFault, IsNewest, IsReadFault, IsReading, WasRead, block_in, copies_of}
+use Rattle.directory_store.specs.Reading.{AreCopiesRead, HasTwin, IsBuildFault, IsMapFault, IsNewest, IsReadFault, IsReading, WasRead, block_in, copies_of_readings}
 use Rattle.directory_store.specs.declared.error.LoadError.{LoadError}
 use Rattle.directory_store.specs.declared.error.LoadError.TheVariants.{DirectoriesLost, Damaged, NoMemory}
 use Rattle.directory_store.specs.declared.reading.Reading.{Reading}
@@ -29,7 +29,7 @@ none_of readings q e among = subst (λ (l : List Reading). IsAmong l q) e among
 
 module _ (copies : List DirCopy) (readings : List Reading) (s t : BayState) (named : AreNamedCopies copies [] s) (read : AreCopiesRead copies readings s t) where
   given_copy : (q : Reading) → IsAmong readings q → IsAmong copies q.copy
-  given_copy q among = part_among (copies_of readings) copies read.parts q.copy (copy_among readings q among)
+  given_copy q among = part_among (copies_of_readings readings) copies read.parts q.copy (copy_among readings q among)
 
   shape : (q : Reading) → IsAmong readings q → IsShaped q.copy
   shape q among = shaped (named q.copy (given_copy q among)).copy_is
@@ -41,7 +41,7 @@ module _ (copies : List DirCopy) (readings : List Reading) (s t : BayState) (nam
       let content = read_content r x (shape r among) (read.numbers r among) is in
       let twin = has.twin.twin in
       let below : (p : ℕ × Block) → IsAmong blocks p → p.0 < d = λ p h. ltb-true p.0 d (all_are (λ (p : ℕ × Block). nat_lt p.0 d) blocks p has.filled.inside h) in
-      let counts : (p : ℕ × Block) → IsAmong blocks p → counted r.copy x p.0 ≡ p.1.bytes = λ p h.
+      let counts : (p : ℕ × Block) → IsAmong blocks p → counting_page r.copy x p.0 ≡ p.1.bytes = λ p h.
       content.pages.pages p.0 (below p h) ∙ ap (λ (o : Option Bytes). unwrap_or o (zero_page p.0)) (image_found 0 blocks p has.filled.ascend h) in
       record {
         earlier = twin.earlier.0;
@@ -54,7 +54,7 @@ module _ (copies : List DirCopy) (readings : List Reading) (s t : BayState) (nam
         reads_second = ap page_items (counts twin.later twin.later_is) ∙ twin.reads_second;
         one_key = twin.one_key;
         counts_from =
-            sym (block_row (open_slots d (disk r.copy x)) 0 d twin.later.0 (omega arith) (omega (arith, below twin.later twin.later_is)))
+            sym (block_row (open_slots d (copy_disk_bytes r.copy x)) 0 d twin.later.0 (omega arith) (omega (arith, below twin.later twin.later_is)))
             ∙ ap (λ (l : List (ℕ × ℕ)). block_in l twin.later.0) (sym is.loaded.due)
             ∙ ap (block_in r.pages.due.items) twin.here ∙ sym has.block_is;
       }

@@ -22,7 +22,7 @@ use Rattle.asm_base.specs.Blocks.{image_of_page}
 use Rattle.change_directory.specs.StoreLaws.{IsShaped, HasRegion, SameRegion, SameCopy, RegionOf, content_with}
 use Rattle.change_directory.proofs.Settled.{logs_off}
 use Rattle.change_directory.proofs.Usable.{still_copy}
-use Rattle.directory_store.specs.Commits.{Commits, CommitsOne, HasTaken}
+use Rattle.directory_store.specs.Commits.{CommitsPages, CommitsOne, HasTaken}
 use Rattle.directory_store.specs.Copies.{AllLogsSettled, AreCopiesApart, AreKept, AreNamedCopies, AreSettledBut, Earlier, HasOnlyFailedCopies, HasEither, HaveEither, IsCopyApart, IsKept, IsSettled, IsSlotOfCopy, LogsSettledBut, MayPutOn, RegionsOf, WritesFew, calls_for, due_of}
 use Rattle.directory_store.specs.declared.due.Due.{Due}
 use Rattle.directory_store.proofs.CopyLaws.{region_is_same}
@@ -72,7 +72,7 @@ no_bit k = ne_eqb (0 / 2 ^ k % 2) 1 (λ e. omega (arith, e, ap (λ (n : ℕ). n 
 -- ---- what commits on several copies do
 
 -- no copies
-pub no_commits : (dues : List Due) (number : ℕ) (pages : List (ℕ × Block)) (failed : ℕ) (s : BayState) → ((k : ℕ) → k < 64 → has_bit failed k ≡ false) → Commits [] dues number pages failed s s
+pub no_commits : (dues : List Due) (number : ℕ) (pages : List (ℕ × Block)) (failed : ℕ) (s : BayState) → ((k : ℕ) → k < 64 → has_bit failed k ≡ false) → CommitsPages [] dues number pages failed s s
 no_commits dues number pages failed s none = record {
   attached = record { same = λ slot. refl };
   calls = omega arith;
@@ -114,7 +114,7 @@ module _ (first : DirCopy) (rest : List DirCopy) (dues : List Due) (number : ℕ
       let is = named c (inr among) in
       record { copy_is = still_copy is.copy_is one.call.calls.attached; number = is.number; due = is.due }
 
-  module _ (failed_rest : ℕ) (others : Commits rest dues number pages failed_rest t u) where
+  module _ (failed_rest : ℕ) (others : CommitsPages rest dues number pages failed_rest t u) where
     pub all_attached : KeepsAttached s u
     all_attached = attached-trans one.call.calls.attached others.attached
 
@@ -204,7 +204,7 @@ module _ (first : DirCopy) (rest : List DirCopy) (dues : List Due) (number : ℕ
         (one_of.0, inr one_of.1, one_of.2, later_rose one_of.0 one_of.3)
 
     -- the first copy took it
-    pub one_more : HasTaken first (IsKept first (due_of dues first.slot)) number pages s t → Commits (first ∷ rest) dues number pages failed_rest s u
+    pub one_more : HasTaken first (IsKept first (due_of dues first.slot)) number pages s t → CommitsPages (first ∷ rest) dues number pages failed_rest s u
     one_more taken = record {
       attached = all_attached;
       calls = all_calls;
@@ -222,7 +222,7 @@ module _ (first : DirCopy) (rest : List DirCopy) (dues : List Due) (number : ℕ
 
     -- the first copy failed
     pub one_failed : (failed : ℕ) → ((k : ℕ) → k < 64 → has_bit failed k ≡ ((k == first.number) || has_bit failed_rest k)) → Rose (s.faults first.slot) (t.faults first.slot)
-        → Commits (first ∷ rest) dues number pages failed s u
+        → CommitsPages (first ∷ rest) dues number pages failed s u
     one_failed failed bits rose = record {
       attached = all_attached;
       calls = all_calls;
@@ -301,16 +301,16 @@ module _ {copies : List DirCopy} {first : DirCopy} {rest : List DirCopy} (split 
       logs_still logs is = rest_logs first rest dues number pages s t t (all_named named) (all_apart apart) result (one_is result one) (subst (λ (l : List DirCopy). AllLogsSettled l s) split (logs is))
 
     -- the first copy took it, and then the rest
-    pub took_first : {u : BayState} {value : T} {failed : ℕ} → CommitsOne {E = E} (Ok value) first due number pages s t → Commits rest dues number pages failed t u → Commits copies dues number pages failed s u
+    pub took_first : {u : BayState} {value : T} {failed : ℕ} → CommitsOne {E = E} (Ok value) first due number pages s t → CommitsPages rest dues number pages failed t u → CommitsPages copies dues number pages failed s u
     took_first {u} {value} {failed} one others =
         let took = one_is (Ok value) one in
-        subst (λ (l : List DirCopy). Commits l dues number pages failed s u) (sym split)
+        subst (λ (l : List DirCopy). CommitsPages l dues number pages failed s u) (sym split)
         (one_more first rest dues number pages s t u (all_named named) (all_apart apart) (Ok value) took failed others took.call.done)
 
     -- the first copy failed
-    pub missed_first : {u : BayState} {e : E} {failed_rest failed : ℕ} → CommitsOne {T = T} (Err e) first due number pages s t → Commits rest dues number pages failed_rest t u
-        → ((k : ℕ) → k < 64 → has_bit failed k ≡ ((k == first.number) || has_bit failed_rest k)) → Commits copies dues number pages failed s u
+    pub missed_first : {u : BayState} {e : E} {failed_rest failed : ℕ} → CommitsOne {T = T} (Err e) first due number pages s t → CommitsPages rest dues number pages failed_rest t u
+        → ((k : ℕ) → k < 64 → has_bit failed k ≡ ((k == first.number) || has_bit failed_rest k)) → CommitsPages copies dues number pages failed s u
     missed_first {u} {e} {failed_rest} {failed} one others bits =
         let missed = one_is (Err e) one in
-        subst (λ (l : List DirCopy). Commits l dues number pages failed s u) (sym split)
+        subst (λ (l : List DirCopy). CommitsPages l dues number pages failed s u) (sym split)
         (one_failed first rest dues number pages s t u (all_named named) (all_apart apart) (Err e) missed failed_rest others failed bits missed.call.cause)

@@ -11,7 +11,7 @@ use Rattle.bay.proofs.Calls.{leaves_begin, leaves_less, now_only, started, stops
 use Rattle.bay.proofs.Images.{same-refl}
 use Rattle.asm_group.specs.Names.{Bytes}
 use Rattle.asm_base.specs.declared.block.Block.{Block}
-use Rattle.asm_base.specs.Records.{Entry}
+use Rattle.asm_base.specs.Records.{DirectoryRecord}
 use Rattle.asm_formats.specs.Among.{IsAmong}
 use Rattle.asm_formats.specs.Items.{Key}
 use Rattle.asm_formats.specs.Pages.{with_images}
@@ -23,13 +23,13 @@ use Rattle.change_directory.specs.StoreLaws.{SameRegion}
 use Rattle.change_directory.proofs.Settled.{logs_stay}
 use Rattle.change_directory.proofs.Spares.{region_logs}
 use Rattle.change_directory.proofs.Usable.{still_copy, short_sector}
-use Rattle.page_map.specs.Tables.{PageTable, IsTable, SameTable, Shows, block_of}
+use Rattle.page_map.specs.Tables.{PageTable, IsPageTable, SameTable, Shows, block_of}
 use Rattle.page_map.specs.Contents.{AreItems}
 use Rattle.page_map.specs.Applying.{Applies, IsCause}
 use Rattle.page_map.specs.declared.change.PageError.{PageError}
 use Rattle.page_map.specs.declared.change.PageError.TheVariants.{Full as PageFull, NoMemory as PageNoMemory}
-use Rattle.directory_store.specs.Answers.{IsFirstRefusal, NoCalls, refusal_of}
-use Rattle.directory_store.specs.Commits.{Commits}
+use Rattle.directory_store.specs.Answers.{IsFirstRefusal, NoCalls, store_error_of}
+use Rattle.directory_store.specs.Commits.{CommitsPages}
 use Rattle.directory_store.specs.Contents.{ArePutItems}
 use Rattle.directory_store.specs.Copies.{AreCopiesApart, AreKept, AreNamedCopies, Earlier, HasOnlyFailedCopies, HaveEither, IsSlotOfCopy, MayPutOn, RegionsOf, WritesFew, calls_for, due_of}
 use Rattle.directory_store.specs.Stores.{Stored, IsEmpty, Keeps, HaveRecords, HaveEitherRecords, off, others, without}
@@ -95,8 +95,8 @@ pub no_calls : (s : BayState) → NoCalls s s
 no_calls s = record { runs = started same-refl; calls = refl }
 
 -- a creation is refused by the table before its first copy
-pub creation_refused : (copies : List DirCopy) (pages : ℕ) (put : List Entry) (s : BayState) (start : PageTable) (cause : PageError) → IsEmpty start pages → IsCause start put cause
-    → IsFirstRefusal copies pages put s s (refusal_of cause)
+pub creation_refused : (copies : List DirCopy) (pages : ℕ) (put : List DirectoryRecord) (s : BayState) (start : PageTable) (cause : PageError) → IsEmpty start pages → IsCause start put cause
+    → IsFirstRefusal copies pages put s s (store_error_of cause)
 creation_refused copies pages put s start (PageFull need free) empty is = ((start, empty, is.0, is.1, is.2), no_calls s)
 creation_refused copies pages put s start PageNoMemory empty is = no_calls s
 
@@ -114,7 +114,7 @@ pub same_items : (old new : PageTable) → SameTable old new → AreItems old �
 same_items old new same items = λ k v found. items k v (sym (same.records k) ∙ found)
 
 -- the same store but for equal records keeps
-pub unchanged_keeps : (old : Stored) (table : PageTable) (s : BayState) → Keeps old s → SameTable old.table table → IsTable table
+pub unchanged_keeps : (old : Stored) (table : PageTable) (s : BayState) → Keeps old s → SameTable old.table table → IsPageTable table
     → Keeps (record { table = table; number = old.number; copies = old.copies; due = old.due; read = old.read; settled = old.settled }) s
 unchanged_keeps old table s keeps same sound = record {
   table = sound;
@@ -138,8 +138,8 @@ unchanged_moments old new s keeps = leaves_begin (record { now = λ x left c amo
 
 -- ---- a commit
 
-module _ (old : Stored) (table : PageTable) (put : List Entry) (gone : List Key) (pages : List (ℕ × Block)) (s : BayState) (next : ℕ)
-    (keeps : Keeps old s) (applies : Applies old.table table put gone pages) (sound : IsTable table) (puts : ArePutItems put) (few : length put + length gone ≤ 64)
+module _ (old : Stored) (table : PageTable) (put : List DirectoryRecord) (gone : List Key) (pages : List (ℕ × Block)) (s : BayState) (next : ℕ)
+    (keeps : Keeps old s) (applies : Applies old.table table put gone pages) (sound : IsPageTable table) (puts : ArePutItems put) (few : length put + length gone ≤ 64)
     (less : old.number < next) (small : next < 2 ^ 64 - 1) where
   pub new_items : AreItems table
   new_items = items_after old.table table put gone puts keeps.items applies.records
@@ -165,7 +165,7 @@ module _ (old : Stored) (table : PageTable) (put : List Entry) (gone : List Key)
   pub earlier : Earlier next (λ before page. NowOnly s (AreKept old.copies old.due before page))
   earlier = record { before = old.number; page = keeps.page; smaller = less; holds = keeps.now }
 
-  module _ (failed : ℕ) (t : BayState) (commits : Commits old.copies old.due next pages failed s t) where
+  module _ (failed : ℕ) (t : BayState) (commits : CommitsPages old.copies old.due next pages failed s t) where
     pub commit_keeps : Keeps (record { table = table; number = next; copies = others failed old.copies; due = []; read = old.read; settled = true }) t
     commit_keeps = record {
       table = sound;
@@ -203,11 +203,11 @@ few_calls [] dues a b le = omega arith
 few_calls (c ∷ copies) dues a b le = omega (arith, few_calls copies dues a b le)
 
 commits_are : (copies copies' : List DirCopy) (dues dues' : List Due) (number : ℕ) (pages pages' : List (ℕ × Block)) (failed : ℕ) (s t : BayState)
-    → copies ≡ copies' → dues ≡ dues' → pages ≡ pages' → Commits copies dues number pages failed s t → Commits copies' dues' number pages' failed s t
+    → copies ≡ copies' → dues ≡ dues' → pages ≡ pages' → CommitsPages copies dues number pages failed s t → CommitsPages copies' dues' number pages' failed s t
 commits_are copies copies' dues dues' number pages pages' failed s t e d p h =
-    subst (λ (l : List DirCopy). Commits l dues' number pages' failed s t) e
-    (subst (λ (l : List Due). Commits copies l number pages' failed s t) d
-    (subst (λ (l : List (ℕ × Block)). Commits copies dues number l failed s t) p h))
+    subst (λ (l : List DirCopy). CommitsPages l dues' number pages' failed s t) e
+    (subst (λ (l : List Due). CommitsPages copies l number pages' failed s t) d
+    (subst (λ (l : List (ℕ × Block)). CommitsPages copies dues number l failed s t) p h))
 
 pub may_put_are : (copies copies' : List DirCopy) (number : ℕ) (pages pages' : List (ℕ × Block)) → copies' ≡ copies → pages' ≡ pages → MayPutOn copies number pages → MayPutOn copies' number pages'
 may_put_are copies copies' number pages pages' e p h =
@@ -225,9 +225,9 @@ pub record HasCommitted (old new : Stored) (keys failed : ℕ) (s t : BayState) 
   pub alone : HasOnlyFailedCopies old.copies failed s t
   pub gone : others failed old.copies ≡ [] → (c : DirCopy) → IsAmong old.copies c → Rose (s.faults c.slot) (t.faults c.slot)
 
-has_committed : (old was : Stored) (table : PageTable) (put : List Entry) (gone : List Key) (pages : List (ℕ × Block)) (s t : BayState) (next failed : ℕ) (copies : List DirCopy)
-    → was ≡ old → Keeps old s → Applies was.table table put gone pages → IsTable table → ArePutItems put → length put + length gone ≤ 64 → was.number < next → next < 2 ^ 64 - 1
-    → Commits was.copies was.due next pages failed s t → copies ≡ others failed was.copies
+has_committed : (old was : Stored) (table : PageTable) (put : List DirectoryRecord) (gone : List Key) (pages : List (ℕ × Block)) (s t : BayState) (next failed : ℕ) (copies : List DirCopy)
+    → was ≡ old → Keeps old s → Applies was.table table put gone pages → IsPageTable table → ArePutItems put → length put + length gone ≤ 64 → was.number < next → next < 2 ^ 64 - 1
+    → CommitsPages was.copies was.due next pages failed s t → copies ≡ others failed was.copies
     → HasCommitted old (record { table = table; number = next; copies = copies; due = []; read = was.read; settled = true }) (length put + length gone) failed s t
 has_committed old was table put gone pages s t next failed copies is keeps applies sound puts few less small commits left =
     let keeps_was = subst (λ (o : Stored). Keeps o s) (sym is) keeps in
@@ -247,17 +247,17 @@ has_committed old was table put gone pages s t next failed copies is keeps appli
     })
 
 -- the same of what the call was given, and of the due pages that are left
-pub whole_commit : {old was : Stored} {table : PageTable} {put : List Entry} {gone : List Key} {pages given : List (ℕ × Block)} {s t : BayState} {failed : ℕ} {copies left : List DirCopy} {dues due : List Due}
-    → was ≡ old → Keeps old s → Applies was.table table put gone pages → IsTable table → ArePutItems put → length put + length gone ≤ 64 → was.number + 1 < 2 ^ 64 - 1
-    → copies ≡ was.copies → dues ≡ was.due → given ≡ pages → Commits copies dues (was.number + 1) given failed s t → left ≡ others failed was.copies → due ≡ []
+pub whole_commit : {old was : Stored} {table : PageTable} {put : List DirectoryRecord} {gone : List Key} {pages given : List (ℕ × Block)} {s t : BayState} {failed : ℕ} {copies left : List DirCopy} {dues due : List Due}
+    → was ≡ old → Keeps old s → Applies was.table table put gone pages → IsPageTable table → ArePutItems put → length put + length gone ≤ 64 → was.number + 1 < 2 ^ 64 - 1
+    → copies ≡ was.copies → dues ≡ was.due → given ≡ pages → CommitsPages copies dues (was.number + 1) given failed s t → left ≡ others failed was.copies → due ≡ []
     → HasCommitted old (record { table = table; number = was.number + 1; copies = left; due = due; read = was.read; settled = true }) (length put + length gone) failed s t
 whole_commit {old} {was} {table} {put} {gone} {pages} {given} {s} {t} {failed} {copies} {left} {dues} is keeps applies sound puts few small same_copies same_dues same_pages commits left_is none =
     subst (λ (l : List Due). HasCommitted old (record { table = table; number = was.number + 1; copies = left; due = l; read = was.read; settled = true }) (length put + length gone) failed s t) (sym none)
     (has_committed old was table put gone pages s t (was.number + 1) failed left is keeps applies sound puts few (omega arith) small
     (commits_are copies was.copies dues was.due (was.number + 1) given pages failed s t same_copies same_dues same_pages commits) left_is)
 
-pub may_put_on : (old was : Stored) (table : PageTable) (put : List Entry) (gone : List Key) (pages : List (ℕ × Block)) (s : BayState) (next : ℕ)
-    → was ≡ old → Keeps old s → Applies was.table table put gone pages → IsTable table → ArePutItems put → length put + length gone ≤ 64 → was.number < next → next < 2 ^ 64 - 1 → MayPutOn was.copies next pages
+pub may_put_on : (old was : Stored) (table : PageTable) (put : List DirectoryRecord) (gone : List Key) (pages : List (ℕ × Block)) (s : BayState) (next : ℕ)
+    → was ≡ old → Keeps old s → Applies was.table table put gone pages → IsPageTable table → ArePutItems put → length put + length gone ≤ 64 → was.number < next → next < 2 ^ 64 - 1 → MayPutOn was.copies next pages
 may_put_on old was table put gone pages s next is keeps applies sound puts few less small =
     may_put was table put gone pages s next (subst (λ (o : Stored). Keeps o s) (sym is) keeps) applies sound puts few less small
 

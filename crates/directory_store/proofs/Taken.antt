@@ -14,7 +14,7 @@ use Rattle.bay.specs.Told.{Told}
 use Rattle.change_directory.proofs.Copies.{not_shut}
 use Rattle.directory_store.specs.Copies.{AreNamedCopies}
 use Rattle.directory_store.specs.Loading.{HasBehind, IsLeastOf, KeepsEqual, ShareContent, TakesLeast}
-use Rattle.directory_store.specs.Reading.{AreCopiesRead, IsBehind, IsBuilt, IsNewest, IsCopyUnread, RoseOnCopy, WasRead, are_same, copies_of, same_pages}
+use Rattle.directory_store.specs.Reading.{AreCopiesRead, IsBehind, IsBuilt, IsNewest, IsCopyUnread, RoseOnCopy, WasRead, are_same, copies_of_readings, same_pages}
 use Rattle.directory_store.specs.Stores.{HaveOneSize, Stored}
 use Rattle.directory_store.specs.declared.reading.Reading.{Reading}
 use Rattle.directory_store.proofs.Building.{filled_by_order}
@@ -25,7 +25,7 @@ use Rattle.directory_store.proofs.Steps.{shaped}
 
 module _ (copies : List DirCopy) (readings : List Reading) (s t : BayState) (named : AreNamedCopies copies [] s) (read : AreCopiesRead copies readings s t) where
   given : (q : Reading) → IsAmong readings q → IsAmong copies q.copy
-  given q among = part_among (copies_of readings) copies read.parts q.copy (copy_among readings q among)
+  given q among = part_among (copies_of_readings readings) copies read.parts q.copy (copy_among readings q among)
 
   shape_of : (q : Reading) → IsAmong readings q → IsShaped q.copy
   shape_of q among = shaped (named q.copy (given q among)).copy_is

@@ -25,7 +25,7 @@ pub record HasSettled (copy : DirCopy) (due : List (ℕ × Block)) (s t : BaySta
   pub logs : AreLogsSettled copy t
 
 -- The copy's due pages are written home.
-pub record Settles {T E : Type 0} (result : Result T E) (copy : DirCopy) (due : List (ℕ × Block))
+pub record SettlesCopy {T E : Type 0} (result : Result T E) (copy : DirCopy) (due : List (ℕ × Block))
     (s t : BayState) : Type 0 where
   pub call : Call result copy.slot (ChangesOnly (RegionOf copy)) (λ value. HasSettled copy due)
       (cost (length due + 1) (length due * 4096)) s t
@@ -43,7 +43,7 @@ pub record HasTaken (copy : DirCopy) (was : ℕ → (ℕ → Bytes) → Image �
   pub logs : AreLogsSettled copy t
 
 -- The copy takes pages under a number.
-pub record Takes {T E : Type 0} (result : Result T E) (copy : DirCopy)
+pub record CopyTakesPages {T E : Type 0} (result : Result T E) (copy : DirCopy)
     (was : ℕ → (ℕ → Bytes) → Image → Type 0) (number : ℕ) (pages : List (ℕ × Block)) (most : Cost)
     (s t : BayState) : Type 0 where
   pub call : Call result copy.slot (ChangesOnly (RegionOf copy))
@@ -56,20 +56,20 @@ pub record Takes {T E : Type 0} (result : Result T E) (copy : DirCopy)
 -- pages are put into the log of a copy without due pages, and then home
 abbrev pub LogsAndHomes : {T E : Type 0} → Result T E → DirCopy → ℕ → List (ℕ × Block) → BayState
     → BayState → Type 0
-LogsAndHomes result copy number pages = Takes result copy (IsSettled copy) number pages
+LogsAndHomes result copy number pages = CopyTakesPages result copy (IsSettled copy) number pages
     (cost (length pages + 13) (2 * copy.sector + (2 * length pages + 1) * 4096))
 
 -- pages are committed on a copy with these due pages
 abbrev pub CommitsOne : {T E : Type 0} → Result T E → DirCopy → List (ℕ × Block) → ℕ
     → List (ℕ × Block) → BayState → BayState → Type 0
-CommitsOne result copy due number pages = Takes result copy (IsKept copy due) number pages
+CommitsOne result copy due number pages = CopyTakesPages result copy (IsKept copy due) number pages
     (cost (length due + length pages + 14)
     (2 * copy.sector + (2 * length pages + 1) * 4096 + length due * 4096))
 
 -- ---- several copies
 
 -- Pages are committed on each copy, past faults: the disks of the set failed.
-pub record Commits (copies : List DirCopy) (dues : List Due) (number : ℕ) (pages : List (ℕ × Block))
+pub record CommitsPages (copies : List DirCopy) (dues : List Due) (number : ℕ) (pages : List (ℕ × Block))
     (failed : ℕ) (s t : BayState) : Type 0 where
   -- the same disks stay attached
   pub attached : KeepsAttached s t

@@ -5,7 +5,7 @@ use Rattle.asm_group.specs.Names.{Bytes}
 use Rattle.asm_base.specs.declared.block.Block.{Block}
 use Rattle.asm_formats.specs.Damage.{directory_damage}
 use Rattle.change_directory.specs.declared.copy.DirCopy.{DirCopy}
-use Rattle.change_directory.specs.Changes.{disk, content_in, DecodesIn, IsAtHome}
+use Rattle.change_directory.specs.Changes.{copy_disk_bytes, content_in, DecodesIn, IsAtHome}
 use Rattle.change_directory.specs.Homes.{AreDue, HasHomed}
 use Rattle.change_directory.specs.StoreLaws.{RegionOf}
 use Rattle.page_map.specs.Tables.{PageTable}
@@ -16,7 +16,7 @@ use Rattle.directory_store.specs.declared.due.Due.{Due}
 -- the open log slots decode, and the copy isn't damaged, or each page counts as it stands at home
 pub record IsReadable (copy : DirCopy) (x : Image) : Type 0 where
   pub decodes : DecodesIn copy x
-  pub whole : (directory_damage copy.dir_blocks (disk copy x) ≡ None) ⊎ IsAtHome copy x
+  pub whole : (directory_damage copy.dir_blocks (copy_disk_bytes copy x) ≡ None) ⊎ IsAtHome copy x
 
 -- These pages are due. Once they are written home, each page of a readable copy counts as it stands at home.
 pub record IsRenewable (copy : DirCopy) (due : List (ℕ × Block)) (x : Image) : Type 0 where

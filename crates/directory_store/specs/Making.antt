@@ -19,9 +19,9 @@ pub record HasFilled (copy : DirCopy) (pages : List (ℕ × Block)) (s t : BaySt
   pub durable : Durable copy.slot t
 
 -- The copy is formatted, and these pages are written home.
-abbrev pub Fills : {T E : Type 0} → Result T E → DirCopy → List (ℕ × Block) → BayState → BayState
+abbrev pub FillsCopy : {T E : Type 0} → Result T E → DirCopy → List (ℕ × Block) → BayState → BayState
     → Type 0
-Fills result copy pages = Call result copy.slot (MayEmpty copy) (λ value. HasFilled copy pages)
+FillsCopy result copy pages = Call result copy.slot (MayEmpty copy) (λ value. HasFilled copy pages)
     (cost ((copy.dir_blocks * 4096) / 262144 + length pages + 15)
     (2 * copy.sector + (copy.dir_blocks + length pages) * 4096))
 
@@ -40,7 +40,7 @@ MakesOne result copy number page count = Call result copy.slot (MayMakeCopy copy
 -- ---- several copies
 
 -- Each of the copies is made of so many pages under a number, up to the first that fails.
-pub record Makes {T : Type 0} (result : Result T ℕ) (copies : List DirCopy) (number : ℕ)
+pub record MakesCopies {T : Type 0} (result : Result T ℕ) (copies : List DirCopy) (number : ℕ)
     (page : ℕ → Bytes) (count : ℕ) (s t : BayState) : Type 0 where
   -- the same disks stay attached
   pub attached : KeepsAttached s t

@@ -29,7 +29,7 @@ pub record ReadsDue (result : Result (Vec (ℕ × Block) Global) CopyError) (cop
   pub fault : IsErrOf result Fault → Rose (s.faults copy.slot) (t.faults copy.slot)
 
 -- The copy is brought up to these pages under a number.
-pub record Renews {T : Type 0} (result : Result T CopyError) (copy : DirCopy) (number : ℕ)
+pub record RenewsCopy {T : Type 0} (result : Result T CopyError) (copy : DirCopy) (number : ℕ)
     (page : ℕ → Bytes) (s t : BayState) : Type 0 where
   pub calls : Calls (IsSlot copy.slot) (MayRenewCopy copy number page)
       (cost (2 * copy.dir_blocks + 2 * (copy.dir_blocks / 64) + 36)

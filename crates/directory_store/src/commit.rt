@@ -5,7 +5,7 @@ ghost use Rattle.bay.specs.Moments.{NowOnly};
 ghost use Rattle.change_directory.specs.Places.{IsCopy};
 ghost use Rattle.change_directory.specs.Logs.{AreLogsSettled, are_pages};
 ghost use Rattle.change_directory.specs.Laws.{ArePut};
-ghost use Rattle.directory_store.specs.Commits.{Commits, CommitsOne, LogsAndHomes, Settles};
+ghost use Rattle.directory_store.specs.Commits.{CommitsPages, CommitsOne, LogsAndHomes, SettlesCopy};
 ghost use Rattle.directory_store.specs.Copies.{AllLogsSettled, AreCopiesApart, AreKept, AreNamedCopies, Earlier, IsKept, IsSettled, MayPutOn};
 
 use crate::due::{Due, due_of};
@@ -25,7 +25,7 @@ fn settle<B: Bay>(
     requires pages { IsTrue (are_pages copy.dir_blocks due.now) }
     requires kept { (number : ℕ) × (page : ℕ → Bytes) × NowOnly (B.state bay.old) (IsKept copy due.now number page) }
     requires logs { is_settled ≡ true → AreLogsSettled copy (B.state bay.old) }
-    ensures { Settles result copy due.now (B.state bay.old) (B.state bay.new) }
+    ensures { SettlesCopy result copy due.now (B.state bay.old) (B.state bay.new) }
 {
     if !due.is_empty() {
         return checkpoint(bay, copy, due);
@@ -91,7 +91,7 @@ pub(crate) fn commit_all<B: Bay>(
     requires put { MayPutOn copies.now number pages.now }
     requires kept { Earlier number (λ before page. NowOnly (B.state bay.old) (AreKept copies.now dues.now before page)) }
     requires logs { is_settled ≡ true → AllLogsSettled copies.now (B.state bay.old) }
-    ensures { Commits copies.now dues.now number pages.now result
+    ensures { CommitsPages copies.now dues.now number pages.now result
         (B.state bay.old) (B.state bay.new) }
 {
     let [first, rest @ ..] = copies else {

@@ -14,13 +14,13 @@ use Rattle.session.specs.relocation.Slices.{SliceCause}
 use Rattle.session.specs.relocation.declared.asking.Slice.{Slice}
 use Rattle.session.specs.relocation.declared.asking.Slice.TheVariants as slice
 use Rattle.session.specs.Entries.{disk_name}
-use Rattle.session.specs.Naming.{ChangesGroup, IsMountedName, IsOutCause, group_among, in_state, key_of, of_entry, with_group}
+use Rattle.session.specs.Naming.{ChangesGroup, IsMountedName, IsOutCause, group_among, in_state, key_of, of_entry, with_group_named}
 use Rattle.session.specs.Sessions.{SessionView}
 use Rattle.session.specs.Works.{Doing, DoesOn, DoesWork, IsSpelt, SpellsRefusal, WorksOn}
 use Rattle.session.specs.declared.reply.Reply.{Reply}
 use Rattle.session.proofs.Calls.{found_after}
 use Rattle.disk_commands.specs.declared.waiting.Waited.{Waited}
-use Rattle.disk_commands.specs.Waits.{HasShortCause, HasWaited, IsLeftShort, IsNoShortfall, ReplyWaited, ShortCause, WaitCause, WaitsForRebalance, refusal_in, refused_after, shortfall}
+use Rattle.disk_commands.specs.Waits.{HasShortCause, HasWaited, IsLeftShort, IsNoShortfall, ReplyWaited, ShortCause, WaitCause, WaitsForRebalance, refusal_in, refused_after, refusal_of_rebalance}
 
 -- ---- a rebalance to its end
 
@@ -39,7 +39,7 @@ pub faults_short : (a b : MountedGroup) (s t : BayState) (end : Result Slice Ref
 faults_short a b s t (Ok end) why = tt
 faults_short a b s t (Err e) why = fault_short a b s t e why
 
-pub shortfall_cause : (m : MountedGroup) (end : Result Slice Refusal) → IfOk end (EndCause m) → IfErr end IsNoShortfall → IfSome (shortfall end) (HasShortCause m)
+pub shortfall_cause : (m : MountedGroup) (end : Result Slice Refusal) → IfOk end (EndCause m) → IfErr end IsNoShortfall → IfSome (refusal_of_rebalance end) (HasShortCause m)
 unfolding said
 shortfall_cause m (Ok slice.More) why fault = tt
 shortfall_cause m (Ok slice.Done) why fault = tt
@@ -50,7 +50,7 @@ shortfall_cause m (Err e) why fault = no_short m (disk_name m) e fault
 pub spelt_short : (m : MountedGroup) (raw spelt : Refusal) → (said (λ _. []) spelt ≡ said (disk_name m) raw) ⊎ (said (λ _. []) spelt ≡ r.NoMemory) → HasShortCause m raw → ShortCause m (said (λ _. []) spelt)
 spelt_short m raw spelt is why = ⊎_elim (λ same. subst (ShortCause m) (sym same) why) (λ memory. subst (ShortCause m) (sym memory) tt) is
 
-pub told_waits : (m : MountedGroup) (end : Result Slice Refusal) (raw : Option Refusal) (waited : Waited) → raw ≡ shortfall end → IfOk end (EndCause m) → IfErr end IsNoShortfall
+pub told_waits : (m : MountedGroup) (end : Result Slice Refusal) (raw : Option Refusal) (waited : Waited) → raw ≡ refusal_of_rebalance end → IfOk end (EndCause m) → IfErr end IsNoShortfall
     → (IfSome raw (HasShortCause m) → HasWaited m waited) → WaitsForRebalance (Ok waited) m
 told_waits m end raw waited is why fault told = record { waited = told (subst (λ (o : Option Refusal). IfSome o (HasShortCause m)) (sym is) (shortfall_cause m end why fault)); short = tt }
 
@@ -63,7 +63,7 @@ wait_cause now name m named _ why = tt
 
 -- the group that was worked on has its name still
 left_named : (old new : SessionView) (name : Bytes) (before after : MountedGroup) → map key_of new.entries ≡ map key_of old.entries → group_among old.entries old.groups name ≡ Some before
-    → new.groups ≡ with_group old.entries old.groups name after → group_among new.entries new.groups name ≡ Some after
+    → new.groups ≡ with_group_named old.entries old.groups name after → group_among new.entries new.groups name ≡ Some after
 left_named old new name before after keys named groups =
     ap (λ (gs : List MountedGroup). group_among new.entries gs name) groups ∙ found_after old.entries new.entries old.groups name before after keys named
 

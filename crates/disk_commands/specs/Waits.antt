@@ -26,12 +26,12 @@ ShortCause m another = ⊤
 -- ---- a rebalance to its end
 
 -- the refusal that tells how a rebalance ended
-abbrev pub shortfall : Result Slice Refusal → Option Refusal
-shortfall (Ok slice.More) = None
-shortfall (Ok slice.Done) = None
-shortfall (Ok (slice.NoSpace extent)) = Some (cause.NoSpace extent)
-shortfall (Ok (slice.Lost extent)) = Some (cause.Lost extent)
-shortfall (Err refusal) = Some refusal
+abbrev pub refusal_of_rebalance : Result Slice Refusal → Option Refusal
+refusal_of_rebalance (Ok slice.More) = None
+refusal_of_rebalance (Ok slice.Done) = None
+refusal_of_rebalance (Ok (slice.NoSpace extent)) = Some (cause.NoSpace extent)
+refusal_of_rebalance (Ok (slice.Lost extent)) = Some (cause.Lost extent)
+refusal_of_rebalance (Err refusal) = Some refusal
 
 -- neither NoSpace nor Lost
 abbrev pub IsNoShortfall : Refusal → Type 0

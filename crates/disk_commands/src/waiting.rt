@@ -2,7 +2,7 @@
 ghost use Rattle.std.specs.Prelude.{◌≡◌, ◌⊎◌, ⊤, ◌≤◌, [], length, IfErr, IfOk, IfSome, Some};
 ghost use Rattle.asm_base.specs.Refusals.{said};
 ghost use Rattle.asm_base.specs.declared.refusal.Refusal.TheVariants as cause;
-ghost use Rattle.disk_commands.specs.Waits.{HasShortCause, HasWaited, IsNoShortfall, ReplyWaited, WaitCause, WaitsForRebalance, refusal_in, refused_after, shortfall};
+ghost use Rattle.disk_commands.specs.Waits.{HasShortCause, HasWaited, IsNoShortfall, ReplyWaited, WaitCause, WaitsForRebalance, refusal_in, refused_after, refusal_of_rebalance};
 ghost use Rattle.session.specs.group_engine.Mounts.{Takes};
 ghost use Rattle.session.specs.group_engine.Own.{KeepsGroup};
 ghost use Rattle.session.specs.relocation.Shortfalls.{EndCause};
@@ -79,7 +79,7 @@ fn rebalance_line(
 
 /// The refusal of a rebalance that ended so.
 fn rebalance_refusal(end: Result<Slice, Refusal>) -> Option<Refusal>
-    ensures { result ≡ shortfall end }
+    ensures { result ≡ refusal_of_rebalance end }
 {
     match end {
         Ok(Slice::NoSpace(extent)) => Some(Refusal::NoSpace { extent }),

@@ -2,8 +2,8 @@
 use Rattle.std.specs.Prelude.{ℕ, Bool, ◌==◌, ◌&&◌, nat_lt, List, Option, Some, None}
 use Rattle.std.specs.Ordering.{nat_cmp}
 use Rattle.asm_formats.specs.Items.{DiskInfo, Item, Key, disk_item, disks_kind}
-use Rattle.asm_base.specs.Records.{Entry}
-use Rattle.item_table.specs.Tables.{IsTable as IsKeyTable, add as key_add, at_key, bytes_at, is_before as key_before, record_of as key_record, with_key, without_key}
+use Rattle.asm_base.specs.Records.{DirectoryRecord}
+use Rattle.item_table.specs.Tables.{IsTable as IsKeyTable, add_record as key_add, at_key, bytes_at, is_key_before as key_before, record_of as key_record, with_key, without_key}
 
 -- a disk's number and what its record says
 abbrev pub Disk : Type 0
@@ -19,29 +19,29 @@ with_info disks d info = with_key nat_cmp disks d info
 abbrev pub without_disk : List Disk → ℕ → List Disk
 without_disk disks d = without_key nat_cmp disks d
 
-abbrev pub item_of : Disk → Item
-item_of x = disk_item x.0 x.1
+abbrev pub item_of_disk : Disk → Item
+item_of_disk x = disk_item x.0 x.1
 
-abbrev pub entry_of : Item → Option Disk
-entry_of (disk_item d info) = Some (d, info)
-entry_of _ = None
+abbrev pub disk_of_item : Item → Option Disk
+disk_of_item (disk_item d info) = Some (d, info)
+disk_of_item _ = None
 
-abbrev pub record_of : Disk → Entry
-record_of x = key_record item_of x
+abbrev pub record_of_disk : Disk → DirectoryRecord
+record_of_disk x = key_record item_of_disk x
 
 -- the value of the record of a disk
-abbrev pub value_at : List Disk → ℕ → Option (List ℕ)
-value_at disks d = bytes_at nat_cmp item_of disks d
+abbrev pub disk_value_at : List Disk → ℕ → Option (List ℕ)
+disk_value_at disks d = bytes_at nat_cmp item_of_disk disks d
 
-abbrev pub is_mine : Key → Bool
-is_mine k = (k.kind == disks_kind) && ((k.b == 0) && nat_lt k.a 64)
+abbrev pub is_key_of_disk : Key → Bool
+is_key_of_disk k = (k.kind == disks_kind) && ((k.b == 0) && nat_lt k.a 64)
 
-abbrev pub is_before : ℕ → ℕ → Bool
-is_before m n = key_before nat_cmp m n
+abbrev pub is_lower_disk : ℕ → ℕ → Bool
+is_lower_disk m n = key_before nat_cmp m n
 
 -- disks by number, each with what a record may say
-abbrev pub IsTable : List Disk → Type 0
-IsTable disks = IsKeyTable nat_cmp item_of disks
+abbrev pub IsDiskTable : List Disk → Type 0
+IsDiskTable disks = IsKeyTable nat_cmp item_of_disk disks
 
-abbrev pub add : List Disk → Entry → Option (List Disk)
-add disks e = key_add nat_cmp entry_of disks e
+abbrev pub add_disk_record : List Disk → DirectoryRecord → Option (List Disk)
+add_disk_record disks e = key_add nat_cmp disk_of_item disks e

@@ -8,8 +8,8 @@ ghost use Rattle.asm_base.specs.Records.{all_of};
 ghost use Rattle.asm_base.specs.Tables.{entry_of_record};
 ghost use Rattle.record_values.specs.Values.{disk_reading};
 ghost use Rattle.disk_directory.specs.Disks as disks;
-ghost use Rattle.disk_directory.specs.Disks.{entry_of, is_mine};
-ghost use Rattle.disk_directory.specs.DiskEntries.{are_entries, is_entry};
+ghost use Rattle.disk_directory.specs.Disks.{disk_of_item, is_key_of_disk};
+ghost use Rattle.disk_directory.specs.DiskEntries.{are_disk_entries, is_disk_entry};
 
 use crate::disk_info::DiskInfo;
 use asm_base::{Key, NoMemory, Reader, Value, is_at_end, record_kind, take_u64};
@@ -24,11 +24,11 @@ const MOST_DISKS: u32 = 64;
 pub type DiskTable = KeyTable<u32, DiskInfo>;
 
 impl Listed<u32> for DiskInfo {
-    ghost item_of = { disks.item_of };
+    ghost item_of = { disks.item_of_disk };
 
-    ghost entry_of = { disks.entry_of };
+    ghost entry_of = { disks.disk_of_item };
 
-    ghost is_mine = { disks.is_mine };
+    ghost is_mine = { disks.is_key_of_disk };
 
     ghost place_of = { λ key. key.a };
 
@@ -48,23 +48,23 @@ impl Listed<u32> for DiskInfo {
         self.copy()
     }
 
-    ghost is_entry = { is_entry };
+    ghost is_entry = { is_disk_entry };
 
-    ghost are_entries = { are_entries };
+    ghost are_entries = { are_disk_entries };
 
     ghost exact = { nat_cmp-IsAntisymmetric };
 }
 
 pub fn is_mine(key: Key) -> bool
-    ensures { result ≡ is_mine key }
+    ensures { result ≡ is_key_of_disk key }
 {
     key.kind == record_kind::DISKS && key.b == 0 && key.a < MOST_DISKS
 }
 
 /// What the value of a disk's record spells, or None where it is no disk's.
 fn info_in(alloc: Global, key: Key, value: &Value) -> Result<Option<DiskInfo>, NoMemory>
-    requires { IsTrue (is_mine key) }
-    ensures { IfOk result (λ read. entry_of_record entry_of (key, value.now) ≡ option_map (λ d. (key.a, d)) read) }
+    requires { IsTrue (is_key_of_disk key) }
+    ensures { IfOk result (λ read. entry_of_record disk_of_item (key, value.now) ≡ option_map (λ d. (key.a, d)) read) }
 {
     let read = read_bytes(alloc, value.as_bytes())?;
     Ok(read)

@@ -8,12 +8,12 @@ use Rattle.bay.specs.State.{BayState, KeepsAttached, size_of}
 use Rattle.bay.proofs.Images.{changes-within, changes-trans}
 use Rattle.bay.proofs.OneCall.{Follows}
 use Rattle.gate_slot.specs.declared.place.Place.{Place}
-use Rattle.gate_slot.specs.Slot.{IsUsable, GateOf, is_open_in, Closes, MayClose}
+use Rattle.gate_slot.specs.Slot.{IsUsablePlace, GateOf, is_open_in, Closes, MayClose}
 use Rattle.gate_slot.proofs.Steps.{shown-shut}
-use Rattle.disk_forming.specs.Places.{slot_at, all_gates, other_gates}
+use Rattle.disk_forming.specs.Places.{gated_slot_at, all_gates, other_gates}
 use Rattle.asm_formats.specs.Regions.{region_end}
 use Rattle.asm_formats.specs.Bytes.{block_size}
-use Rattle.disk_forming.specs.Gates.{HasRegion, GatesOf, ShutsGates, MayCloseAll}
+use Rattle.disk_forming.specs.Gates.{HasAttachedRegion, GatesOf, ShutsGates, MayCloseAll}
 
 -- whole blocks are whole sectors
 pub block_sectors : (n sector : ℕ) → (sector ≡ 512) ⊎ (sector ≡ 4096) → (n * 4096) % sector ≡ 0
@@ -26,8 +26,8 @@ pub some_sector : (sector : ℕ) → (sector ≡ 512) ⊎ (sector ≡ 4096) → 
 some_sector sector is = ⊎_elim (λ (e : sector ≡ 512). omega arith) (λ (e : sector ≡ 4096). omega arith) is
 
 -- a slot inside the region may be used
-pub usable_slot : {state : BayState} {slot sector dir_blocks : ℕ} (gate blocks : ℕ) → HasRegion state slot sector dir_blocks → gate + 1 + blocks ≤ region_end dir_blocks
-    → IsUsable state slot (slot_at gate blocks sector)
+pub usable_slot : {state : BayState} {slot sector dir_blocks : ℕ} (gate blocks : ℕ) → HasAttachedRegion state slot sector dir_blocks → gate + 1 + blocks ≤ region_end dir_blocks
+    → IsUsablePlace state slot (gated_slot_at gate blocks sector)
 usable_slot {state} {slot} {sector} {dir_blocks} gate blocks has inside =
     let short : sector ≤ 4096 = short_sector sector has.sector_size in
     let region : (14 + 2 * dir_blocks) * 4096 ≤ size_of state slot = has.region in
@@ -56,32 +56,32 @@ module _ (slot sector : ℕ) (short : sector ≤ 4096) (gates : List ℕ) where
     abbrev pub gate : ℕ
     gate = get_or gates n 0
 
-    in_gates : (x y : Image) → ChangesOnly (GateOf (slot_at gate 1 sector) slot) x y → ChangesOnly (GatesOf slot sector gates) x y
-    in_gates x y step = changes-within (GatesOf slot sector gates) (GateOf (slot_at gate 1 sector) slot) x y (λ s k inside. (n, below, inside)) step
+    in_gates : (x y : Image) → ChangesOnly (GateOf (gated_slot_at gate 1 sector) slot) x y → ChangesOnly (GatesOf slot sector gates) x y
+    in_gates x y step = changes-within (GatesOf slot sector gates) (GateOf (gated_slot_at gate 1 sector) slot) x y (λ s k inside. (n, below, inside)) step
 
-    may_shut_more : (x y z : Image) → ShutsGates slot sector n gates x y → MayClose (slot_at gate 1 sector) slot y z → ChangesOnly (GatesOf slot sector gates) x z
+    may_shut_more : (x y z : Image) → ShutsGates slot sector n gates x y → MayClose (gated_slot_at gate 1 sector) slot y z → ChangesOnly (GatesOf slot sector gates) x z
     may_shut_more x y z so_far step = changes-trans (GatesOf slot sector gates) x y z so_far.elsewhere (in_gates y z step.elsewhere)
 
-    shuts_more : (x y z : Image) → ShutsGates slot sector n gates x y → Closes (slot_at gate 1 sector) slot y z → ShutsGates slot sector (n + 1) gates x z
+    shuts_more : (x y z : Image) → ShutsGates slot sector n gates x y → Closes (gated_slot_at gate 1 sector) slot y z → ShutsGates slot sector (n + 1) gates x z
     shuts_more x y z so_far step = record {
       are_shut = λ i under. ⊎_elim
-          (λ (here : get_or gates i 0 ≡ gate). ap (λ (g : ℕ). is_open_in (slot_at g 1 sector) slot z) here ∙ shown-shut (slot_at gate 1 sector) slot z step.shows)
+          (λ (here : get_or gates i 0 ≡ gate). ap (λ (g : ℕ). is_open_in (gated_slot_at g 1 sector) slot z) here ∙ shown-shut (gated_slot_at gate 1 sector) slot z step.shows)
           (λ (apart : get_or gates i 0 ≢ gate). stays i apart (⊎_elim (λ (last : i ≡ n). absurd (apart (ap (λ (j : ℕ). get_or gates j 0) last))) (λ (other : i ≢ n). so_far.are_shut i (omega arith)) (cases_eq i n)))
           (cases_eq (get_or gates i 0) gate);
       elsewhere = changes-trans (GatesOf slot sector gates) x y z so_far.elsewhere (in_gates y z step.elsewhere);
     }
       where
-        stays : (i : ℕ) → get_or gates i 0 ≢ gate → is_open_in (slot_at (get_or gates i 0) 1 sector) slot y ≡ false → is_open_in (slot_at (get_or gates i 0) 1 sector) slot z ≡ false
+        stays : (i : ℕ) → get_or gates i 0 ≢ gate → is_open_in (gated_slot_at (get_or gates i 0) 1 sector) slot y ≡ false → is_open_in (gated_slot_at (get_or gates i 0) 1 sector) slot z ≡ false
         stays i apart shut =
             let other : ℕ = get_or gates i 0 in
-            let outside : GateOf (slot_at gate 1 sector) slot slot (other * 4096) → ⊥ = λ inside.
+            let outside : GateOf (gated_slot_at gate 1 sector) slot slot (other * 4096) → ⊥ = λ inside.
             let low : gate * 4096 ≤ other * 4096 = inside.1 in
             let high : other * 4096 < gate * 4096 + sector = inside.2 in
             apart (omega arith) in
             ap (λ (b : ℕ). b == 165) (step.elsewhere.byte slot (other * 4096) outside) ∙ shut
 
     -- one gate after those before it
-    pub one_more : Follows (ChangesOnly (GatesOf slot sector gates)) (ShutsGates slot sector n gates) (MayClose (slot_at gate 1 sector) slot) (Closes (slot_at gate 1 sector) slot)
+    pub one_more : Follows (ChangesOnly (GatesOf slot sector gates)) (ShutsGates slot sector n gates) (MayClose (gated_slot_at gate 1 sector) slot) (Closes (gated_slot_at gate 1 sector) slot)
         (ChangesOnly (GatesOf slot sector gates)) (ShutsGates slot sector (n + 1) gates)
     one_more = record { starts = λ x y step. step; goes = may_shut_more; ends = shuts_more }
 
@@ -96,11 +96,11 @@ other_gates_inside dir_blocks (suc (suc (suc (suc (suc zero))))) long below = om
 other_gates_inside dir_blocks (suc (suc (suc (suc (suc (suc n)))))) long below = absurd (omega arith)
 
 -- each of them may be used
-pub usable_gate : {state : BayState} {slot sector dir_blocks : ℕ} (n : ℕ) → HasRegion state slot sector dir_blocks → n < 6 → IsUsable state slot (slot_at (get_or (other_gates dir_blocks) n 0) 1 sector)
+pub usable_gate : {state : BayState} {slot sector dir_blocks : ℕ} (n : ℕ) → HasAttachedRegion state slot sector dir_blocks → n < 6 → IsUsablePlace state slot (gated_slot_at (get_or (other_gates dir_blocks) n 0) 1 sector)
 usable_gate {dir_blocks = dir_blocks} n has below = usable_slot (get_or (other_gates dir_blocks) n 0) 1 has (omega (arith, other_gates_inside dir_blocks n has.long below))
 
 -- other disks stay attached, and so does the region
-pub still_region : {old new : BayState} {slot sector dir_blocks : ℕ} → HasRegion old slot sector dir_blocks → KeepsAttached old new → HasRegion new slot sector dir_blocks
+pub still_region : {old new : BayState} {slot sector dir_blocks : ℕ} → HasAttachedRegion old slot sector dir_blocks → KeepsAttached old new → HasAttachedRegion new slot sector dir_blocks
 still_region {old} {new} {slot} {sector} {dir_blocks} has keeps = record {
   attached = subst IsSome (sym (keeps.same slot)) has.attached;
   sector_size = has.sector_size;
@@ -112,7 +112,7 @@ still_region {old} {new} {slot} {sector} {dir_blocks} has keeps = record {
 
 module _ (slot sector dir_blocks : ℕ) (short : sector ≤ 4096) where
   abbrev pub header : Place
-  header = slot_at 0 1 sector
+  header = gated_slot_at 0 1 sector
 
   -- a change of the other gates leaves the header's
   header_apart : (k : ℕ) → GatesOf slot sector (other_gates dir_blocks) slot k → k < sector → ⊥
@@ -157,7 +157,7 @@ module _ (slot sector dir_blocks : ℕ) (short : sector ≤ 4096) where
     elsewhere = changes-trans (GatesOf slot sector (all_gates dir_blocks)) x y z (header_in x y closed.elsewhere) (others_in y z step.elsewhere);
   }
     where
-      shut : (i : ℕ) → i < 7 → is_open_in (slot_at (get_or (all_gates dir_blocks) i 0) 1 sector) slot z ≡ false
+      shut : (i : ℕ) → i < 7 → is_open_in (gated_slot_at (get_or (all_gates dir_blocks) i 0) 1 sector) slot z ≡ false
       shut zero below = stays_shut some x y z closed step.elsewhere
       shut (suc i) below = step.are_shut i (omega arith)
 

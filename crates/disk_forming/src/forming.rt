@@ -1,7 +1,7 @@
 // A disk becomes a member of a new group. Between its header and its record it is given the directory copy.
 ghost use Rattle.std.specs.Prelude.{◌≡◌, ◌+◌, ◌*◌, length};
-ghost use Rattle.bay.specs.Calls.{Call, Done, cost};
-ghost use Rattle.disk_forming.specs.Gates.{HasRegion};
+ghost use Rattle.bay.specs.Calls.{Call, ChangesEachImage, cost};
+ghost use Rattle.disk_forming.specs.Gates.{HasAttachedRegion};
 ghost use Rattle.asm_formats.specs.Bytes.{block_size};
 ghost use Rattle.disk_forming.specs.Forming.{MayGiveHeader, HasHeader, MayGiveRecord, HasRecord};
 
@@ -19,10 +19,10 @@ pub fn give_header<B: Bay>(
     dir_blocks: u16,
     header: &[u8],
 ) -> Result<(), Fault>
-    requires region { HasRegion (B.state bay.old) slot 512 dir_blocks }
+    requires region { HasAttachedRegion (B.state bay.old) slot 512 dir_blocks }
     requires header { length header.now ≡ block_size }
     ensures { Call result slot (MayGiveHeader slot 512 dir_blocks header.now)
-        (Done (HasHeader slot 512 dir_blocks header.now)) (cost 36 (9 * 512 + block_size))
+        (ChangesEachImage (HasHeader slot 512 dir_blocks header.now)) (cost 36 (9 * 512 + block_size))
         (B.state bay.old) (B.state bay.new) }
 {
     close_all_gates(bay, slot, 512, dir_blocks)?;
@@ -37,11 +37,11 @@ pub fn give_record<B: Bay>(
     claim: &[u8],
     status: &[u8],
 ) -> Result<(), Fault>
-    requires region { HasRegion (B.state bay.old) slot 512 dir_blocks }
+    requires region { HasAttachedRegion (B.state bay.old) slot 512 dir_blocks }
     requires claim { length claim.now ≡ block_size }
     requires status { length status.now ≡ block_size }
     ensures { Call result slot (MayGiveRecord slot 512 claim.now status.now)
-        (Done (HasRecord slot 512 claim.now status.now)) (cost 16 (4 * 512 + 2 * block_size))
+        (ChangesEachImage (HasRecord slot 512 claim.now status.now)) (cost 16 (4 * 512 + 2 * block_size))
         (B.state bay.old) (B.state bay.new) }
 {
     put(bay, slot, block_slot(FIRST_CLAIM, 1, 512), claim)?;

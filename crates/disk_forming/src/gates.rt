@@ -1,9 +1,9 @@
 // Closing the gates of a disk.
 ghost use Rattle.std.specs.Prelude.{◌+◌, ◌*◌, ◌∷◌, []};
-ghost use Rattle.bay.specs.Calls.{Call, Done, cost};
+ghost use Rattle.bay.specs.Calls.{Call, ChangesEachImage, cost};
 ghost use Rattle.bay.specs.Image.{ChangesOnly};
 ghost use Rattle.disk_forming.specs.Places.{other_gates};
-ghost use Rattle.disk_forming.specs.Gates.{HasRegion, GatesOf, ShutsGates, MayCloseAll, ClosesAll};
+ghost use Rattle.disk_forming.specs.Gates.{HasAttachedRegion, GatesOf, ShutsGates, MayCloseAll, ClosesAll};
 
 use crate::places::{block_slot, header_slot};
 use asm_base::{FIRST_CLAIM, FIRST_STATUS, SECOND_CLAIM, SECOND_STATUS};
@@ -17,9 +17,9 @@ pub fn close_all_gates<B: Bay>(
     sector: u32,
     dir_blocks: u16,
 ) -> Result<(), Fault>
-    requires { HasRegion (B.state bay.old) slot sector dir_blocks }
+    requires { HasAttachedRegion (B.state bay.old) slot sector dir_blocks }
     ensures { Call result slot (MayCloseAll slot sector dir_blocks)
-        (Done (ClosesAll slot sector dir_blocks)) (cost 28 (7 * sector))
+        (ChangesEachImage (ClosesAll slot sector dir_blocks)) (cost 28 (7 * sector))
         (B.state bay.old) (B.state bay.new) }
 {
     close_gate(bay, slot, header_slot(sector))?;
@@ -33,9 +33,9 @@ fn close_other_gates<B: Bay>(
     sector: u32,
     dir_blocks: u16,
 ) -> Result<(), Fault>
-    requires { HasRegion (B.state bay.old) slot sector dir_blocks }
+    requires { HasAttachedRegion (B.state bay.old) slot sector dir_blocks }
     ensures { Call result slot (ChangesOnly (GatesOf slot sector (other_gates dir_blocks)))
-        (Done (ShutsGates slot sector 6 (other_gates dir_blocks))) (cost 24 (6 * sector))
+        (ChangesEachImage (ShutsGates slot sector 6 (other_gates dir_blocks))) (cost 24 (6 * sector))
         (B.state bay.old) (B.state bay.new) }
 {
     let dir_blocks = dir_blocks as u32;

@@ -8,12 +8,12 @@ use Rattle.asm_group.specs.declared.GroupKind.{GroupKind}
 use Rattle.asm_group.specs.declared.GroupKind.TheVariants.{External, Normal, High}
 use Rattle.asm_group.specs.Names.{is_name, is_part}
 use Rattle.asm_group.specs.Shape.{Shape, is_shape, is_unit_size, is_step, is_sector, is_dir_blocks, unit_sizes}
-use Rattle.asm_formats.specs.Bytes.{number, name_field, whole_block}
+use Rattle.asm_formats.specs.Bytes.{number_bytes, name_field, whole_block}
 use Rattle.asm_formats.specs.Codes.{flag, kind_code}
 use Rattle.asm_formats.specs.Header.{Header, form, header_fields, header_spelling, is_header, decoded_header}
 use Rattle.asm_formats.proofs.Bodies.{header_codec}
 use Rattle.asm_formats.proofs.Fields.{passes_if_all}
-use Rattle.asm_base.specs.Readings.{both, whole, name_reading}
+use Rattle.asm_base.specs.Readings.{both, whole_reading, name_reading}
 use Rattle.asm_base.proofs.Exact.{IsBytes, IsExact, both_exact, as_exact, fits_exact}
 use Rattle.asm_base.proofs.Numbers.{number_exact}
 use Rattle.asm_base.proofs.WordLaws.{kind_exact}
@@ -22,12 +22,12 @@ use Rattle.asm_base.proofs.NameLaws.{name_exact, name_is_part, name_is_short}
 use Rattle.asm_base.proofs.Decoding.{block_is_decoded}
 use Rattle.disk_header.specs.declared.reading.Ids.{Ids}
 use Rattle.disk_header.specs.declared.reading.Sizes.{Sizes}
-use Rattle.disk_header.specs.Readings.{IdParts, to_ids, ids_reading, SizeParts, to_sizes, sizes_reading, HeaderParts, to_header, header_reading, is_right, right_header}
+use Rattle.disk_header.specs.Readings.{IdParts, to_ids, ids_reading, SizeParts, to_sizes, sizes_reading, HeaderParts, to_header, header_reading, is_right_header, right_header}
 
 -- ---- the groups of fields
 
 ids_fields : Ids → List ℕ
-ids_fields i = number w64 i.id ++ (i.number ∷ number w64 i.birth ++ (kind_code i.kind ∷ []))
+ids_fields i = number_bytes w64 i.id ++ (i.number ∷ number_bytes w64 i.birth ++ (kind_code i.kind ∷ []))
 
 record FitsIds (i : Ids) : Type 0 where
   id : i.id < 2 ^ 64
@@ -45,7 +45,7 @@ ids_exact =
     (as_exact to_ids of_ids (λ p. refl) (λ i. refl) fields)
 
 sizes_fields : Sizes → List ℕ
-sizes_fields s = flag s.quorum ∷ number w32 s.au_size ++ (number w16 s.sector ++ (number w16 s.step ++ number w16 s.dir_blocks))
+sizes_fields s = flag s.quorum ∷ number_bytes w32 s.au_size ++ (number_bytes w16 s.sector ++ (number_bytes w16 s.step ++ number_bytes w16 s.dir_blocks))
 
 record FitsSizes (s : Sizes) : Type 0 where
   au : s.au_size < 2 ^ 32
@@ -105,9 +105,9 @@ spelling_is_grouped : (h : Header) → header_spelling h ≡ whole_block (groupe
 unfolding header_spelling header_fields grouped ids_fields sizes_fields ids_of sizes_of
 spelling_is_grouped h =
     let behind : List ℕ = name_field 30 h.disk ++ (name_field 30 h.failgroup ++ sizes_fields (sizes_of h)) in
-    let birth : (number w64 h.birth ++ (kind_code h.shape.kind ∷ [])) ++ behind ≡ number w64 h.birth ++ (kind_code h.shape.kind ∷ behind) = append_assoc (number w64 h.birth) (kind_code h.shape.kind ∷ []) behind in
-    let id : ids_fields (ids_of h) ++ behind ≡ number w64 h.id ++ (h.number ∷ number w64 h.birth ++ (kind_code h.shape.kind ∷ behind)) =
-    append_assoc (number w64 h.id) (h.number ∷ number w64 h.birth ++ (kind_code h.shape.kind ∷ [])) behind ∙ ap (λ (r : List ℕ). number w64 h.id ++ (h.number ∷ r)) birth in
+    let birth : (number_bytes w64 h.birth ++ (kind_code h.shape.kind ∷ [])) ++ behind ≡ number_bytes w64 h.birth ++ (kind_code h.shape.kind ∷ behind) = append_assoc (number_bytes w64 h.birth) (kind_code h.shape.kind ∷ []) behind in
+    let id : ids_fields (ids_of h) ++ behind ≡ number_bytes w64 h.id ++ (h.number ∷ number_bytes w64 h.birth ++ (kind_code h.shape.kind ∷ behind)) =
+    append_assoc (number_bytes w64 h.id) (h.number ∷ number_bytes w64 h.birth ++ (kind_code h.shape.kind ∷ [])) behind ∙ ap (λ (r : List ℕ). number_bytes w64 h.id ++ (h.number ∷ r)) birth in
     ap (λ (r : List ℕ). whole_block (codes "ASMH" ++ (form ∷ name_field 30 h.group ++ r))) (sym id)
 
 -- ---- what a header may be
@@ -140,8 +140,8 @@ record Right (h : Header) : Type 0 where
   disk : is_name h.disk ≡ true
   failgroup : is_name h.failgroup ≡ true
 
-right_of : (h : Header) → is_right h ≡ true → Right h
-unfolding is_right
+right_of : (h : Header) → is_right_header h ≡ true → Right h
+unfolding is_right_header
 right_of h e =
     let a = and_parts (is_shape h.shape) (is_name h.group && (ltb h.number 64 && (is_name h.disk && is_name h.failgroup))) e in
     let b = and_parts (is_name h.group) (ltb h.number 64 && (is_name h.disk && is_name h.failgroup)) a.1 in
@@ -149,11 +149,11 @@ right_of h e =
     let d = and_parts (is_name h.disk) (is_name h.failgroup) c.1 in
     record { shape = a.0; group = b.0; number = ltb-true _ _ c.0; disk = d.0; failgroup = d.1 }
 
-right_is : (h : Header) → Right h → is_right h ≡ true
-unfolding is_right
+right_is : (h : Header) → Right h → is_right_header h ≡ true
+unfolding is_right_header
 right_is h r = rw (r.shape, r.group, lt-ltb h.number 64 r.number, r.disk, r.failgroup) refl
 
-allowed : (h : Header) → FitsHeader h → is_right h ≡ true → is_header h ≡ true
+allowed : (h : Header) → FitsHeader h → is_right_header h ≡ true → is_header h ≡ true
 unfolding is_header ids_of
 allowed h f e =
     let r = right_of h e in
@@ -180,9 +180,9 @@ fits h e =
       record { shape = a.0; group = b.0; number = number; disk = n.0; failgroup = n.1 },
     )
 
-pub header_is_read : (bytes : List ℕ) → length bytes ≡ 4096 → IsBytes bytes → right_header (whole header_reading bytes) ≡ decoded_header bytes
+pub header_is_read : (bytes : List ℕ) → length bytes ≡ 4096 → IsBytes bytes → right_header (whole_reading header_reading bytes) ≡ decoded_header bytes
 header_is_read bytes len are =
-    block_is_decoded is_right header_exact header_codec spelling_is_grouped allowed (λ h e. let f = fits h e in (f.0, right_is h f.1)) bytes len are
+    block_is_decoded is_right_header header_exact header_codec spelling_is_grouped allowed (λ h e. let f = fits h e in (f.0, right_is h f.1)) bytes len are
 
 -- ---- the fields of a header have their room
 
@@ -211,10 +211,10 @@ has_room h e =
 pub has_room_inside : {v h : Header} → v ≡ h → is_header h ≡ true → HasRoom v
 has_room_inside {v} {h} same e = subst (λ (x : Header). HasRoom x) (sym same) (has_room h e)
 
-by_tests : (h : Header) → h.id < 2 ^ 64 → h.birth < 2 ^ 64 → is_right h ≡ is_header h
-unfolding is_right is_header
+by_tests : (h : Header) → h.id < 2 ^ 64 → h.birth < 2 ^ 64 → is_right_header h ≡ is_header h
+unfolding is_right_header is_header
 by_tests h id birth = rw (lt-ltb h.id (2 ^ 64) id, lt-ltb h.birth (2 ^ 64) birth) refl
 
 -- numbers of their types pass where the other tests do
-pub right_is_header : {v h : Header} → v ≡ h → v.id < 2 ^ 64 → v.birth < 2 ^ 64 → is_right h ≡ is_header h
-right_is_header {v} {h} same id birth = subst (λ (x : Header). is_right x ≡ is_header x) same (by_tests v id birth)
+pub right_is_header : {v h : Header} → v ≡ h → v.id < 2 ^ 64 → v.birth < 2 ^ 64 → is_right_header h ≡ is_header h
+right_is_header {v} {h} same id birth = subst (λ (x : Header). is_right_header x ≡ is_header x) same (by_tests v id birth)

@@ -48,9 +48,9 @@ unfoldable pub header_reading : Reading Header
 header_reading = as_a to_header (both (fixed_reading (codes "ASMH" ++ form ∷ [])) (both (name_reading 30) (both ids_reading (both (name_reading 30) (both (name_reading 30) sizes_reading)))))
 
 -- what is tested besides
-unfoldable pub is_right : Header → Bool
-is_right h = is_shape h.shape && (is_name h.group && (nat_lt h.number 64 && (is_name h.disk && is_name h.failgroup)))
+unfoldable pub is_right_header : Header → Bool
+is_right_header h = is_shape h.shape && (is_name h.group && (nat_lt h.number 64 && (is_name h.disk && is_name h.failgroup)))
 
 -- the header that is read, where it passes
 abbrev pub right_header : Option Header → Option Header
-right_header read = option_and_then (λ h. if is_right h then Some h else None) read
+right_header read = option_and_then (λ h. if is_right_header h then Some h else None) read

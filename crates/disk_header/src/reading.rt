@@ -3,8 +3,8 @@
 ghost use Rattle.std.specs.Prelude.{◌≡◌, ◌≤◌, length, IfOk};
 ghost use Rattle.asm_formats.specs.Header.{decoded_header, is_header};
 ghost use Rattle.asm_base.specs.Cursors.{Reads};
-ghost use Rattle.asm_base.specs.Readings.{whole};
-ghost use Rattle.disk_header.specs.Readings.{ids_reading, sizes_reading, header_reading, is_right, right_header};
+ghost use Rattle.asm_base.specs.Readings.{whole_reading};
+ghost use Rattle.disk_header.specs.Readings.{ids_reading, sizes_reading, header_reading, is_right_header, right_header};
 
 use crate::header::Header;
 use asm_base::{
@@ -31,7 +31,7 @@ fn decode_bytes(alloc: Global, bytes: &[u8]) -> Result<Option<Header>, NoMemory>
 
 fn read_right(alloc: Global, bytes: &[u8]) -> Result<Option<Header>, NoMemory>
     requires { length bytes.now ≤ 4096 }
-    ensures { IfOk result (λ read. read ≡ right_header (whole header_reading bytes.now)) }
+    ensures { IfOk result (λ read. read ≡ right_header (whole_reading header_reading bytes.now)) }
 {
     let Some(header) = read_bytes(alloc, bytes)? else {
         return Ok(None);
@@ -45,7 +45,7 @@ fn read_right(alloc: Global, bytes: &[u8]) -> Result<Option<Header>, NoMemory>
 
 fn read_bytes(alloc: Global, bytes: &[u8]) -> Result<Option<Header>, NoMemory>
     requires { length bytes.now ≤ 4096 }
-    ensures { IfOk result (λ read. read ≡ whole header_reading bytes.now) }
+    ensures { IfOk result (λ read. read ≡ whole_reading header_reading bytes.now) }
 {
     let mut from = Reader { bytes, at: 0 };
     let Some(header) = take_header(alloc, &mut from)? else {
@@ -71,7 +71,7 @@ pub fn is_header(header: &Header) -> bool
 /// The same, where the numbers are those of their types.
 #[tactic(auto, unfolding(crate::specs::Readings::is_right))]
 fn is_right(header: &Header) -> bool
-    ensures { result ≡ is_right header.now }
+    ensures { result ≡ is_right_header header.now }
 {
     let shape = Shape {
         kind: header.kind,

@@ -2,7 +2,7 @@
 
 ghost use Rattle.std.specs.Prelude.{◌≡◌, ◌≤◌, IsTrue};
 ghost use Rattle.asm_formats.specs.Header.{is_header, header_fields, header_spelling};
-ghost use Rattle.asm_base.specs.Cursors.{Puts};
+ghost use Rattle.asm_base.specs.Cursors.{PutsField};
 
 use crate::header::Header;
 use asm_base::{
@@ -24,7 +24,7 @@ pub fn encode(header: &Header, block: &mut Block)
 fn put_header(to: &mut Writer, header: &Header)
     requires start { to.old.at ≡ 0 }
     requires right { IsTrue (is_header header.now) }
-    ensures puts { Puts to.old to.new (header_fields header.now) }
+    ensures puts { PutsField to.old to.new (header_fields header.now) }
     ensures at { to.new.at ≤ 4096 }
 {
     put_bytes(to, b"ASMH\x02");

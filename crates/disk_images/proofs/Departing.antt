@@ -10,7 +10,7 @@ use Rattle.bay.specs.Image.{Range, ChangesOnly, Makes, MayMake}
 use Rattle.bay.proofs.Images.{window-same, changes-within}
 use Rattle.gate_slot.specs.Slot.{GateOf, is_open_in, shown, MayClose}
 use Rattle.gate_slot.proofs.Steps.{shown-closed, shown-shut}
-use Rattle.disk_forming.specs.Places.{slot_at}
+use Rattle.disk_forming.specs.Places.{gated_slot_at}
 use Rattle.disk_forming.specs.Gates.{MayCloseAll}
 use Rattle.asm_formats.specs.Bytes.{block_size, is_open, block}
 use Rattle.asm_formats.specs.Regions.{least_size, header_gate}
@@ -20,7 +20,7 @@ use Rattle.asm_formats.specs.Metadata.{Metadata, metadata, header_of, content_of
 use Rattle.asm_formats.specs.Places.{SameElsewhere, SameButBlocks}
 use Rattle.asm_formats.proofs.Framing.{header_write, content_behind}
 use Rattle.asm_formats.specs.Among.{IsAmong}
-use Rattle.asm_images.specs.Members.{Image, Member, metadata_of, all_members, written, IsOutside}
+use Rattle.asm_images.specs.Members.{ImageBytes, Member, metadata_of, all_members, written, IsOutside}
 use Rattle.asm_images.specs.Bridge.{disk_bytes, disks_in, ChangesSlot}
 use Rattle.asm_images.specs.Kept.{header_in, IsMemberIn}
 use Rattle.asm_images.specs.Sound.{SoundBy}
@@ -30,7 +30,7 @@ use Rattle.asm_images.proofs.Describing.{spare_keeps}
 use Rattle.asm_images.proofs.Outsiders.{other_header_is_elsewhere}
 use Rattle.asm_images.proofs.UserBytes.{metadata_write_keeps_copies}
 use Rattle.asm_images.proofs.Bridges.{disks_are_listed, bytes_are_listed, slot_change, beyond_is_unseen, range_change}
-use Rattle.disk_images.specs.Headers.{History, IsSoundBy, KeepsSound, LeavingKeeps, MakingKeeps, IsRoom, HeaderClosingKeeps, GatesClosingKeeps}
+use Rattle.disk_images.specs.Headers.{History, IsSoundByHistory, KeepsSound, LeavingKeeps, MakingKeeps, IsRoom, HeaderClosingKeeps, GatesClosingKeeps}
 use Rattle.disk_images.proofs.HeaderBytes.{shut_header, same_gate, same_block, gate_shut_none}
 
 set_twice : {A : Type 0} (xs : List A) (i : ℕ) (y z : A) → set (set xs i y) i z ≡ set xs i z
@@ -50,7 +50,7 @@ same_says old new same gate body =
 
 -- ---- of lists of bytes
 
-module _ (id : ℕ) (old : Image) (h : History) (sound : SoundBy id old h.groups h.completed h.begun) (slot : ℕ) (inside : slot < length old) where
+module _ (id : ℕ) (old : ImageBytes) (h : History) (sound : SoundBy id old h.groups h.completed h.begun) (slot : ℕ) (inside : slot < length old) where
   abbrev before : List ℕ
   before = get_or old slot []
 
@@ -89,7 +89,7 @@ module _ (id : ℕ) (old : Image) (h : History) (sound : SoundBy id old h.groups
       }) in
       let after : SoundBy id (written (written old slot shut) slot bytes) h.groups h.completed h.begun =
       outside_keeps id (written old slot shut) h.groups h.completed h.begun left slot bytes (other_header_is_elsewhere id (written old slot shut) slot bytes outside_then other) in
-      subst (λ (image : Image). SoundBy id image h.groups h.completed h.begun) (set_twice old slot shut bytes) after
+      subst (λ (image : ImageBytes). SoundBy id image h.groups h.completed h.begun) (set_twice old slot shut bytes) after
 
   pub spares : (bytes : List ℕ) → metadata bytes ≡ metadata before → SameButBlocks before bytes header_gate 2 → SoundBy id (written old slot bytes) h.groups h.completed h.begun
   spares bytes same change = spare_keeps id old (written old slot bytes) h.groups h.completed h.begun sound (record {
@@ -106,8 +106,8 @@ module _ (h : History) (slot : ℕ) (old new : bay.Image) (changes : ChangesSlot
   -- by whether the slot is looked at
   pub looked_at : (slot < h.slots → SoundBy h.id (written (disks_in h.slots old) slot (disk_bytes new slot)) h.groups h.completed h.begun) → KeepsSound h old new
   looked_at seen sound = ⊎_elim
-      (λ (lt : slot < h.slots). subst (λ (image : Image). SoundBy h.id image h.groups h.completed h.begun) (sym (slot_change h.slots slot old new changes)) (seen lt))
-      (λ (le : h.slots ≤ slot). subst (λ (image : Image). SoundBy h.id image h.groups h.completed h.begun) (sym (beyond_is_unseen h.slots slot old new le changes)) sound)
+      (λ (lt : slot < h.slots). subst (λ (image : ImageBytes). SoundBy h.id image h.groups h.completed h.begun) (sym (slot_change h.slots slot old new changes)) (seen lt))
+      (λ (le : h.slots ≤ slot). subst (λ (image : ImageBytes). SoundBy h.id image h.groups h.completed h.begun) (sym (beyond_is_unseen h.slots slot old new le changes)) sound)
       (cases_lt slot h.slots)
 
   pub leaves : (IsMemberIn h.id new slot → ⊥) → KeepsSound h old new
@@ -153,22 +153,22 @@ making_keeps = λ history slot old new may. ⊎_elim
 
 module _ (h : History) (slot sector : ℕ) (old new : bay.Image) (room : IsRoom slot sector old) where
   module _ (changes : ChangesSlot slot old new) (size : new.size slot ≡ old.size slot) where
-    pub shut_keeps : is_open_in (slot_at 0 1 sector) slot new ≡ false → KeepsSound h old new
+    pub shut_keeps : is_open_in (gated_slot_at 0 1 sector) slot new ≡ false → KeepsSound h old new
     shut_keeps closed = headless h slot old new changes (gate_shut_none slot new (omega (arith, room.1, size)) sector (sym closed))
 
-  module _ (may : MayClose (slot_at 0 1 sector) slot old new) where
+  module _ (may : MayClose (gated_slot_at 0 1 sector) slot old new) where
     gate_change : ChangesSlot slot old new
     gate_change = record { size = λ s differ. may.elsewhere.size s; byte = λ s k differ. may.elsewhere.byte s k (λ inside. differ inside.0) }
 
     blocks_change : SameButBlocks (disk_bytes old slot) (disk_bytes new slot) header_gate 2
-    blocks_change = (range_change 0 slot 0 8192 old new (changes-within (Range slot 0 8192) (GateOf (slot_at 0 1 sector) slot) old new (λ s k inside. (inside.0, omega arith, omega (arith, inside.2, room.0))) may.elsewhere)).1
+    blocks_change = (range_change 0 slot 0 8192 old new (changes-within (Range slot 0 8192) (GateOf (gated_slot_at 0 1 sector) slot) old new (λ s k inside. (inside.0, omega arith, omega (arith, inside.2, room.0))) may.elsewhere)).1
 
     -- the gate's sector was written, and shows what it did
-    module _ (same : shown (slot_at 0 1 sector) slot new ≡ shown (slot_at 0 1 sector) slot old) (opened : is_open_in (slot_at 0 1 sector) slot new ≡ true) where
-      was_open : is_open_in (slot_at 0 1 sector) slot old ≡ true
+    module _ (same : shown (gated_slot_at 0 1 sector) slot new ≡ shown (gated_slot_at 0 1 sector) slot old) (opened : is_open_in (gated_slot_at 0 1 sector) slot new ≡ true) where
+      was_open : is_open_in (gated_slot_at 0 1 sector) slot old ≡ true
       was_open = ⊎_elim (λ yes. yes)
-          (λ no. absurd (false≢true (sym (shown-shut (slot_at 0 1 sector) slot new (same ∙ shown-closed (slot_at 0 1 sector) slot old no)) ∙ opened)))
-          (cases_Bool (is_open_in (slot_at 0 1 sector) slot old))
+          (λ no. absurd (false≢true (sym (shown-shut (gated_slot_at 0 1 sector) slot new (same ∙ shown-closed (gated_slot_at 0 1 sector) slot old no)) ∙ opened)))
+          (cases_Bool (is_open_in (gated_slot_at 0 1 sector) slot old))
 
       says : metadata (disk_bytes new slot) ≡ metadata (disk_bytes old slot)
       says =
@@ -183,8 +183,8 @@ module _ (h : History) (slot sector : ℕ) (old new : bay.Image) (room : IsRoom 
     closing = ⊎_elim
         (λ same. ⊎_elim (λ yes. says_the_same h slot old new gate_change (says same yes) blocks_change)
         (λ no. shut_keeps gate_change (may.elsewhere.size slot) no)
-        (cases_Bool (is_open_in (slot_at 0 1 sector) slot new)))
-        (λ none. shut_keeps gate_change (may.elsewhere.size slot) (shown-shut (slot_at 0 1 sector) slot new none))
+        (cases_Bool (is_open_in (gated_slot_at 0 1 sector) slot new)))
+        (λ none. shut_keeps gate_change (may.elsewhere.size slot) (shown-shut (gated_slot_at 0 1 sector) slot new none))
         may.shows
 
   pub closing_all : (dir_blocks : ℕ) → MayCloseAll slot sector dir_blocks old new → KeepsSound h old new

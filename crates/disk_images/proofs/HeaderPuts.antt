@@ -7,9 +7,9 @@ use Rattle.bay.specs.Image as bay
 use Rattle.bay.specs.Image.{Range, ChangesOnly}
 use Rattle.bay.specs.State.{BayState, IsSound, size_of}
 use Rattle.bay.proofs.Images.{changes-within}
-use Rattle.gate_slot.specs.Slot.{IsUsable, PlaceOf, is_open_in, shown, MayPut}
+use Rattle.gate_slot.specs.Slot.{IsUsablePlace, PlaceOf, is_open_in, shown, MayPut}
 use Rattle.gate_slot.proofs.Steps.{shown-closed}
-use Rattle.disk_forming.specs.Places.{slot_at}
+use Rattle.disk_forming.specs.Places.{gated_slot_at}
 use Rattle.disk_forming.specs.Gates.{ClosesAll}
 use Rattle.disk_forming.proofs.Steps.{has_put_header}
 use Rattle.disk_forming.proofs.Shutting.{block_sectors, short_sector, some_sector}
@@ -19,7 +19,7 @@ use Rattle.asm_formats.specs.Header.{Header, is_header, header_spelling}
 use Rattle.asm_formats.specs.Metadata.{header_of}
 use Rattle.asm_formats.specs.Slots.{IsPut}
 use Rattle.asm_formats.specs.Among.{IsAmong}
-use Rattle.asm_images.specs.Members.{Image, Member, all_members, written, IsOutside}
+use Rattle.asm_images.specs.Members.{ImageBytes, Member, all_members, written, IsOutside}
 use Rattle.asm_images.specs.Bridge.{disk_bytes, disks_in, ChangesSlot}
 use Rattle.asm_images.specs.Kept.{header_in, IsMemberIn}
 use Rattle.asm_images.specs.PutLaws.{bytes_of, OthersClosed}
@@ -28,7 +28,7 @@ use Rattle.asm_images.specs.Steps.{MayJoin}
 use Rattle.asm_images.proofs.Members.{member_is}
 use Rattle.asm_images.proofs.Bridges.{listed, disks_are_listed, bytes_are_listed, shown_is_put}
 use Rattle.asm_images.proofs.PutKeeps.{header_put_keeps}
-use Rattle.disk_images.specs.Headers.{HasHeaderSlot, IsBlank, gates_of, History, IsSoundBy, KeepsSound, HeaderPuttingKeeps, FormattedDisksShow}
+use Rattle.disk_images.specs.Headers.{HasHeaderSlot, IsBlank, gates_of_disk, History, IsSoundByHistory, KeepsSound, HeaderPuttingKeeps, FormattedDisksShow}
 use Rattle.disk_images.proofs.Shapes.{header_sector, header_long}
 use Rattle.disk_images.proofs.HeaderBytes.{same_gate, shut_header, nothing_shown, header_shown}
 use Rattle.disk_images.proofs.Departing.{in_list, looked_at, leaves}
@@ -41,13 +41,13 @@ closed_is_blank slot sector dir_blocks old new many long closed = record {
   shut = λ gate among. shut gate among;
 }
   where
-    here : (gate : ℕ) → gate + 1 ≤ region_end dir_blocks → is_open_in (slot_at gate 1 sector) slot new ≡ false → is_open (disk_bytes new slot) gate ≡ false
+    here : (gate : ℕ) → gate + 1 ≤ region_end dir_blocks → is_open_in (gated_slot_at gate 1 sector) slot new ≡ false → is_open (disk_bytes new slot) gate ≡ false
     here gate inside is = same_gate slot new gate sector (omega (arith, inside, long, closed.elsewhere.size slot)) ∙ is
 
     second : 76 + dir_blocks ≡ 10 + dir_blocks + 66
     second = omega arith
 
-    shut : (gate : ℕ) → IsAmong (gates_of dir_blocks) gate → is_open (disk_bytes new slot) gate ≡ false
+    shut : (gate : ℕ) → IsAmong (gates_of_disk dir_blocks) gate → is_open (disk_bytes new slot) gate ≡ false
     shut gate (inl e) = subst (λ (g : ℕ). is_open (disk_bytes new slot) g ≡ false) (sym e) (here 0 (omega arith) (closed.are_shut 0 (omega arith)))
     shut gate (inr (inl e)) = subst (λ (g : ℕ). is_open (disk_bytes new slot) g ≡ false) (sym e) (here 2 (omega arith) (closed.are_shut 1 (omega arith)))
     shut gate (inr (inr (inl e))) = subst (λ (g : ℕ). is_open (disk_bytes new slot) g ≡ false) (sym e) (here 4 (omega arith) (closed.are_shut 2 (omega arith)))
@@ -65,7 +65,7 @@ blank_long slot dir_blocks image blank = omega (arith, blank.long)
 -- ---- the header
 
 module _ (slot : ℕ) (h : Header) (old new : bay.Image) (ok : is_header h ≡ true) (blank : IsBlank slot h.shape.dir_blocks old)
-    (put : MayPut (slot_at 0 1 h.shape.sector) slot (header_spelling h) old new) where
+    (put : MayPut (gated_slot_at 0 1 h.shape.sector) slot (header_spelling h) old new) where
   abbrev sector : ℕ
   sector = h.shape.sector
 
@@ -82,13 +82,13 @@ module _ (slot : ℕ) (h : Header) (old new : bay.Image) (ok : is_header h ≡ t
   }
 
   in_blocks : ChangesOnly (Range slot 0 8192) old new
-  in_blocks = changes-within (Range slot 0 8192) (PlaceOf (slot_at 0 1 sector) slot) old new
+  in_blocks = changes-within (Range slot 0 8192) (PlaceOf (gated_slot_at 0 1 sector) slot) old new
       (λ s k inside. ⊎_elim (λ gate. (gate.0, omega arith, omega (arith, gate.2, short))) (λ body. (body.0, omega arith, omega (arith, body.2))) inside) put.elsewhere
 
   is_put : IsPut (disk_bytes old slot) (disk_bytes new slot) header_gate (header_spelling h)
   is_put = shown_is_put old new slot 0 (header_spelling h) (omega (arith, long)) in_blocks put.shows
 
-  was_shut : is_open_in (slot_at 0 1 sector) slot old ≡ false
+  was_shut : is_open_in (gated_slot_at 0 1 sector) slot old ≡ false
   was_shut = sym (same_gate slot old 0 sector (omega (arith, long))) ∙ blank.shut 0 (inl refl)
 
   new_long : 40960 ≤ new.size slot
@@ -97,7 +97,7 @@ module _ (slot : ℕ) (h : Header) (old new : bay.Image) (ok : is_header h ≡ t
   -- there is no header, or this one
   header_after : (header_in new slot ≡ None) ⊎ (header_in new slot ≡ Some h)
   header_after = ⊎_elim
-      (λ same. inl (nothing_shown slot new new_long sector (same ∙ shown-closed (slot_at 0 1 sector) slot old was_shut)))
+      (λ same. inl (nothing_shown slot new new_long sector (same ∙ shown-closed (gated_slot_at 0 1 sector) slot old was_shut)))
       (λ other. ⊎_elim (λ none. inl (nothing_shown slot new new_long sector none)) (λ there. inr (header_shown slot new new_long sector h ok there)) other)
       put.shows
 
@@ -109,7 +109,7 @@ module _ (slot : ℕ) (h : Header) (old new : bay.Image) (ok : is_header h ≡ t
         (λ there. apart (ap (λ (x : Header). x.id) (same_Some h is.0 (sym there ∙ is.1)) ∙ is.2))
         header_after)
 
-    abbrev disks : Image
+    abbrev disks : ImageBytes
     disks = disks_in history.slots old
 
     outside : IsOutside (all_members history.id disks) slot
@@ -155,7 +155,7 @@ long_in {s} slot n sound some le x left = by (s.attached slot) refl
         let long : n ≤ size = subst (λ (o : Option ℕ). n ≤ unwrap_or o 0) is le in
         omega (arith, long, sound.sized slot size x is left)
 
-pub usable_header : {s : BayState} {slot sector : ℕ} → HasHeaderSlot s slot sector → IsUsable s slot (slot_at 0 1 sector)
+pub usable_header : {s : BayState} {slot sector : ℕ} → HasHeaderSlot s slot sector → IsUsablePlace s slot (gated_slot_at 0 1 sector)
 usable_header {s} {slot} {sector} has =
     let short = short_sector sector has.sector_size in
     record {

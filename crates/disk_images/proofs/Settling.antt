@@ -7,7 +7,7 @@ use Rattle.bay.specs.State.{BayState, IsSound}
 use Rattle.bay.specs.Moments.{Runs, Holds, Durable, NowOnly}
 use Rattle.bay.proofs.Images.{window-same}
 use Rattle.gate_slot.specs.Slot.{is_open_in}
-use Rattle.disk_forming.specs.Places.{slot_at}
+use Rattle.disk_forming.specs.Places.{gated_slot_at}
 use Rattle.asm_formats.specs.Header.{Header, decoded_header}
 use Rattle.asm_formats.specs.Metadata.{header_of}
 use Rattle.asm_images.specs.Kept.{header_in}
@@ -23,14 +23,14 @@ module _ {s : BayState} (slot size : ℕ) (sound : IsSound s) (attached : s.atta
   read_short short = record { held = λ image holds. (image, holds, short_none slot image (omega (arith, sized image holds, short))) }
 
   module _ (t : BayState) (long : 40960 ≤ size) where
-    pub read_shut : {slots : ℕ → Type 0} → ForSome s.holds (λ image. false ≡ is_open_in (slot_at 0 1 4096) slot image) → Runs slots Same s t → Holds (HeaderIs slot None) s t
+    pub read_shut : {slots : ℕ → Type 0} → ForSome s.holds (λ image. false ≡ is_open_in (gated_slot_at 0 1 4096) slot image) → Runs slots Same s t → Holds (HeaderIs slot None) s t
     read_shut shut run = record {
       held = λ image holds.
           let from = run.held image holds in
           (from.0, from.1, same_header slot from.0 image from.2 ∙ gate_shut_none slot from.0 (omega (arith, sized from.0 from.1, long)) 4096 (shut from.0 from.1));
     }
 
-    pub read_open : {m : BayState} {early later : ℕ → Type 0} (header : Option Header) → ForSome s.holds (λ image. true ≡ is_open_in (slot_at 0 1 4096) slot image)
+    pub read_open : {m : BayState} {early later : ℕ → Type 0} (header : Option Header) → ForSome s.holds (λ image. true ≡ is_open_in (gated_slot_at 0 1 4096) slot image)
         → Runs early Same s m → Runs later Same m t → ForSome m.holds (λ image. header ≡ decoded_header (window (image.byte slot) 4096 4096))
         → Holds (HeaderIs slot header) s t
     read_open header gate first next read = record {

@@ -3,7 +3,7 @@ use Rattle.std.specs.Prelude.{◌≡◌, ◌⊎◌, ℕ, ◌*◌, ◌<◌, ◌�
 use Rattle.bay.specs.Image.{Image, MayMake}
 use Rattle.bay.specs.State.{BayState, size_of}
 use Rattle.gate_slot.specs.Slot.{MayClose, MayPut, HasPut}
-use Rattle.disk_forming.specs.Places.{slot_at}
+use Rattle.disk_forming.specs.Places.{gated_slot_at}
 use Rattle.disk_forming.specs.Gates.{MayCloseAll, ClosesAll}
 use Rattle.disk_forming.specs.Forming.{HasHeader}
 use Rattle.asm_group.specs.Group.{Group}
@@ -25,13 +25,13 @@ pub record HasHeaderSlot (state : BayState) (slot sector : ℕ) : Type 0 where
   pub long : least_size ≤ size_of state slot
 
 -- the gates of a disk whose directory copy has so many pages
-abbrev pub gates_of : ℕ → List ℕ
-gates_of dir_blocks = header_gate ∷ 2 ∷ 4 ∷ 6 ∷ 8 ∷ first_log dir_blocks ∷ second_log dir_blocks ∷ []
+abbrev pub gates_of_disk : ℕ → List ℕ
+gates_of_disk dir_blocks = header_gate ∷ 2 ∷ 4 ∷ 6 ∷ 8 ∷ first_log dir_blocks ∷ second_log dir_blocks ∷ []
 
 -- The disk reaches to the end of such a region, and all its gates are shut.
 pub record IsBlank (slot dir_blocks : ℕ) (image : Image) : Type 0 where
   pub long : region_end dir_blocks * block_size ≤ image.size slot
-  pub shut : (gate : ℕ) → IsAmong (gates_of dir_blocks) gate → is_open (disk_bytes image slot) gate ≡ false
+  pub shut : (gate : ℕ) → IsAmong (gates_of_disk dir_blocks) gate → is_open (disk_bytes image slot) gate ≡ false
 
 -- ---- laws
 
@@ -43,12 +43,12 @@ pub record History : Type 0 where
   pub completed : Option Status
   pub begun : List Status
 
-abbrev pub IsSoundBy : History → Image → Type 0
-IsSoundBy history image = SoundBy history.id (disks_in history.slots image) history.groups history.completed history.begun
+abbrev pub IsSoundByHistory : History → Image → Type 0
+IsSoundByHistory history image = SoundBy history.id (disks_in history.slots image) history.groups history.completed history.begun
 
 -- what is held stays so
 abbrev pub KeepsSound : History → Image → Image → Type 0
-KeepsSound history old new = IsSoundBy history old → IsSoundBy history new
+KeepsSound history old new = IsSoundByHistory history old → IsSoundByHistory history new
 
 -- A disk that is no member of an id afterwards may change in any way.
 abbrev pub LeavingKeeps : Type 0
@@ -65,7 +65,7 @@ IsRoom slot sector image = (sector ≤ block_size) × (least_size ≤ image.size
 -- At each moment while the gate of a header is closed every id keeps its groups.
 abbrev pub HeaderClosingKeeps : Type 0
 HeaderClosingKeeps =
-    (history : History) (slot sector : ℕ) (old new : Image) → IsRoom slot sector old → MayClose (slot_at 0 1 sector) slot old new → KeepsSound history old new
+    (history : History) (slot sector : ℕ) (old new : Image) → IsRoom slot sector old → MayClose (gated_slot_at 0 1 sector) slot old new → KeepsSound history old new
 
 -- So it is while all gates of a disk are closed.
 abbrev pub GatesClosingKeeps : Type 0
@@ -77,10 +77,10 @@ abbrev pub HeaderPuttingKeeps : Type 0
 HeaderPuttingKeeps =
     (history : History) (slot : ℕ) (h : Header) (old new : Image) → IsTrue (is_header h) → IsBlank slot h.shape.dir_blocks old
     → (h.id ≡ history.id → MayJoin history.id (all_members history.id (disks_in history.slots old)) history.groups history.completed history.begun h)
-    → MayPut (slot_at 0 1 h.shape.sector) slot (header_spelling h) old new → KeepsSound history old new
+    → MayPut (gated_slot_at 0 1 h.shape.sector) slot (header_spelling h) old new → KeepsSound history old new
 
 -- A disk whose gates were closed and that has then got a header shows the header alone.
 abbrev pub FormattedDisksShow : Type 0
 FormattedDisksShow =
     (slot : ℕ) (h : Header) (old closed new : Image) → IsTrue (is_header h) → ClosesAll slot h.shape.sector h.shape.dir_blocks old closed
-    → HasPut (slot_at 0 1 h.shape.sector) slot (header_spelling h) closed new → HasHeader slot h.shape.sector h.shape.dir_blocks (header_spelling h) old new
+    → HasPut (gated_slot_at 0 1 h.shape.sector) slot (header_spelling h) closed new → HasHeader slot h.shape.sector h.shape.dir_blocks (header_spelling h) old new

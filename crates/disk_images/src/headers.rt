@@ -1,10 +1,10 @@
 // How a disk gets its open header, and loses it. Gates are written by the sector of the group.
 ghost use Rattle.std.specs.Prelude.{◌≡◌, ◌+◌, ◌*◌, Some, None, OnOk, IsTrue};
 ghost use Rattle.bay.specs.Moments.{NowOnly};
-ghost use Rattle.bay.specs.Calls.{Call, Done, cost};
+ghost use Rattle.bay.specs.Calls.{Call, ChangesEachImage, cost};
 ghost use Rattle.gate_slot.specs.Slot.{MayClose, Closes, MayPut, HasPut};
-ghost use Rattle.disk_forming.specs.Places.{slot_at};
-ghost use Rattle.disk_forming.specs.Gates.{HasRegion, MayCloseAll, ClosesAll};
+ghost use Rattle.disk_forming.specs.Places.{gated_slot_at};
+ghost use Rattle.disk_forming.specs.Gates.{HasAttachedRegion, MayCloseAll, ClosesAll};
 ghost use Rattle.asm_group.specs.Shape.{is_shape};
 ghost use Rattle.asm_formats.specs.Header.{is_header, header_spelling};
 ghost use Rattle.asm_images.specs.Kept.{header_in};
@@ -20,8 +20,8 @@ use gate_slot::{close_gate, put};
 #[tactic(auto, using(crate::proofs::Shapes::few_blocks))]
 pub fn close_gates<B: Bay>(bay: &mut B, slot: u32, shape: Shape) -> Result<(), Fault>
     requires shape { IsTrue (is_shape shape) }
-    requires region { HasRegion (B.state bay.old) slot shape.sector shape.dir_blocks }
-    ensures call { Call result slot (MayCloseAll slot shape.sector shape.dir_blocks) (Done (ClosesAll slot shape.sector shape.dir_blocks))
+    requires region { HasAttachedRegion (B.state bay.old) slot shape.sector shape.dir_blocks }
+    ensures call { Call result slot (MayCloseAll slot shape.sector shape.dir_blocks) (ChangesEachImage (ClosesAll slot shape.sector shape.dir_blocks))
         (cost 28 (7 * shape.sector)) (B.state bay.old) (B.state bay.new) }
     ensures blank { OnOk result (NowOnly (B.state bay.new) (IsBlank slot shape.dir_blocks)) }
 {
@@ -33,8 +33,8 @@ pub fn close_gates<B: Bay>(bay: &mut B, slot: u32, shape: Shape) -> Result<(), F
 pub fn write_header<B: Bay>(bay: &mut B, slot: u32, header: &Header) -> Result<(), Fault>
     requires header { IsTrue (is_header header.now) }
     requires disk { HasHeaderSlot (B.state bay.old) slot header.now.shape.sector }
-    ensures call { Call result slot (MayPut (slot_at 0 1 header.now.shape.sector) slot (header_spelling header.now))
-        (Done (HasPut (slot_at 0 1 header.now.shape.sector) slot (header_spelling header.now)))
+    ensures call { Call result slot (MayPut (gated_slot_at 0 1 header.now.shape.sector) slot (header_spelling header.now))
+        (ChangesEachImage (HasPut (gated_slot_at 0 1 header.now.shape.sector) slot (header_spelling header.now)))
         (cost 8 (2 * header.now.shape.sector + 4096)) (B.state bay.old) (B.state bay.new) }
     ensures there { OnOk result (NowOnly (B.state bay.new) (λ image. header_in image slot ≡ Some header.now)) }
 {
@@ -47,7 +47,7 @@ pub fn write_header<B: Bay>(bay: &mut B, slot: u32, header: &Header) -> Result<(
 /// disk, which may then be a member or not.
 pub fn close_header<B: Bay>(bay: &mut B, slot: u32, shape: Shape) -> Result<(), Fault>
     requires { HasHeaderSlot (B.state bay.old) slot shape.sector }
-    ensures call { Call result slot (MayClose (slot_at 0 1 shape.sector) slot) (Done (Closes (slot_at 0 1 shape.sector) slot))
+    ensures call { Call result slot (MayClose (gated_slot_at 0 1 shape.sector) slot) (ChangesEachImage (Closes (gated_slot_at 0 1 shape.sector) slot))
         (cost 4 shape.sector) (B.state bay.old) (B.state bay.new) }
     ensures gone { OnOk result (NowOnly (B.state bay.new) (λ image. header_in image slot ≡ None)) }
 {

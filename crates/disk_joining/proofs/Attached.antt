@@ -11,8 +11,8 @@ use Rattle.file_extents.specs.group_engine.Mounts.{IsOwn, IsWhole, MountedGroup,
 use Rattle.file_extents.specs.group_engine.declared.attached.Attached.{Attached}
 use Rattle.new_groups.proofs.group_mount.Searches.{sector_of}
 use Rattle.status_register.specs.declared.member.Member.{Member}
-use Rattle.disk_joining.specs.Attaching.{IsAttachable, has_slot, member_of}
-use Rattle.file_extents.specs.group_engine.Members.{HasImage, with_disk}
+use Rattle.disk_joining.specs.Attaching.{IsAttachable, has_disk_in_slot, member_of_image}
+use Rattle.file_extents.specs.group_engine.Members.{HasImage, with_attached_disk}
 use Rattle.disk_joining.specs.Taking.{IsApart, TakesIn}
 use Rattle.disk_joining.specs.declared.attaching.DiskImage.{DiskImage}
 use Rattle.disk_joining.proofs.Takings.{spares_none}
@@ -27,16 +27,16 @@ or_left : (a b : Bool) → a ≡ true → (a || b) ≡ true
 or_left true b is = refl
 or_left false b is = absurd cc
 
-slot_found : (disks : List (Option Attached)) (d slot : ℕ) → slot_at disks d ≡ Some slot → has_slot disks slot ≡ true
+slot_found : (disks : List (Option Attached)) (d slot : ℕ) → slot_at disks d ≡ Some slot → has_disk_in_slot disks slot ≡ true
 slot_found [] d slot is = absurd cc
 slot_found (None ∷ disks) zero slot is = absurd cc
 slot_found (None ∷ disks) (suc d) slot is = slot_found disks d slot is
 slot_found (Some a ∷ disks) zero slot is =
     let same : a.slot ≡ slot = cc in
-    or_left (a.slot == slot) (has_slot disks slot) (eq-eqb a.slot slot same)
-slot_found (Some a ∷ disks) (suc d) slot is = or_right (a.slot == slot) (has_slot disks slot) (slot_found disks d slot is)
+    or_left (a.slot == slot) (has_disk_in_slot disks slot) (eq-eqb a.slot slot same)
+slot_found (Some a ∷ disks) (suc d) slot is = or_right (a.slot == slot) (has_disk_in_slot disks slot) (slot_found disks d slot is)
 
-pub not_own : (m : MountedGroup) (slot : ℕ) → IsWhole m → has_slot m.disks slot ≡ false → IsOwn m slot → ⊥
+pub not_own : (m : MountedGroup) (slot : ℕ) → IsWhole m → has_disk_in_slot m.disks slot ≡ false → IsOwn m slot → ⊥
 not_own m slot whole none own =
     let at : slot_at m.disks own.0 ≡ Some own.1.slot = whole.disks own.0 ∙ ap (option_map (λ (x : Member). x.slot)) own.2 in
     true≢false (sym (slot_found m.disks own.0 slot (at ∙ ap Some (sym own.3))) ∙ none)
@@ -52,7 +52,7 @@ set_some (k ∷ xs) (suc i) (suc j) x y is = set_some xs i j x y is
 
 module _ (held : List ℕ) (m : MountedGroup) (s : BayState) (image : DiskImage) (is : IsAttachable held m image) where
   abbrev x : Member
-  x = member_of m image
+  x = member_of_image m image
 
   pub has_image : IsWhole m → s.attached image.slot ≡ Some image.size → HasImage x image.size s
   has_image whole attached = record {
@@ -64,7 +64,7 @@ module _ (held : List ℕ) (m : MountedGroup) (s : BayState) (image : DiskImage)
     attached = attached;
   }
 
-  pub attach_taken : IsApart held m → Takes (with_disk m x image.size) s → TakesIn held m (with_disk m x image.size) s s
+  pub attach_taken : IsApart held m → Takes (with_attached_disk m x image.size) s → TakesIn held m (with_attached_disk m x image.size) s s
   attach_taken apart takes = record {
     name = refl;
     id = refl;

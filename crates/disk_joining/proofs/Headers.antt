@@ -17,7 +17,7 @@ use Rattle.new_groups.specs.group_mount.Verdicts.{IsSlotIn}
 use Rattle.new_groups.specs.group_mount.declared.finding.Headed.{Headed}
 use Rattle.new_groups.specs.Drafts.{AreDisksApart}
 use Rattle.new_groups.specs.Forming.{Works}
-use Rattle.new_groups.specs.Tests.{are_apart, is_apart}
+use Rattle.new_groups.specs.Tests.{are_disks_apart, is_apart}
 use Rattle.new_groups.proofs.DiskLists.{among_at}
 use Rattle.disk_joining.specs.Joiners.{AreJoiners, ShowHeaders, ShowsHeader}
 
@@ -58,7 +58,7 @@ apart_from_all h (x ∷ xs) passes k among =
     ))
     (λ later. apart_from_all h xs q.1 k later) among
 
-pub disks_apart : (hs : List Headed) → are_apart hs ≡ true → AreDisksApart hs
+pub disks_apart : (hs : List Headed) → are_disks_apart hs ≡ true → AreDisksApart hs
 disks_apart [] passes = tt
 disks_apart (h ∷ hs) passes =
     let p = and_parts (is_apart h hs) _ passes in

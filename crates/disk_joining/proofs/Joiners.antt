@@ -38,15 +38,15 @@ use Rattle.file_extents.specs.group_engine.Mounts.{IsOwn, IsWhole, MountedGroup,
 use Rattle.new_groups.specs.group_mount.Verdicts.{IsSlotIn}
 use Rattle.new_groups.specs.group_mount.declared.finding.Headed.{Headed}
 use Rattle.new_groups.proofs.group_mount.Searches.{sector_of}
-use Rattle.disk_images.specs.disk_forming.Gates.{HasRegion}
+use Rattle.disk_images.specs.disk_forming.Gates.{HasAttachedRegion}
 use Rattle.status_register.specs.Holders.{numbered}
 use Rattle.status_register.specs.Registered.{Registered}
 use Rattle.status_register.specs.declared.member.Member.{Member}
 use Rattle.new_groups.specs.Forming.{AreHeadable, AreLong, Works}
-use Rattle.new_groups.specs.Tests.{are_apart, is_there, shows_size}
+use Rattle.new_groups.specs.Tests.{are_disks_apart, is_image_there, shows_size}
 use Rattle.new_groups.specs.group_mount.Founds.{is_held}
 use Rattle.new_groups.proofs.DiskLists.{pages_of}
-use Rattle.disk_joining.specs.Attaching.{has_slot}
+use Rattle.disk_joining.specs.Attaching.{has_disk_in_slot}
 use Rattle.disk_joining.specs.Joiners.{AreJoiners, HasEntryWithBirth, AreEntered, IsJoiner, CanJoin, are_free, are_unrecorded, is_entered, records_disk, are_entered, fits_shape, may_join}
 use Rattle.disk_joining.specs.Taking.{IsApart, TakesIn}
 use Rattle.disk_joining.specs.declared.joining.Joining.{Joining}
@@ -71,11 +71,11 @@ shown_in looked slot size passes = ⊎_elim
     (slice_get_cases looked slot).1
 
 module _ (m : MountedGroup) (whole : IsWhole m) (looked : List Looked) (held : List ℕ) (s t : BayState) (are : AreLooked looked s t) where
-  joiner_is : (h : Headed) → fits_shape m.catalog.shape h ≡ true → (is_there looked held h && not (has_slot m.disks h.slot)) ≡ true → IsJoiner held m h t
+  joiner_is : (h : Headed) → fits_shape m.catalog.shape h ≡ true → (is_image_there looked held h && not (has_disk_in_slot m.disks h.slot)) ≡ true → IsJoiner held m h t
   joiner_is h right free =
       let p = and_parts (is_header h.header) _ right in
       let q = and_parts (h.header.shape.sector == m.catalog.shape.sector) _ p.1 in
-      let f = and_parts (is_there looked held h) _ free in
+      let f = and_parts (is_image_there looked held h) _ free in
       let a = and_parts (shows_size (slice_get looked h.slot) h.size) _ f.0 in
       let b = and_parts (has_region h.header.shape.dir_blocks h.size) _ a.1 in
       let shown = shown_in looked h.slot h.size a.0 in
@@ -87,14 +87,14 @@ module _ (m : MountedGroup) (whole : IsWhole m) (looked : List Looked) (held : L
         attached = read.attached;
         long = leb-true (region_end h.header.shape.dir_blocks * block_size) h.size b.0;
         free = λ is. false≢true (sym (not-true (is_held held h.slot) b.1) ∙ is);
-        other = not_own m h.slot whole (not-true (has_slot m.disks h.slot) f.1);
+        other = not_own m h.slot whole (not-true (has_disk_in_slot m.disks h.slot) f.1);
       }
 
   joiners_are : (hs : List Headed) → are_free m looked held hs ≡ true → AreJoiners held m hs t
   joiners_are [] passes h among = absurd among
   joiners_are (k ∷ ks) passes h among =
       let p = and_parts (fits_shape m.catalog.shape k) _ passes in
-      let q = and_parts (is_there looked held k && not (has_slot m.disks k.slot)) _ p.1 in
+      let q = and_parts (is_image_there looked held k && not (has_disk_in_slot m.disks k.slot)) _ p.1 in
       ⊎_elim
       (λ (e : h ≡ k). subst (λ (x : Headed). IsJoiner held m x t) (sym e) (joiner_is k p.0 q.0))
       (λ later. joiners_are ks q.1 h later) among
@@ -130,7 +130,7 @@ pub joining_may : (m : MountedGroup) → IsWhole m → (found looked : List Look
 joining_may m whole found looked held j s t same are passes =
     let p = and_parts (nat_le (length j.records.items) 64) _ passes in
     let q = and_parts (are_free m looked held j.disks.items) _ p.1 in
-    let r = and_parts (are_apart j.disks.items) _ q.1 in
+    let r = and_parts (are_disks_apart j.disks.items) _ q.1 in
     record {
       apart = disks_apart j.disks.items r.0;
       disks = joiners_are m whole looked held s t (subst (λ (l : List Looked). AreLooked l s t) (sym same) are) j.disks.items q.0;
@@ -199,7 +199,7 @@ pub joiners_attached : (held : List ℕ) (m : MountedGroup) (hs : List Headed) {
 joiners_attached held m hs {s} {t} stays joiners h among = stays.stays h.slot h.size (joiners h among).attached
 
 -- a disk that reaches to the end of its region has a place for a header
-pub long_header : (slot sector pages : ℕ) (s : BayState) → HasRegion s slot sector pages → HasHeaderSlot s slot sector
+pub long_header : (slot sector pages : ℕ) (s : BayState) → HasAttachedRegion s slot sector pages → HasHeaderSlot s slot sector
 long_header slot sector pages s region = record { attached = region.attached; sector_size = region.sector_size; long = omega (arith, region.long, region.region) }
 
 -- the header of one of the disks is closed

@@ -17,7 +17,7 @@ use Rattle.file_extents.specs.catalog_tables.Tables.{Catalogued}
 use Rattle.disk_images.specs.Looks.{AreLooked}
 use Rattle.disk_images.specs.declared.looking.Looked.{Looked}
 use Rattle.file_extents.specs.group_engine.Mounts.{MountedGroup}
-use Rattle.new_groups.specs.Causes.{candidates, first_of, first_refused, image_refusals, places_at, small_refusal, terms_of}
+use Rattle.new_groups.specs.Causes.{creation_disks, first_refusal, first_refused, image_refusals, places_at, small_refusal, terms_of}
 use Rattle.new_groups.specs.Planning.{disk_count}
 use Rattle.new_groups.specs.declared.asked.Known.{Known}
 use Rattle.new_groups.specs.declared.places.Place.{Place}
@@ -49,12 +49,12 @@ full_refusal need free = if nat_lt free need then Some (r.DirectoryFull need fre
 -- why the disks, on these images, can't join the group
 abbrev pub group_refusals : MountedGroup → List PlannedDisk → List Terms → List Place → List (Option r.Refusal)
 group_refusals m disks terms places =
-    names_refusal (group_rows m) disks ∷ first_refused (small_refusal m.catalog.shape) (candidates disks terms places) ∷ full_refusal (length disks) (free_blocks m.catalog) ∷ []
+    names_refusal (group_rows m) disks ∷ first_refused (small_refusal m.catalog.shape) (creation_disks disks terms places) ∷ full_refusal (length disks) (free_blocks m.catalog) ∷ []
 
 -- What stands against the disks by what was looked at, in this order.
 abbrev pub add_refusal : Known → MountedGroup → List Bytes → List Looked → Asked → Option r.Refusal
 add_refusal all m paths looked a =
-    first_of (image_refusals all paths looked a.disks.items a.terms.items ++ group_refusals m a.disks.items a.terms.items (places_at paths looked a.disks.items))
+    first_refusal (image_refusals all paths looked a.disks.items a.terms.items ++ group_refusals m a.disks.items a.terms.items (places_at paths looked a.disks.items))
 
 -- ---- why nothing is written
 
@@ -80,9 +80,9 @@ pub record IsRefusedByLook (paths : List Bytes) (groups : List NewFailgroup) (kn
 
 -- Why an ADD is refused before its first write.
 pub data IsNotPrepared (paths : List Bytes) (groups : List NewFailgroup) (known : Known) (m : MountedGroup) (refusal : r.Refusal) (s t : BayState) : Type 0 where
-  by_count : IsTooManyMore m.register.value.entries groups refusal → IsNotPrepared paths groups known m refusal s t
-  by_look : IsRefusedByLook paths groups known m refusal s t → IsNotPrepared paths groups known m refusal s t
-  by_memory : refusal ≡ r.NoMemory → IsNotPrepared paths groups known m refusal s t
+  by_too_many : IsTooManyMore m.register.value.entries groups refusal → IsNotPrepared paths groups known m refusal s t
+  by_refused_look : IsRefusedByLook paths groups known m refusal s t → IsNotPrepared paths groups known m refusal s t
+  by_lack_of_memory : refusal ≡ r.NoMemory → IsNotPrepared paths groups known m refusal s t
 
 -- ---- why what was begun is refused
 

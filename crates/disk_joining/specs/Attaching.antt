@@ -15,19 +15,19 @@ is_in None slot = false
 is_in (Some a) slot = a.slot == slot
 
 -- one of the attached disks is in the slot
-abbrev pub has_slot : List (Option Attached) → ℕ → Bool
-has_slot [] slot = false
-has_slot (a ∷ disks) slot = is_in a slot || has_slot disks slot
+abbrev pub has_disk_in_slot : List (Option Attached) → ℕ → Bool
+has_disk_in_slot [] slot = false
+has_disk_in_slot (a ∷ disks) slot = is_in a slot || has_disk_in_slot disks slot
 
 -- ---- images
 
 -- the disk as the register sees it
-abbrev pub member_of : MountedGroup → DiskImage → Member
-member_of m image = record { slot = image.slot; number = image.number; birth = image.birth; sector = m.catalog.shape.sector }
+abbrev pub member_of_image : MountedGroup → DiskImage → Member
+member_of_image m image = record { slot = image.slot; number = image.number; birth = image.birth; sector = m.catalog.shape.sector }
 
 -- The group takes calls and has a place for the disk, the image is long enough, and in none of these slots.
 pub record IsAttachable (held : List ℕ) (m : MountedGroup) (image : DiskImage) : Type 0 where
   pub mounted : IsMounted m
-  pub place : HasPlace m (member_of m image)
+  pub place : HasPlace m (member_of_image m image)
   pub long : least_size ≤ image.size
   pub free : IsHeldSlot held image.slot → ⊥

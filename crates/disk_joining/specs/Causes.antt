@@ -78,5 +78,5 @@ pub record IsMissed (slots : ℕ) (held : List ℕ) (m : MountedGroup) (disks : 
 -- Why disks of a set don't come back: by the modes of the disks, since one isn't there, or since a record is refused.
 pub data OnlineCause (slots : ℕ) (held : List ℕ) (old : MountedGroup) (disks : ℕ) (new : MountedGroup) (s t : BayState) (given : Refusal) : Type 0 where
   by_state : JoinStateCause old disks given → OnlineCause slots held old disks new s t given
-  by_look : IsMissed slots held old disks s t given → OnlineCause slots held old disks new s t given
+  by_missed_disks : IsMissed slots held old disks s t given → OnlineCause slots held old disks new s t given
   by_record : StepCause old new s t given → OnlineCause slots held old disks new s t given

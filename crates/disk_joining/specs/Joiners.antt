@@ -20,8 +20,8 @@ use Rattle.new_groups.specs.group_disks.Holding.{IsHeldSlot}
 use Rattle.file_extents.specs.group_engine.Mounts.{IsMounted, IsOwn, MountedGroup}
 use Rattle.new_groups.specs.group_mount.declared.finding.Headed.{Headed}
 use Rattle.new_groups.specs.Drafts.{AreDisksApart}
-use Rattle.new_groups.specs.Tests.{are_apart, is_there}
-use Rattle.disk_joining.specs.Attaching.{has_slot}
+use Rattle.new_groups.specs.Tests.{are_disks_apart, is_image_there}
+use Rattle.disk_joining.specs.Attaching.{has_disk_in_slot}
 use Rattle.disk_joining.specs.AddCauses.{JoinCause}
 use Rattle.disk_joining.specs.Taking.{TakesIn}
 use Rattle.disk_joining.specs.declared.joining.Joining.{Joining}
@@ -55,7 +55,7 @@ fits_shape s h = is_header h.header && ((h.header.shape.sector == s.sector) && (
 
 abbrev pub are_free : MountedGroup → List Looked → List ℕ → List Headed → Bool
 are_free m looked held [] = true
-are_free m looked held (h ∷ hs) = fits_shape m.catalog.shape h && ((is_there looked held h && not (has_slot m.disks h.slot)) && are_free m looked held hs)
+are_free m looked held (h ∷ hs) = fits_shape m.catalog.shape h && ((is_image_there looked held h && not (has_disk_in_slot m.disks h.slot)) && are_free m looked held hs)
 
 -- one of the records is that of the disk of a number
 abbrev pub records_disk : List Disk → ℕ → Bool
@@ -68,7 +68,7 @@ are_unrecorded disks [] = true
 are_unrecorded disks (x ∷ xs) = is_item (disk_item x.0 x.1) && (not (is_some (info_at disks x.0)) && (not (records_disk xs x.0) && are_unrecorded disks xs))
 
 abbrev pub may_join : MountedGroup → List Looked → List ℕ → Joining → Bool
-may_join m looked held j = nat_le (length j.records.items) 64 && (are_free m looked held j.disks.items && (are_apart j.disks.items && are_unrecorded m.catalog.tables.disks j.records.items))
+may_join m looked held j = nat_le (length j.records.items) 64 && (are_free m looked held j.disks.items && (are_disks_apart j.disks.items && are_unrecorded m.catalog.tables.disks j.records.items))
 
 -- the disks are those that are asked for, in their order: they have their names, and the numbers that these are given
 abbrev pub are_asked : List Headed → List PlannedDisk → List ℕ → Bool

@@ -7,21 +7,21 @@ use Rattle.asm_formats.specs.Status.{Entry}
 use Rattle.disk_images.specs.declared.looking.Looked.{Looked}
 use Rattle.disk_images.specs.declared.looking.Looked.TheVariants.{Absent, Unread, Read}
 use Rattle.file_extents.specs.group_engine.Mounts.{MountedGroup, slot_at}
-use Rattle.disk_joining.specs.Attaching.{has_slot}
+use Rattle.disk_joining.specs.Attaching.{has_disk_in_slot}
 use Rattle.disk_joining.specs.declared.attaching.DiskImage.{DiskImage}
 
 -- ---- which image is a disk
 
 -- an image of so many bytes with this header is the disk of an entry of the id's group: it has its number and birth, and room for its units
-abbrev pub is_disk_of : ℕ → Entry → Header → ℕ → Bool
-is_disk_of id e h size = (h.id == id) && ((h.number == e.number) && ((h.birth == e.birth) && nat_le (e.units * h.shape.au) size))
+abbrev pub is_image_of_entry : ℕ → Entry → Header → ℕ → Bool
+is_image_of_entry id e h size = (h.id == id) && ((h.number == e.number) && ((h.birth == e.birth) && nat_le (e.units * h.shape.au) size))
 
 -- a look has shown the disk of an entry
 abbrev pub shows_disk : ℕ → Entry → Looked → Bool
 shows_disk id e Absent = false
 shows_disk id e (Unread size) = false
 shows_disk id e (Read size None) = false
-shows_disk id e (Read size (Some h)) = is_disk_of id e h size
+shows_disk id e (Read size (Some h)) = is_image_of_entry id e h size
 
 -- so it is, where there was a look
 abbrev pub shows_at : ℕ → Entry → Option Looked → Bool
@@ -29,13 +29,13 @@ shows_at id e None = false
 shows_at id e (Some looked) = shows_disk id e looked
 
 -- the slot is neither one of the group's own disks nor one of these
-abbrev pub is_free : List ℕ → MountedGroup → ℕ → Bool
-is_free held m slot = not (has_slot m.disks slot) && not (list_any (λ s. s == slot) held)
+abbrev pub is_slot_free : List ℕ → MountedGroup → ℕ → Bool
+is_slot_free held m slot = not (has_disk_in_slot m.disks slot) && not (list_any (λ s. s == slot) held)
 
 -- one of the looks at the slots from this one on has shown the disk of an entry, in a slot that is free
 abbrev pub shows_in_free : List ℕ → MountedGroup → Entry → List Looked → ℕ → Bool
 shows_in_free held m e [] slot = false
-shows_in_free held m e (looked ∷ more) slot = (shows_disk m.register.value.id e looked && is_free held m slot) || shows_in_free held m e more (slot + 1)
+shows_in_free held m e (looked ∷ more) slot = (shows_disk m.register.value.id e looked && is_slot_free held m slot) || shows_in_free held m e more (slot + 1)
 
 -- The disk of an entry is there, by looks at all slots: where a disk of its number is attached, that one's slot shows it, and else a free slot does.
 abbrev pub is_present : List Looked → List ℕ → MountedGroup → Entry → Bool

@@ -3,7 +3,7 @@ ghost use Rattle.std.specs.Prelude.{◌≡◌, Some};
 ghost use Rattle.std.specs.Bool.{OnTrue};
 ghost use Rattle.file_extents.specs.group_engine.Mounts.{Takes};
 ghost use Rattle.disk_joining.specs.Taking.{IsApart, TakesIn};
-ghost use Rattle.disk_joining.specs.Attaching.{IsAttachable, member_of};
+ghost use Rattle.disk_joining.specs.Attaching.{IsAttachable, member_of_image};
 
 use crate::slots::is_held;
 use bay::Bay;
@@ -24,7 +24,7 @@ pub struct DiskImage {
 
 /// The disk as the register sees it.
 fn member_of(m: &Mounted, image: DiskImage) -> Member
-    ensures { result ≡ member_of m.now image }
+    ensures { result ≡ member_of_image m.now image }
 {
     Member {
         slot: image.slot,

@@ -1,8 +1,8 @@
 //! What new disks become is tried before the first write.
 ghost use Rattle.std.specs.Prelude.{◌≡◌, ◌&&◌, is_some, not};
 ghost use Rattle.new_groups.specs.disk_directory.Disks.{info_at};
-ghost use Rattle.new_groups.specs.Tests.{is_there};
-ghost use Rattle.disk_joining.specs.Attaching.{has_slot};
+ghost use Rattle.new_groups.specs.Tests.{is_image_there};
+ghost use Rattle.disk_joining.specs.Attaching.{has_disk_in_slot};
 ghost use Rattle.disk_joining.specs.Joiners.{are_free, are_asked, are_unrecorded, is_entered, records_disk, are_entered, fits_shape, may_join};
 
 use crate::joining::Joining;
@@ -33,7 +33,7 @@ fn has_shape(m: &Mounted, disk: &Headed) -> bool
 
 /// Whether the disk may be written: its image was read and is long enough, and neither this group nor another has it.
 fn is_free(m: &Mounted, looked: &[Looked], held: &[u32], disk: &Headed) -> bool
-    ensures { result ≡ (is_there looked.now held.now disk.now && not (has_slot m.now.disks disk.now.slot)) }
+    ensures { result ≡ (is_image_there looked.now held.now disk.now && not (has_disk_in_slot m.now.disks disk.now.slot)) }
 {
     is_there(looked, held, disk) && !is_own(m, disk.slot)
 }

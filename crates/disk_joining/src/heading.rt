@@ -1,7 +1,7 @@
 //! New disks get their headers.
 ghost use Rattle.std.specs.Prelude.{◌<◌, ◌≤◌, ◌∷◌, [], IfErr, IsTrue, OnErr, OnOk, length};
 ghost use Rattle.asm_group.specs.Shape.{is_shape};
-ghost use Rattle.disk_images.specs.disk_forming.Gates.{HasRegion};
+ghost use Rattle.disk_images.specs.disk_forming.Gates.{HasAttachedRegion};
 ghost use Rattle.new_groups.specs.Drafts.{AreDisksApart};
 ghost use Rattle.new_groups.specs.Forming.{AreHeadable, AreLong, IsHeadable, Works};
 ghost use Rattle.disk_joining.specs.AddCauses.{SomeFailed};
@@ -15,7 +15,7 @@ use new_groups::Headed;
 /// Closes the gates of a disk, and gives it its header.
 fn give_header<B: Bay>(bay: &mut B, disk: &Headed, shape: Shape) -> Result<(), Fault>
     requires shape { IsTrue (is_shape shape) }
-    requires region { HasRegion (B.state bay.old) disk.now.slot shape.sector shape.dir_blocks }
+    requires region { HasAttachedRegion (B.state bay.old) disk.now.slot shape.sector shape.dir_blocks }
     requires header { IsHeadable disk.now (B.state bay.old) }
     ensures works { Works (disk.now ∷ []) (B.state bay.old) (B.state bay.new) }
     ensures shows { OnOk result (ShowsHeader disk.now (B.state bay.new)) }
@@ -49,7 +49,7 @@ pub fn give_headers<B: Bay>(bay: &mut B, disks: &[Headed], shape: Shape) -> Resu
 
 /// Closes the header of a disk. That it fails changes nothing of what comes after.
 fn take_header<B: Bay>(bay: &mut B, disk: &Headed, shape: Shape)
-    requires { HasRegion (B.state bay.old) disk.now.slot shape.sector shape.dir_blocks }
+    requires { HasAttachedRegion (B.state bay.old) disk.now.slot shape.sector shape.dir_blocks }
     ensures { Works (disk.now ∷ []) (B.state bay.old) (B.state bay.new) }
 {
     let _ = close_header(bay, disk.slot, shape);

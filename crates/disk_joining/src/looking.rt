@@ -3,7 +3,7 @@ ghost use Rattle.std.specs.Prelude.{◌≡◌, ◌≤◌, ◌++◌, [], IfErr, I
 ghost use Rattle.std.specs.String.{string_bytes};
 ghost use Rattle.asm_base.specs.Refusals.{said};
 ghost use Rattle.asm_group.specs.Shape.{is_shape};
-ghost use Rattle.new_groups.specs.Causes.{IsThisRefusal, candidates, first_of, first_refused, image_refusals, places_at, small_refusal};
+ghost use Rattle.new_groups.specs.Causes.{IsThisRefusal, creation_disks, first_refusal, first_refused, image_refusals, places_at, small_refusal};
 ghost use Rattle.disk_joining.specs.AddCauses.{add_refusal, free_blocks, full_refusal, group_refusals};
 ghost use Rattle.disk_joining.specs.Asking.{IsKnownWith, own_disks, own_slots};
 
@@ -78,8 +78,8 @@ fn units_of(
     places: &[Place],
 ) -> Result<Vec<u32>, Refusal>
     requires shape { IsTrue (is_shape m.now.catalog.shape) }
-    ensures fit { OnOk result (first_refused (small_refusal m.now.catalog.shape) (candidates asked.now.disks.items asked.now.terms.items places.now) ≡ None) }
-    ensures refused { IfErr result (λ refusal. IsThisRefusal (first_refused (small_refusal m.now.catalog.shape) (candidates asked.now.disks.items asked.now.terms.items places.now)) (said (λ _. []) refusal)) }
+    ensures fit { OnOk result (first_refused (small_refusal m.now.catalog.shape) (creation_disks asked.now.disks.items asked.now.terms.items places.now) ≡ None) }
+    ensures refused { IfErr result (λ refusal. IsThisRefusal (first_refused (small_refusal m.now.catalog.shape) (creation_disks asked.now.disks.items asked.now.terms.items places.now)) (said (λ _. []) refusal)) }
 {
     let shape = m.catalog().shape();
     let mut units = Vec::new(alloc);
@@ -121,8 +121,8 @@ fn free_places(
 ) -> Result<Vec<Place>, Refusal>
     requires few { length paths.now ≤ 512 }
     ensures places { IfOk result (λ places. places.items ≡ places_at (map string_bytes paths.now) looked.now asked.now.disks.items) }
-    ensures none { OnOk result (first_of (image_refusals all.now (map string_bytes paths.now) looked.now asked.now.disks.items asked.now.terms.items) ≡ None) }
-    ensures refused { IfErr result (λ refusal. IsThisRefusal (first_of (image_refusals all.now (map string_bytes paths.now) looked.now asked.now.disks.items asked.now.terms.items)) (said (λ _. []) refusal)) }
+    ensures none { OnOk result (first_refusal (image_refusals all.now (map string_bytes paths.now) looked.now asked.now.disks.items asked.now.terms.items) ≡ None) }
+    ensures refused { IfErr result (λ refusal. IsThisRefusal (first_refusal (image_refusals all.now (map string_bytes paths.now) looked.now asked.now.disks.items asked.now.terms.items)) (said (λ _. []) refusal)) }
 {
     let places = match find_places(alloc, paths, looked, &asked.disks) {
         Ok(places) => places,
@@ -143,7 +143,7 @@ fn right_units(
     places: &[Place],
 ) -> Result<Vec<u32>, Refusal>
     requires shape { IsTrue (is_shape m.now.catalog.shape) }
-    ensures refused { IfErr result (λ refusal. IsThisRefusal (first_of (group_refusals m.now asked.now.disks.items asked.now.terms.items places.now)) (said (λ _. []) refusal)) }
+    ensures refused { IfErr result (λ refusal. IsThisRefusal (first_refusal (group_refusals m.now asked.now.disks.items asked.now.terms.items places.now)) (said (λ _. []) refusal)) }
 {
     match check_names(alloc, m, &asked.disks) {
         Ok(()) => {}

@@ -3,7 +3,7 @@ ghost use Rattle.std.specs.Prelude.{◌≡◌, ◌+◌, ◌<◌, ◌≤◌, ◌&
 ghost use Rattle.asm_formats.specs.Status.{entry_of};
 ghost use Rattle.file_extents.specs.group_engine.Mounts.{IsMounted, Takes};
 ghost use Rattle.disk_joining.specs.Causes.{ImageCause, OnlineCause, PassBelow, JoinStateCause, StepCause, may_return};
-ghost use Rattle.disk_joining.specs.Returning.{AreShown, IsShownAs, IsShownFrom, IsSize, is_disk_of, is_free, is_present, shows_at, shows_disk, shows_in_free};
+ghost use Rattle.disk_joining.specs.Returning.{AreShown, IsShownAs, IsShownFrom, IsSize, is_image_of_entry, is_slot_free, is_present, shows_at, shows_disk, shows_in_free};
 ghost use Rattle.disk_joining.specs.Taking.{IsApart, TakesIn};
 
 use crate::attaching::{DiskImage, attach_image};
@@ -54,7 +54,7 @@ fn check_states(m: &Mounted, disks: DiskSet) -> Result<(), Refusal>
 /// Whether a header on an image of so many bytes is that of an entry's disk: a member of the id with its number and birth,
 /// and at least its units.
 fn is_disk_of(id: u64, entry: PstEntry, header: &Header, size: u64) -> bool
-    ensures { result ≡ is_disk_of id entry header.now size }
+    ensures { result ≡ is_image_of_entry id entry header.now size }
 {
     header.id == id
         && (header.number == entry.number
@@ -94,7 +94,7 @@ fn is_still(m: &Mounted, looked: &[Looked], entry: PstEntry, slot: u32) -> bool
 
 /// Whether neither this group nor another has the slot.
 fn is_free(m: &Mounted, held: &[u32], slot: u32) -> bool
-    ensures { result ≡ is_free held.now m.now slot }
+    ensures { result ≡ is_slot_free held.now m.now slot }
 {
     !is_own(m, slot) && !is_held(held, slot)
 }
@@ -109,7 +109,7 @@ fn image_in(
 ) -> Option<DiskImage>
     ensures slot { IfSome result (λ image. image.slot ≡ slot) }
     ensures size { IfSome result (λ image. IsSize looked.now image.size) }
-    ensures shows { is_some result ≡ (shows_disk m.now.register.value.id entry looked.now && is_free held.now m.now slot) }
+    ensures shows { is_some result ≡ (shows_disk m.now.register.value.id entry looked.now && is_slot_free held.now m.now slot) }
 {
     match size_of(m.status().id, entry, looked) {
         Some(size) => {

@@ -1,7 +1,7 @@
 //! Slots: those of a group's attached disks, and those of others.
 ghost use Rattle.std.specs.Prelude.{◌≡◌, ◌==◌};
 ghost use Rattle.std.specs.List.{list_any};
-ghost use Rattle.disk_joining.specs.Attaching.{has_slot, is_in};
+ghost use Rattle.disk_joining.specs.Attaching.{has_disk_in_slot, is_in};
 
 use file_extents::{Attached, Mounted};
 
@@ -17,7 +17,7 @@ fn is_in(place: Option<Attached>, slot: u32) -> bool
 
 /// Whether one of the attached disks is in the slot.
 fn has_slot(disks: &[Option<Attached>], slot: u32) -> bool
-    ensures { result ≡ has_slot disks.now slot }
+    ensures { result ≡ has_disk_in_slot disks.now slot }
 {
     match disks {
         [] => false,
@@ -27,7 +27,7 @@ fn has_slot(disks: &[Option<Attached>], slot: u32) -> bool
 
 /// Whether an attached disk of the group is in the slot.
 pub fn is_own(m: &Mounted, slot: u32) -> bool
-    ensures { result ≡ has_slot m.now.disks slot }
+    ensures { result ≡ has_disk_in_slot m.now.disks slot }
 {
     has_slot(m.disks(), slot)
 }

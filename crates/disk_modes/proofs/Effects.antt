@@ -17,7 +17,7 @@ use Rattle.record_laws.specs.status_register.Holders.{numbered}
 use Rattle.disk_modes.specs.declared.changing.Changes.{Changes}
 use Rattle.disk_modes.specs.declared.changing.Changes.TheVariants as changes
 use Rattle.disk_modes.specs.declared.records.NewModes.{NewModes}
-use Rattle.disk_modes.specs.Effects.{MakesChanges, PutsBoth, PutsModes, PutsRebalance, with_rebalance}
+use Rattle.disk_modes.specs.Effects.{MakesChanges, PutsBoth, PutsModes, PutsRebalance, with_rebalance_power}
 use Rattle.disk_modes.specs.Records.{IsUnder, entries_after, taken_off}
 
 pub on_ok : (P Q : Type 0) (r : Result (Unit {0}) Refusal) → (P → Q) → OnOk r P → OnOk r Q
@@ -35,20 +35,20 @@ puts_modes to old new next tables written under = record {
 }
 
 -- the tables after a commit are those that were planned
-pub puts_rebalance : (power : Option ℕ) (old new : MountedGroup) (put : List records.Entry) (gone : List Key) → IsAfter old.catalog.tables put gone new.catalog.tables
-    → IsAfter old.catalog.tables put gone (with_rebalance old.catalog.tables power) → KeepsRecord old.register.value new.register.value → PutsRebalance power old new
-puts_rebalance power old new put gone applied planned kept = record { tables = one_after old.catalog.tables new.catalog.tables (with_rebalance old.catalog.tables power) put gone applied planned; kept = kept }
+pub puts_rebalance : (power : Option ℕ) (old new : MountedGroup) (put : List records.DirectoryRecord) (gone : List Key) → IsAfter old.catalog.tables put gone new.catalog.tables
+    → IsAfter old.catalog.tables put gone (with_rebalance_power old.catalog.tables power) → KeepsRecord old.register.value new.register.value → PutsRebalance power old new
+puts_rebalance power old new put gone applied planned kept = record { tables = one_after old.catalog.tables new.catalog.tables (with_rebalance_power old.catalog.tables power) put gone applied planned; kept = kept }
 
 pub modes_put : (to : NewModes) (old new : MountedGroup) (next : Status) (r : Result (Unit {0}) Refusal) → new.catalog.tables ≡ old.catalog.tables → OnOk r (new.register.value ≡ numbered old.register next)
     → IsUnder to old.register.value next → OnOk r (PutsModes to old new)
 modes_put to old new next r tables written under =
     on_ok (new.register.value ≡ numbered old.register next) (PutsModes to old new) r (λ is. puts_modes to old new next tables is under) written
 
-pub rebalance_put : (power : Option ℕ) (old new : MountedGroup) (c : Catalogued) (put : List records.Entry) (gone : List Key) (r : Result (Unit {0}) Refusal) → c ≡ old.catalog
-    → IsPlan c put gone (with_rebalance c.tables power) → OnOk r (IsAfter old.catalog.tables put gone new.catalog.tables) → KeepsRecord old.register.value new.register.value
+pub rebalance_put : (power : Option ℕ) (old new : MountedGroup) (c : Catalogued) (put : List records.DirectoryRecord) (gone : List Key) (r : Result (Unit {0}) Refusal) → c ≡ old.catalog
+    → IsPlan c put gone (with_rebalance_power c.tables power) → OnOk r (IsAfter old.catalog.tables put gone new.catalog.tables) → KeepsRecord old.register.value new.register.value
     → OnOk r (PutsRebalance power old new)
 rebalance_put power old new c put gone (Ok done) same plan applied kept =
-    puts_rebalance power old new put gone applied (subst (λ (k : Catalogued). IsAfter k.tables put gone (with_rebalance k.tables power)) same plan.after) kept
+    puts_rebalance power old new put gone applied (subst (λ (k : Catalogued). IsAfter k.tables put gone (with_rebalance_power k.tables power)) same plan.after) kept
 rebalance_put power old new c put gone (Err e) same plan applied kept = tt
 
 -- ---- two changes
@@ -70,7 +70,7 @@ rebalance_then_modes power to a b c one two = record {
 
 pub modes_then_rebalance : (power : ℕ) (to : NewModes) (a b c : MountedGroup) → PutsModes to a b → PutsRebalance (Some power) b c → PutsBoth power to a c
 modes_then_rebalance power to a b c one two = record {
-  tables = two.tables ∙ ap (λ (t : Tables). with_rebalance t (Some power)) one.tables;
+  tables = two.tables ∙ ap (λ (t : Tables). with_rebalance_power t (Some power)) one.tables;
   entries = two.kept.entries ∙ one.under.entries;
   copies = λ d lt has. left_of b.register.value.directories a.register.value.directories (taken_off to) d (one.under.copies d lt) (two.kept.copies d lt has);
 }

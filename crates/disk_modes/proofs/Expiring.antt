@@ -13,7 +13,7 @@ use Rattle.group_reports.specs.catalog_tables.Tables.{Catalogued}
 use Rattle.record_laws.specs.group_engine.Mounts.{MountedGroup}
 use Rattle.record_laws.proofs.group_engine.Including.{element_of}
 use Rattle.record_laws.proofs.group_engine.Sets.{element_bit, element_small}
-use Rattle.group_reports.specs.Disks.{expiring, holds_all, is_due, may_go}
+use Rattle.group_reports.specs.Disks.{expiring, holds_all, is_repair_time_up, may_go}
 use Rattle.group_reports.specs.Extents.{first_lost}
 use Rattle.disk_modes.specs.declared.records.NewModes.TheVariants as modes
 use Rattle.disk_modes.specs.Directories.{IsLeft, LeavesCopy}
@@ -101,12 +101,12 @@ copy_left c r none forced d empty clear is goes k lt has = ⊎_elim
 
 -- the disk that expires may go
 pub expiring_goes : (c : Catalogued) (r : Status) (now d : ℕ) → expiring c r now ≡ Some d → may_go c r d ≡ true
-expiring_goes c r now d is = go (find (λ (e : Entry). is_due now e && may_go c r e.number) r.entries) refl is
+expiring_goes c r now d is = go (find (λ (e : Entry). is_repair_time_up now e && may_go c r e.number) r.entries) refl is
   where
-    go : (o : Option Entry) → find (λ (e : Entry). is_due now e && may_go c r e.number) r.entries ≡ o → option_map (λ (e : Entry). e.number) o ≡ Some d → may_go c r d ≡ true
+    go : (o : Option Entry) → find (λ (e : Entry). is_repair_time_up now e && may_go c r e.number) r.entries ≡ o → option_map (λ (e : Entry). e.number) o ≡ Some d → may_go c r d ≡ true
     go None found number = absurd cc
     go (Some e) found number =
-        ap (may_go c r) (sym (same_Some e.number d number)) ∙ (and_parts (is_due now e) (may_go c r e.number) (find_passes (λ (x : Entry). is_due now x && may_go c r x.number) r.entries e found)).1
+        ap (may_go c r) (sym (same_Some e.number d number)) ∙ (and_parts (is_repair_time_up now e) (may_go c r e.number) (find_passes (λ (x : Entry). is_repair_time_up now x && may_go c r x.number) r.entries e found)).1
 
 pub expiring_of : (m : MountedGroup) (c : Catalogued) (r : Status) (now d : ℕ) → c ≡ m.catalog → r ≡ m.register.value → Some d ≡ expiring c r now → may_go m.catalog m.register.value d ≡ true
 expiring_of m c r now d same held is = subst (λ (x : Catalogued). may_go x m.register.value d ≡ true) same (subst (λ (x : Status). may_go c x d ≡ true) held (expiring_goes c r now d (sym is)))

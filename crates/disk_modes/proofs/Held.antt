@@ -15,14 +15,14 @@ use Rattle.group_reports.specs.catalog_tables.Rules.{KeepsRules}
 use Rattle.group_reports.specs.catalog_tables.Tables.{Catalogued, Tables}
 use Rattle.group_reports.proofs.catalog_tables.AfterLaws.{one_after}
 use Rattle.record_laws.specs.group_engine.Commits.{CommitsPlan, turns_at_most}
-use Rattle.record_laws.specs.group_engine.Making.{closed}
+use Rattle.record_laws.specs.group_engine.Making.{access_after_closing}
 use Rattle.record_laws.specs.group_engine.Mounts.{IsMounted, MountedGroup, Mounts, Takes}
 use Rattle.record_laws.specs.group_engine.Own.{IsSameGroup, KeepsGroup}
 use Rattle.record_laws.specs.group_engine.Pending.{GoesOn, HasTurns}
 use Rattle.record_laws.proofs.group_engine.Causes.{gives_up}
 use Rattle.record_laws.proofs.group_engine.Cuts.{operation_surplus}
 use Rattle.record_laws.proofs.group_engine.Endings.{closed_takes_none, ends_planned, kept_before, stands_here}
-use Rattle.disk_modes.specs.Effects.{with_rebalance}
+use Rattle.disk_modes.specs.Effects.{with_rebalance_power}
 use Rattle.disk_modes.specs.Stops.{CommitsRebalance, HasTwoTurns, StaysHeld}
 
 -- no call was made
@@ -57,7 +57,7 @@ pub turns_before : (a b c : MountedGroup) → turns_at_most b ≤ turns_at_most 
 turns_before a b c one two = omega (arith, one, two)
 
 -- the group takes no calls afterwards
-pub held_closed : {a m : MountedGroup} {s t : BayState} → StaysHeld a m s t → StaysHeld a (record m { access = closed m.access }) s t
+pub held_closed : {a m : MountedGroup} {s t : BayState} → StaysHeld a m s t → StaysHeld a (record m { access = access_after_closing m.access }) s t
 held_closed {a} {m} one = record { moments = one.moments; stays = λ takes. absurd (closed_takes_none m takes); turns = one.turns }
 
 -- the move that is on its way is given up
@@ -89,20 +89,20 @@ held_behind m b s t mounted takes new is two = held_on (keeps_it new is).same (a
 
 -- ---- the commit of a rebalance
 
-rules_after : (power : Option ℕ) (a b : MountedGroup) (c : Catalogued) (put : List records.Entry) (gone : List Key) (r : Result (Unit {0}) Refusal) → IsSameGroup a b → c ≡ a.catalog
-    → IsPlan c put gone (with_rebalance c.tables power) → OnOk r (IsAfter a.catalog.tables put gone b.catalog.tables) → OnOk r (KeepsRules b.catalog.shape b.catalog.tables)
+rules_after : (power : Option ℕ) (a b : MountedGroup) (c : Catalogued) (put : List records.DirectoryRecord) (gone : List Key) (r : Result (Unit {0}) Refusal) → IsSameGroup a b → c ≡ a.catalog
+    → IsPlan c put gone (with_rebalance_power c.tables power) → OnOk r (IsAfter a.catalog.tables put gone b.catalog.tables) → OnOk r (KeepsRules b.catalog.shape b.catalog.tables)
 rules_after power a b c put gone (Ok done) same is plan applied =
-    let planned : IsPlan a.catalog put gone (with_rebalance a.catalog.tables power) = subst (λ (k : Catalogued). IsPlan k put gone (with_rebalance k.tables power)) is plan in
-    let tables : b.catalog.tables ≡ with_rebalance a.catalog.tables power = one_after a.catalog.tables b.catalog.tables (with_rebalance a.catalog.tables power) put gone applied planned.after in
+    let planned : IsPlan a.catalog put gone (with_rebalance_power a.catalog.tables power) = subst (λ (k : Catalogued). IsPlan k put gone (with_rebalance_power k.tables power)) is plan in
+    let tables : b.catalog.tables ≡ with_rebalance_power a.catalog.tables power = one_after a.catalog.tables b.catalog.tables (with_rebalance_power a.catalog.tables power) put gone applied planned.after in
     subst (λ (shape : Shape). KeepsRules shape b.catalog.tables) (sym same.shape) (subst (λ (u : Tables). KeepsRules a.catalog.shape u) (sym tables) planned.rules)
 rules_after power a b c put gone (Err e) same is plan applied = tt
 
-pub rebalance_held : (power : Option ℕ) (a b : MountedGroup) (c : Catalogued) (put : List records.Entry) (gone : List Key) (s t : BayState) (r : Result (Unit {0}) Refusal) → IsMounted a → c ≡ a.catalog
-    → IsPlan c put gone (with_rebalance c.tables power) → GoesOn a r b s t → CommitsPlan a put gone r b s t → CommitsRebalance a r b s t
+pub rebalance_held : (power : Option ℕ) (a b : MountedGroup) (c : Catalogued) (put : List records.DirectoryRecord) (gone : List Key) (s t : BayState) (r : Result (Unit {0}) Refusal) → IsMounted a → c ≡ a.catalog
+    → IsPlan c put gone (with_rebalance_power c.tables power) → GoesOn a r b s t → CommitsPlan a put gone r b s t → CommitsRebalance a r b s t
 rebalance_held power a b c put gone s t r mounted is plan goes commits =
-    let planned : IsPlan a.catalog put gone (with_rebalance a.catalog.tables power) = subst (λ (k : Catalogued). IsPlan k put gone (with_rebalance k.tables power)) is plan in
-    let ends = ends_planned a b put gone (with_rebalance a.catalog.tables power) s t
-    (operation_surplus a.register.value.entries a.catalog put gone (with_rebalance a.catalog.tables power).operations planned) r mounted goes commits in
+    let planned : IsPlan a.catalog put gone (with_rebalance_power a.catalog.tables power) = subst (λ (k : Catalogued). IsPlan k put gone (with_rebalance_power k.tables power)) is plan in
+    let ends = ends_planned a b put gone (with_rebalance_power a.catalog.tables power) s t
+    (operation_surplus a.register.value.entries a.catalog put gone (with_rebalance_power a.catalog.tables power).operations planned) r mounted goes commits in
     record {
       held = record { moments = ends.moments; stays = ends.stays; turns = omega (arith, ends.turns) };
       turns = ends.turns;

@@ -10,7 +10,7 @@ use Rattle.asm_formats.specs.Sets.{has_bit, most_disks}
 use Rattle.asm_formats.specs.Status.{Entry, is_entry}
 use Rattle.disk_modes.specs.declared.dropping.DropDisk.{DropDisk}
 use Rattle.disk_modes.specs.declared.records.NewModes.TheVariants as modes
-use Rattle.disk_modes.specs.Effects.{AreNamedToDrop, drop_to, entry_dropped, entry_forced, is_dropped_by, is_forced_by, option_of}
+use Rattle.disk_modes.specs.Effects.{AreNamedToDrop, drop_to, entry_dropped, entry_forced, is_dropped_by, is_forced_by, drop_option_of}
 use Rattle.disk_modes.specs.Records.{entry_after, entry_as}
 
 -- ---- sets
@@ -40,10 +40,10 @@ past_or d disk x lt le =
 
 -- ---- the last option
 
-option_more : (xs : List DropDisk) (x : DropDisk) (d : ℕ) → option_of (xs ++ (x ∷ [])) d ≡ cond (d == x.disk) (Some x.force) (option_of xs d)
+option_more : (xs : List DropDisk) (x : DropDisk) (d : ℕ) → drop_option_of (xs ++ (x ∷ [])) d ≡ cond (d == x.disk) (Some x.force) (drop_option_of xs d)
 option_more xs x d = ap (λ (ys : List DropDisk). option_map (λ (y : DropDisk). y.force) (find (λ (y : DropDisk). d == y.disk) ys)) (reverse-append xs (x ∷ [])) ∙ go (d == x.disk)
   where
-    go : (b : Bool) → option_map (λ (y : DropDisk). y.force) (cond b (Some x) (find (λ (y : DropDisk). d == y.disk) (reverse xs))) ≡ cond b (Some x.force) (option_of xs d)
+    go : (b : Bool) → option_map (λ (y : DropDisk). y.force) (cond b (Some x) (find (λ (y : DropDisk). d == y.disk) (reverse xs))) ≡ cond b (Some x.force) (drop_option_of xs d)
     go true = refl
     go false = refl
 
@@ -60,11 +60,11 @@ pub named_more : (disks : List DropDisk) (i : ℕ) (e x : DropDisk) (dropping fo
     → AreNamedToDrop (take (i + 1) disks) dropping' forced'
 named_more disks i e x dropping forced dropping' forced' lt is so_far drops forces =
     let longer : take (i + 1) disks ≡ take i disks ++ (x ∷ []) = take_more disks i e lt ∙ ap (λ (y : DropDisk). take i disks ++ (y ∷ [])) (sym is) in
-    let option : (d : ℕ) → option_of (take (i + 1) disks) d ≡ cond (d == x.disk) (Some x.force) (option_of (take i disks) d) =
-    λ d. ap (λ (ys : List DropDisk). option_of ys d) longer ∙ option_more (take i disks) x d in
+    let option : (d : ℕ) → drop_option_of (take (i + 1) disks) d ≡ cond (d == x.disk) (Some x.force) (drop_option_of (take i disks) d) =
+    λ d. ap (λ (ys : List DropDisk). drop_option_of ys d) longer ∙ option_more (take i disks) x d in
     record {
-      without_force = λ d small. drops d small ∙ dropped_more (d == x.disk) x.force (has_bit dropping d) (option_of (take i disks) d) (so_far.without_force d small) ∙ ap is_dropped_by (sym (option d));
-      with_force = λ d small. forces d small ∙ forced_more (d == x.disk) x.force (has_bit forced d) (option_of (take i disks) d) (so_far.with_force d small) ∙ ap is_forced_by (sym (option d));
+      without_force = λ d small. drops d small ∙ dropped_more (d == x.disk) x.force (has_bit dropping d) (drop_option_of (take i disks) d) (so_far.without_force d small) ∙ ap is_dropped_by (sym (option d));
+      with_force = λ d small. forces d small ∙ forced_more (d == x.disk) x.force (has_bit forced d) (drop_option_of (take i disks) d) (so_far.with_force d small) ∙ ap is_forced_by (sym (option d));
     }
 
 pub none_named : (dropping forced : ℕ) → dropping ≡ 0 → forced ≡ 0 → AreNamedToDrop [] dropping forced
@@ -72,8 +72,8 @@ none_named dropping forced a b = record { without_force = λ d small. ap (λ (n 
 
 pub named_all : (disks : List DropDisk) (i dropping forced : ℕ) → length disks ≤ i → AreNamedToDrop (take i disks) dropping forced → AreNamedToDrop disks dropping forced
 named_all disks i dropping forced le is = record {
-  without_force = λ d small. is.without_force d small ∙ ap (λ (ys : List DropDisk). is_dropped_by (option_of ys d)) (take_all i disks le);
-  with_force = λ d small. is.with_force d small ∙ ap (λ (ys : List DropDisk). is_forced_by (option_of ys d)) (take_all i disks le);
+  without_force = λ d small. is.without_force d small ∙ ap (λ (ys : List DropDisk). is_dropped_by (drop_option_of ys d)) (take_all i disks le);
+  with_force = λ d small. is.with_force d small ∙ ap (λ (ys : List DropDisk). is_forced_by (drop_option_of ys d)) (take_all i disks le);
 }
 
 -- ---- entries
@@ -92,7 +92,7 @@ each_entry f g same (e ∷ es) ok =
 
 pub one_dropped : (disks : List DropDisk) (dropping forced : ℕ) → AreNamedToDrop disks dropping forced → (e : Entry) → e.number < 64
     → entry_after (modes.Dropped dropping forced) e ≡ entry_dropped disks e
-one_dropped disks dropping forced named e lt = by_option (has_bit dropping e.number) (has_bit forced e.number) (option_of disks e.number) (named.without_force e.number lt) (named.with_force e.number lt)
+one_dropped disks dropping forced named e lt = by_option (has_bit dropping e.number) (has_bit forced e.number) (drop_option_of disks e.number) (named.without_force e.number lt) (named.with_force e.number lt)
   where
     by_option : (a b : Bool) (o : Option Bool) → a ≡ is_dropped_by o → b ≡ is_forced_by o
         → entry_as (cond b (drop_to (Some true)) (cond a (drop_to (Some false)) (drop_to None))) e ≡ entry_as (drop_to o) e

@@ -13,7 +13,7 @@ use Rattle.disk_modes.specs.declared.losing.Counted.TheVariants as counted
 use Rattle.disk_modes.specs.declared.records.NewModes.{NewModes}
 use Rattle.disk_modes.specs.declared.records.NewModes.TheVariants as modes
 use Rattle.disk_modes.specs.declared.sizes.Asked.{Asked}
-use Rattle.disk_modes.specs.Causes.{IsFirstSmall, IsStateOf, LeavesTooLittle, OfflineRefused, ResizeRefused, forced_hold_copies, forced_would_lose, hold_copies, not_online, not_serving, too_few, too_small, would_lose}
+use Rattle.disk_modes.specs.Causes.{IsFirstSmall, IsStateOf, LeavesTooLittle, OfflineRefused, ResizeRefused, forced_hold_copies, forced_would_lose, hold_copies, not_online, not_serving, too_few, disk_too_small, would_lose_extent}
 use Rattle.disk_modes.specs.Directories.{DirectoriesCause}
 use Rattle.disk_modes.specs.Finding.{HasAttachedDisks}
 use Rattle.disk_modes.specs.Losing.{LosingCause}
@@ -40,7 +40,7 @@ offline_copies_by m r n disks e held is why = hold_copies (subst (λ (x : ℕ). 
 pub offline_losing_by : (m : MountedGroup) (r : Status) (es : List Entry) (v : Catalogued) (disks attached : ℕ) (res : Result (Unit {0}) Refusal) → r ≡ m.register.value → es ≡ r.entries → v ≡ m.catalog
     → HasAttachedDisks m attached → IfErr res (LosingCause (counted.Usable attached) es disks v) → IfErr res (OfflineRefused m disks)
 offline_losing_by m r es v disks attached res held is same all = on_err (LosingCause (counted.Usable attached) es disks v) (OfflineRefused m disks) res
-    (λ e why. would_lose attached all (subst (λ (x : Catalogued). LosingCause (counted.Usable attached) m.register.value.entries disks x e) same
+    (λ e why. would_lose_extent attached all (subst (λ (x : Catalogued). LosingCause (counted.Usable attached) m.register.value.entries disks x e) same
     (subst (λ (x : List Entry). LosingCause (counted.Usable attached) x disks v e) (of_record m r es held is) why)))
 
 -- ---- DROP
@@ -76,4 +76,4 @@ pub resize_state_by : (m : MountedGroup) (r : Status) (es : List Entry) (asked :
 resize_state_by m r es asked e held is why = not_serving (subst (λ (x : List Entry). ModeStateCause statement.Resize asked.disks x e) (of_record m r es held is) why)
 
 pub resize_size_by : (m : MountedGroup) (asked : Asked) (res : Result (Unit {0}) Refusal) → IfErr res (IsFirstSmall m asked) → IfErr res (ResizeRefused m asked)
-resize_size_by m asked res = on_err (IsFirstSmall m asked) (ResizeRefused m asked) res (λ e why. too_small why)
+resize_size_by m asked res = on_err (IsFirstSmall m asked) (ResizeRefused m asked) res (λ e why. disk_too_small why)

@@ -27,16 +27,16 @@ use Rattle.record_laws.proofs.Entries.{entries_may_be_got}
 use Rattle.record_laws.proofs.Modes.{mounted_has_partners}
 use Rattle.record_laws.proofs.Partners.{table_stays}
 use Rattle.disk_modes.specs.declared.sizes.Asked.{Asked}
-use Rattle.disk_modes.specs.Causes.{AreLargeEnough, IsLargeEnough, asked_of, image_of}
+use Rattle.disk_modes.specs.Causes.{AreLargeEnough, IsLargeEnough, asked_of, disk_image_units}
 use Rattle.disk_modes.specs.Ends.{IsUsedTo}
-use Rattle.disk_modes.specs.Sizes.{HasAsked, capped, entry_capped, image_units, most, units_asked, units_in, units_of_size}
+use Rattle.disk_modes.specs.Sizes.{HasAsked, capped, entry_capped, image_units, most, units_asked, whole_units_in, units_of_size}
 use Rattle.disk_modes.specs.Stops.{FitImages}
 use Rattle.disk_modes.proofs.Ends.{needs_same}
 use Rattle.disk_modes.proofs.Naming.{small}
 
 -- ---- the units of an image
 
-units_fit : (s : Shape) (size : ℕ) → min (units_in s size) most ≤ regions.units_in s size
+units_fit : (s : Shape) (size : ℕ) → min (whole_units_in s size) most ≤ regions.units_in s size
 units_fit s size = go (s.au == 0) (size / s.au)
   where
     go : (b : Bool) (q : ℕ) → min (cond b 0 q) most ≤ min q regions.most_units
@@ -105,7 +105,7 @@ module _ (m : MountedGroup) (asked : Asked) (fit : FitImages asked m) where
 
 -- ---- what is large enough
 
-pub large_enough : (m : MountedGroup) (asked : Asked) (d used units image need : ℕ) (s : Shape) → IsUsedTo m.catalog d used → units ≡ asked_of m asked d → image ≡ image_of m d → s ≡ m.catalog.shape
+pub large_enough : (m : MountedGroup) (asked : Asked) (d used units image need : ℕ) (s : Shape) → IsUsedTo m.catalog d used → units ≡ asked_of m asked d → image ≡ disk_image_units m d → s ≡ m.catalog.shape
     → need ≡ max (regions.reserved_units s + 16) used → units ≤ image → need ≤ units → IsLargeEnough m asked d
 large_enough m asked d used units image need s to is has same counted fits covers = record {
   image = omega (arith, is, has, fits);

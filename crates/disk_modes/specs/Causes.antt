@@ -31,7 +31,7 @@ pub data OfflineRefused (m : MountedGroup) (disks : ℕ) (refusal : Refusal) : T
   -- they have all directory copies
   hold_copies : DirectoriesCause m.register.value.directories disks refusal → OfflineRefused m disks refusal
   -- by the first extent whose usable copies are all on them
-  would_lose : (attached : ℕ) → HasAttachedDisks m attached → LosingCause (counted.Usable attached) m.register.value.entries disks m.catalog refusal → OfflineRefused m disks refusal
+  would_lose_extent : (attached : ℕ) → HasAttachedDisks m attached → LosingCause (counted.Usable attached) m.register.value.entries disks m.catalog refusal → OfflineRefused m disks refusal
 
 -- ---- DROP
 
@@ -77,13 +77,13 @@ abbrev pub asked_of : MountedGroup → Asked → ℕ → ℕ
 asked_of m asked d = units_asked m.catalog.shape m.disks asked.size d
 
 -- its image has so many
-abbrev pub image_of : MountedGroup → ℕ → ℕ
-image_of m d = image_units m.catalog.shape m.disks d
+abbrev pub disk_image_units : MountedGroup → ℕ → ℕ
+disk_image_units m d = image_units m.catalog.shape m.disks d
 
 -- A disk is too small: its image has fewer units than it is to have, or else it needs more than these.
 pub data IsTooSmall (m : MountedGroup) (asked : Asked) (d need : ℕ) : Type 0 where
-  small_image : need ≡ asked_of m asked d → image_of m d < need → IsTooSmall m asked d need
-  small_size : asked_of m asked d ≤ image_of m d → NeedsUnits m.catalog d need → asked_of m asked d < need → IsTooSmall m asked d need
+  small_image : need ≡ asked_of m asked d → disk_image_units m d < need → IsTooSmall m asked d need
+  small_size : asked_of m asked d ≤ disk_image_units m d → NeedsUnits m.catalog d need → asked_of m asked d < need → IsTooSmall m asked d need
 
 -- refused, since this disk is too small
 abbrev pub SizeCause : MountedGroup → Asked → ℕ → Refusal → Type 0
@@ -92,7 +92,7 @@ SizeCause m asked d _ = ⊥
 
 -- A disk isn't too small: its image has the units that it is to have, and it needs no more.
 pub record IsLargeEnough (m : MountedGroup) (asked : Asked) (d : ℕ) : Type 0 where
-  pub image : asked_of m asked d ≤ image_of m d
+  pub image : asked_of m asked d ≤ disk_image_units m d
   pub needed : (need : ℕ) → NeedsUnits m.catalog d need → need ≤ asked_of m asked d
 
 -- each disk of the statement is large enough
@@ -111,4 +111,4 @@ pub data ResizeRefused (m : MountedGroup) (asked : Asked) (refusal : Refusal) : 
   -- by the least of the disks that doesn't serve
   not_serving : ModeStateCause statement.Resize asked.disks m.register.value.entries refusal → ResizeRefused m asked refusal
   -- by the least of the disks that is too small
-  too_small : IsFirstSmall m asked refusal → ResizeRefused m asked refusal
+  disk_too_small : IsFirstSmall m asked refusal → ResizeRefused m asked refusal

@@ -22,12 +22,12 @@ use Rattle.disk_modes.specs.Directories.{IsSubset}
 use Rattle.disk_modes.specs.Records.{IsUnder, entries_after, entry_as, taken_off}
 
 -- the tables where the rebalance of a power is active, or none is
-abbrev pub with_rebalance : Tables → Option ℕ → Tables
-with_rebalance t power = record t { operations = record t.operations { rebalance = power } }
+abbrev pub with_rebalance_power : Tables → Option ℕ → Tables
+with_rebalance_power t power = record t { operations = record t.operations { rebalance = power } }
 
 -- The rebalance of a power is active, or none is, and the entries and the sets of the record stay, but for directory copies that failed.
 pub record PutsRebalance (power : Option ℕ) (old new : MountedGroup) : Type 0 where
-  pub tables : new.catalog.tables ≡ with_rebalance old.catalog.tables power
+  pub tables : new.catalog.tables ≡ with_rebalance_power old.catalog.tables power
   pub kept : KeepsRecord old.register.value new.register.value
 
 -- The record that holds is under the new modes, and the tables stay.
@@ -41,7 +41,7 @@ LeavesOthers left all off = (d : ℕ) → d < 64 → has_bit left d ≡ true →
 
 -- Both.
 pub record PutsBoth (power : ℕ) (to : NewModes) (old new : MountedGroup) : Type 0 where
-  pub tables : new.catalog.tables ≡ with_rebalance old.catalog.tables (Some power)
+  pub tables : new.catalog.tables ≡ with_rebalance_power old.catalog.tables (Some power)
   pub entries : new.register.value.entries ≡ entries_after to old.register.value.entries
   pub copies : LeavesOthers new.register.value.directories old.register.value.directories (taken_off to)
 
@@ -60,8 +60,8 @@ TakesOffline disks repair now old new = PutsModes (modes.Offline disks now (unwr
 -- ---- DROP
 
 -- the last option that the statement gives a disk: with FORCE, or without it
-abbrev pub option_of : List DropDisk → ℕ → Option Bool
-option_of disks d = option_map (λ (x : DropDisk). x.force) (find (λ (x : DropDisk). d == x.disk) (reverse disks))
+abbrev pub drop_option_of : List DropDisk → ℕ → Option Bool
+drop_option_of disks d = option_map (λ (x : DropDisk). x.force) (find (λ (x : DropDisk). d == x.disk) (reverse disks))
 
 abbrev pub is_forced_by : Option Bool → Bool
 is_forced_by None = false
@@ -73,8 +73,8 @@ is_dropped_by (Some force) = not force
 
 -- The disks that a statement names, without FORCE and with it.
 pub record AreNamedToDrop (disks : List DropDisk) (dropping forced : ℕ) : Type 0 where
-  pub without_force : (d : ℕ) → d < 64 → has_bit dropping d ≡ is_dropped_by (option_of disks d)
-  pub with_force : (d : ℕ) → d < 64 → has_bit forced d ≡ is_forced_by (option_of disks d)
+  pub without_force : (d : ℕ) → d < 64 → has_bit dropping d ≡ is_dropped_by (drop_option_of disks d)
+  pub with_force : (d : ℕ) → d < 64 → has_bit forced d ≡ is_forced_by (drop_option_of disks d)
 
 -- with any FORCE the modes come first
 abbrev pub changes_for : ℕ → ℕ → Changes
@@ -87,14 +87,14 @@ drop_to (Some true) = becomes.InMode mode.Forced
 drop_to (Some false) = becomes.InMode mode.Dropping
 
 abbrev pub entry_dropped : List DropDisk → Entry → Entry
-entry_dropped disks e = entry_as (drop_to (option_of disks e.number)) e
+entry_dropped disks e = entry_as (drop_to (drop_option_of disks e.number)) e
 
 -- The disks that the statement names are Dropping, or with FORCE Forced and without a directory copy. The rebalance is active.
 pub record DropsDisks (disks : List DropDisk) (power : ℕ) (old new : MountedGroup) : Type 0 where
-  pub tables : new.catalog.tables ≡ with_rebalance old.catalog.tables (Some power)
+  pub tables : new.catalog.tables ≡ with_rebalance_power old.catalog.tables (Some power)
   pub entries : new.register.value.entries ≡ with_partners (map (entry_dropped disks) old.register.value.entries)
   pub copies : IsSubset new.register.value.directories old.register.value.directories
-  pub forced : (d : ℕ) → d < 64 → is_forced_by (option_of disks d) ≡ true → has_bit new.register.value.directories d ≡ false
+  pub forced : (d : ℕ) → d < 64 → is_forced_by (drop_option_of disks d) ≡ true → has_bit new.register.value.directories d ≡ false
 
 -- ---- UNDROP
 
@@ -111,7 +111,7 @@ undropping es = if has_dropping es then changes.RebalanceThenModes 1 else change
 
 -- No disk is being dropped, and a rebalance is active.
 pub record Undrops (old new : MountedGroup) : Type 0 where
-  pub tables : new.catalog.tables ≡ with_rebalance old.catalog.tables (Some 1)
+  pub tables : new.catalog.tables ≡ with_rebalance_power old.catalog.tables (Some 1)
   pub entries : new.register.value.entries ≡ undropped old.register.value.entries
   pub copies : IsSubset new.register.value.directories old.register.value.directories
 
@@ -122,7 +122,7 @@ entry_forced d e = if e.number == d then record e { mode = mode.Forced } else e
 
 -- The disk is Forced, and has no directory copy. A rebalance is active.
 pub record DropsByForce (d : ℕ) (old new : MountedGroup) : Type 0 where
-  pub tables : new.catalog.tables ≡ with_rebalance old.catalog.tables (Some 1)
+  pub tables : new.catalog.tables ≡ with_rebalance_power old.catalog.tables (Some 1)
   pub entries : new.register.value.entries ≡ with_partners (map (entry_forced d) old.register.value.entries)
   pub copies : (k : ℕ) → k < 64 → has_bit new.register.value.directories k ≡ true → (has_bit old.register.value.directories k ≡ true) × (k ≢ d)
 

@@ -22,16 +22,16 @@ abbrev pub is_called : Bytes → Option DiskInfo → Bool
 is_called name None = false
 is_called name (Some info) = is_same_name info.name name
 
-abbrev pub has_failgroup : Bytes → Option DiskInfo → Bool
-has_failgroup name None = false
-has_failgroup name (Some info) = is_same_name info.failgroup name
+abbrev pub has_failgroup_name : Bytes → Option DiskInfo → Bool
+has_failgroup_name name None = false
+has_failgroup_name name (Some info) = is_same_name info.failgroup name
 
 -- the record of the entry's disk is so
-abbrev pub has_name : Catalogued → Bytes → Entry → Bool
-has_name c name e = is_called name (info_at c.tables.disks e.number)
+abbrev pub has_disk_name : Catalogued → Bytes → Entry → Bool
+has_disk_name c name e = is_called name (info_at c.tables.disks e.number)
 
-abbrev pub is_in_group : Catalogued → Bytes → Entry → Bool
-is_in_group c name e = has_failgroup name (info_at c.tables.disks e.number)
+abbrev pub is_in_named_failgroup : Catalogued → Bytes → Entry → Bool
+is_in_named_failgroup c name e = has_failgroup_name name (info_at c.tables.disks e.number)
 
 -- a statement means failure groups that are quorum ones, or aren't
 abbrev pub takes : GroupSort → Bool → Bool
@@ -39,8 +39,8 @@ takes sort.Any quorum = true
 takes sort.Regular quorum = not quorum
 takes sort.Quorum quorum = quorum
 
-abbrev pub lies_in : Catalogued → GroupSort → Bytes → Entry → Bool
-lies_in c of name e = takes of e.quorum && is_in_group c name e
+abbrev pub is_in_failgroup_of_sort : Catalogued → GroupSort → Bytes → Entry → Bool
+is_in_failgroup_of_sort c of name e = takes of e.quorum && is_in_named_failgroup c name e
 
 -- a disk of that number is attached
 abbrev pub is_attached : MountedGroup → ℕ → Bool
@@ -54,5 +54,5 @@ HasAttachedDisks m set = (d : ℕ) → d < 64 → has_bit set d ≡ is_attached 
 abbrev pub is_serving : MountedGroup → Entry → Bool
 is_serving m e = serves e.mode && is_attached m e.number
 
-abbrev pub is_offline : Entry → Bool
-is_offline e = reports.is_offline e.mode
+abbrev pub is_offline_entry : Entry → Bool
+is_offline_entry e = reports.is_offline e.mode

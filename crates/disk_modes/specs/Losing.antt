@@ -24,8 +24,8 @@ is_elsewhere disks None = false
 is_elsewhere disks (Some h) = not (has_bit disks h.disk)
 
 -- copy k counts, and is on none of the disks
-abbrev pub is_kept : Counted → List Entry → ℕ → Extent → ℕ → Bool
-is_kept of es disks x k = is_elsewhere disks (get_or x.homes k None) && counts of es x k
+abbrev pub is_surviving_copy : Counted → List Entry → ℕ → Extent → ℕ → Bool
+is_surviving_copy of es disks x k = is_elsewhere disks (get_or x.homes k None) && counts of es x k
 
 -- one of three copies passes
 abbrev pub some_copy : (ℕ → Bool) → Bool
@@ -33,7 +33,7 @@ some_copy test = test 0 || (test 1 || test 2)
 
 -- the extent has a copy that counts, and all of them are on the disks
 abbrev pub is_losing : Counted → List Entry → ℕ → Extent → Bool
-is_losing of es disks x = some_copy (counts of es x) && not (some_copy (is_kept of es disks x))
+is_losing of es disks x = some_copy (counts of es x) && not (some_copy (is_surviving_copy of es disks x))
 
 -- the first extent that is so
 abbrev pub first_losing : Counted → List Entry → ℕ → Catalogued → Option Extent

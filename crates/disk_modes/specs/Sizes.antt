@@ -9,11 +9,11 @@ use Rattle.record_laws.specs.group_engine.declared.attached.Attached.{Attached}
 use Rattle.record_laws.specs.group_engine.Mounts.{MountedGroup}
 use Rattle.disk_modes.specs.declared.sizes.Asked.{Asked}
 use Rattle.disk_modes.specs.Directories.{IsSubset}
-use Rattle.disk_modes.specs.Effects.{with_rebalance}
+use Rattle.disk_modes.specs.Effects.{with_rebalance_power}
 
 -- the whole units in so many bytes
-abbrev pub units_in : Shape → ℕ → ℕ
-units_in s bytes = if s.au == 0 then 0 else bytes / s.au
+abbrev pub whole_units_in : Shape → ℕ → ℕ
+whole_units_in s bytes = if s.au == 0 then 0 else bytes / s.au
 
 -- the most units of a disk
 abbrev pub most : ℕ
@@ -22,7 +22,7 @@ most = 16777216
 -- the units of an image of this size, and none where there is no image
 abbrev pub units_of_size : Shape → Option ℕ → ℕ
 units_of_size s None = 0
-units_of_size s (Some size) = min (units_in s size) most
+units_of_size s (Some size) = min (whole_units_in s size) most
 
 -- of an attached disk
 abbrev pub image_units : Shape → List (Option Attached) → ℕ → ℕ
@@ -31,7 +31,7 @@ image_units s disks d = if nat_lt d 64 then units_of_size s (option_map (λ (a :
 -- the units that a disk is to have: those of the size that is said, or of its image
 abbrev pub units_asked : Shape → List (Option Attached) → Option ℕ → ℕ → ℕ
 units_asked s disks None d = image_units s disks d
-units_asked s disks (Some said) d = units_in s said
+units_asked s disks (Some said) d = whole_units_in s said
 
 -- the entry of a disk with the units that it is to have
 abbrev pub entry_resized : Shape → List (Option Attached) → Asked → Entry → Entry
@@ -39,7 +39,7 @@ entry_resized s disks asked e = if has_bit asked.disks e.number then record e { 
 
 -- The disks have the units that they are to have, and a rebalance is active.
 pub record ResizesDisks (disks : ℕ) (size : Option ℕ) (power : ℕ) (old new : MountedGroup) : Type 0 where
-  pub tables : new.catalog.tables ≡ with_rebalance old.catalog.tables (Some power)
+  pub tables : new.catalog.tables ≡ with_rebalance_power old.catalog.tables (Some power)
   pub entries : new.register.value.entries ≡ map (entry_resized old.catalog.shape old.disks (record { disks = disks; size = size })) old.register.value.entries
   pub copies : IsSubset new.register.value.directories old.register.value.directories
 

@@ -2,8 +2,8 @@
 ghost use Rattle.std.specs.Prelude.{◌≡◌, ◌≢◌, ◌<◌, ◌==◌, ◌&&◌, ◌||◌, ℕ, IfNone, IfSome, find};
 ghost use Rattle.asm_formats.specs.Sets.{has_bit};
 ghost use Rattle.asm_placement.specs.Modes.{serves};
-ghost use Rattle.group_reports.specs.Disks.{number_of};
-ghost use Rattle.disk_modes.specs.Finding.{HasAttachedDisks, IsSetOf, has_name, is_attached, is_in_group, is_offline, is_serving, lies_in, takes};
+ghost use Rattle.group_reports.specs.Disks.{number_of_entry_if_any};
+ghost use Rattle.disk_modes.specs.Finding.{HasAttachedDisks, IsSetOf, has_disk_name, is_attached, is_in_named_failgroup, is_offline_entry, is_serving, is_in_failgroup_of_sort, takes};
 
 use asm_base::{DiskSet, Mode, Name};
 use record_laws::Mounted;
@@ -32,14 +32,14 @@ impl GroupSort {
 
 /// The number of the disk of a name, in any case of letters.
 pub fn disk_named(m: &Mounted, name: &Name) -> Option<u8>
-    ensures { result ≡ number_of (find (has_name m.now.catalog name.now) m.now.register.value.entries) }
+    ensures { result ≡ number_of_entry_if_any (find (has_disk_name m.now.catalog name.now) m.now.register.value.entries) }
 {
     first_named(m, m.status().entries(), name)
 }
 
 /// The number of the first of the disks that has the name.
 fn first_named(m: &Mounted, entries: &[PstEntry], name: &Name) -> Option<u8>
-    ensures { result ≡ number_of (find (has_name m.now.catalog name.now) entries.now) }
+    ensures { result ≡ number_of_entry_if_any (find (has_disk_name m.now.catalog name.now) entries.now) }
 {
     for entry in entries {
         if has_name(m, entry, name) {
@@ -51,7 +51,7 @@ fn first_named(m: &Mounted, entries: &[PstEntry], name: &Name) -> Option<u8>
 
 /// Whether the disk's record has the name.
 fn has_name(m: &Mounted, entry: &PstEntry, name: &Name) -> bool
-    ensures { result ≡ has_name m.now.catalog name.now entry.now }
+    ensures { result ≡ has_disk_name m.now.catalog name.now entry.now }
 {
     match m.catalog().disk(entry.number) {
         Some(info) => info.name.is_same(name),
@@ -61,8 +61,8 @@ fn has_name(m: &Mounted, entry: &PstEntry, name: &Name) -> bool
 
 /// The disks of the failure group of a name, in any case of letters. None where there is none of that name and sort.
 pub fn disks_in_group(m: &Mounted, sort: GroupSort, name: &Name) -> Option<DiskSet>
-    ensures some { IfSome result (λ disks. (disks ≢ 0) × IsSetOf (lies_in m.now.catalog sort name.now) m.now.register.value.entries disks) }
-    ensures none { IfNone result (IsSetOf (lies_in m.now.catalog sort name.now) m.now.register.value.entries 0) }
+    ensures some { IfSome result (λ disks. (disks ≢ 0) × IsSetOf (is_in_failgroup_of_sort m.now.catalog sort name.now) m.now.register.value.entries disks) }
+    ensures none { IfNone result (IsSetOf (is_in_failgroup_of_sort m.now.catalog sort name.now) m.now.register.value.entries 0) }
 {
     let disks = all_in_group(m, m.status().entries(), sort, name);
     if disks.bits() == 0 {
@@ -72,7 +72,7 @@ pub fn disks_in_group(m: &Mounted, sort: GroupSort, name: &Name) -> Option<DiskS
 }
 
 fn all_in_group(m: &Mounted, entries: &[PstEntry], sort: GroupSort, name: &Name) -> DiskSet
-    ensures { IsSetOf (lies_in m.now.catalog sort name.now) entries.now result }
+    ensures { IsSetOf (is_in_failgroup_of_sort m.now.catalog sort name.now) entries.now result }
 {
     let mut disks = DiskSet::empty();
     for entry in entries {
@@ -83,14 +83,14 @@ fn all_in_group(m: &Mounted, entries: &[PstEntry], sort: GroupSort, name: &Name)
 
 /// Whether the disk lies in the failure group of a name and a sort.
 fn lies_in(m: &Mounted, sort: GroupSort, name: &Name, entry: &PstEntry) -> bool
-    ensures { result ≡ lies_in m.now.catalog sort name.now entry.now }
+    ensures { result ≡ is_in_failgroup_of_sort m.now.catalog sort name.now entry.now }
 {
     sort.takes(entry.quorum) && is_in_group(m, entry, name)
 }
 
 /// Whether the disk's record names the failure group.
 fn is_in_group(m: &Mounted, entry: &PstEntry, name: &Name) -> bool
-    ensures { result ≡ is_in_group m.now.catalog name.now entry.now }
+    ensures { result ≡ is_in_named_failgroup m.now.catalog name.now entry.now }
 {
     match m.catalog().disk(entry.number) {
         Some(info) => info.failgroup.is_same(name),
@@ -129,13 +129,13 @@ fn serves(mode: Mode) -> bool
 
 /// The disks that are Offline.
 pub fn offline_set(m: &Mounted) -> DiskSet
-    ensures { IsSetOf is_offline m.now.register.value.entries result }
+    ensures { IsSetOf is_offline_entry m.now.register.value.entries result }
 {
     all_offline(m.status().entries())
 }
 
 fn all_offline(entries: &[PstEntry]) -> DiskSet
-    ensures { IsSetOf is_offline entries.now result }
+    ensures { IsSetOf is_offline_entry entries.now result }
 {
     let mut disks = DiskSet::empty();
     for entry in entries {
@@ -145,7 +145,7 @@ fn all_offline(entries: &[PstEntry]) -> DiskSet
 }
 
 fn is_offline(entry: &PstEntry) -> bool
-    ensures { result ≡ is_offline entry.now }
+    ensures { result ≡ is_offline_entry entry.now }
 {
     matches!(entry.mode, Mode::Offline)
 }

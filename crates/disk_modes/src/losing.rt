@@ -1,7 +1,7 @@
 // Which extent would be lost with some disks.
 ghost use Rattle.std.specs.Prelude.{◌≡◌, ◌<◌, ◌≤◌, ◌+◌, ◌^◌, [], find, get_or, length, None};
-ghost use Rattle.group_reports.specs.Extents.{chunk_extents, extent_there, extents_from, with_extent};
-ghost use Rattle.disk_modes.specs.Losing.{counts, first_losing, is_elsewhere, is_kept, is_losing, some_copy};
+ghost use Rattle.group_reports.specs.Extents.{chunk_extents, extent_there, extents_from, with_extent_if_any};
+ghost use Rattle.disk_modes.specs.Losing.{counts, first_losing, is_elsewhere, is_surviving_copy, is_losing, some_copy};
 
 use asm_base::{DiskSet, Home, Homes};
 use group_reports::{Catalog, Extent, extent_there};
@@ -90,7 +90,7 @@ fn losing_there(
     homes: &Homes,
 ) -> Option<Extent>
     requires { copies ≤ 3 }
-    ensures { result ≡ find (is_losing counted.now disks.now named) (with_extent (extent_there catalog.now file copies index homes.now) []) }
+    ensures { result ≡ find (is_losing counted.now disks.now named) (with_extent_if_any (extent_there catalog.now file copies index homes.now) []) }
 {
     let Some(extent) = extent_there(catalog, file, copies, index, homes) else {
         return None;
@@ -129,7 +129,7 @@ fn counts(disks: &[PstEntry], counted: &Counted, extent: &Extent, copy: u8) -> b
 
 /// Whether a copy that counts is on none of the disks.
 fn is_kept(disks: &[PstEntry], counted: &Counted, named: DiskSet, extent: &Extent) -> bool
-    ensures { result ≡ some_copy (is_kept counted.now disks.now named extent.now) }
+    ensures { result ≡ some_copy (is_surviving_copy counted.now disks.now named extent.now) }
 {
     is_kept_copy(disks, counted, named, extent, 0)
         || is_kept_copy(disks, counted, named, extent, 1)
@@ -144,7 +144,7 @@ fn is_kept_copy(
     copy: u8,
 ) -> bool
     requires { copy < 3 }
-    ensures { result ≡ is_kept counted.now disks.now named extent.now copy }
+    ensures { result ≡ is_surviving_copy counted.now disks.now named extent.now copy }
 {
     is_elsewhere(named, extent.home(copy)) && counts(disks, counted, extent, copy)
 }

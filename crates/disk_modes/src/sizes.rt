@@ -5,7 +5,7 @@ ghost use Rattle.asm_formats.specs.Sets.{has_bit};
 ghost use Rattle.asm_placement.specs.Layout.{units_of};
 ghost use Rattle.disk_modes.specs.Causes.{AreLargeEnough, IsFirstSmall, IsLargeEnough, IsTooSmall, SizeCause};
 ghost use Rattle.disk_modes.specs.Ends.{AreUsedTo, HasEnds, IsChunkEnd, IsCopyEnd, IsHomeEnd, IsUsedTo};
-ghost use Rattle.disk_modes.specs.Sizes.{image_units, units_asked, units_in};
+ghost use Rattle.disk_modes.specs.Sizes.{image_units, units_asked, whole_units_in};
 
 use asm_base::{DiskRef, DiskSet, Home, Homes, Refusal, Shape};
 use group_reports::{Catalog, units_of};
@@ -49,7 +49,7 @@ fn image_units(m: &Mounted, disk: u8) -> u64
 
 /// The whole units in so many bytes.
 fn units_in(shape: &Shape, bytes: u64) -> u64
-    ensures { result ≡ units_in shape.now bytes }
+    ensures { result ≡ whole_units_in shape.now bytes }
 {
     if shape.au == 0 {
         return 0;

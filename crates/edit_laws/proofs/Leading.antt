@@ -8,7 +8,7 @@ use Rattle.asm_group.specs.Names.{ByNumber}
 use Rattle.asm_group.specs.Group.{File, Group}
 use Rattle.asm_group.specs.Refusal as r
 use Rattle.asm_formats.specs.Items.{Key}
-use Rattle.asm_base.specs.Records.{Entry}
+use Rattle.asm_base.specs.Records.{DirectoryRecord}
 use Rattle.asm_base.specs.declared.refusal.Refusal.{Refusal}
 use Rattle.asm_images.specs.Kept.{Kept}
 use Rattle.group_files.specs.alias_edits.Edits as names
@@ -32,7 +32,7 @@ module _ (n : ℕ) (m : MountedGroup) (s : BayState) (g : Group) (kept : Kept) (
   described = record { tables = mounts.whole.are_tables; units = mounts.whole.units; shape = mounts.represents.shape; describes = mounts.represents.describes }
 
   -- a commit to tables with the same extents and marks, by which the files are the same
-  module _ (put : List Entry) (gone : List Key) (u : Tables) (tables : AreTables u) (answer : Result Group r.Refusal) (l : LeadsOn m.register.value u g answer) where
+  module _ (put : List DirectoryRecord) (gone : List Key) (u : Tables) (tables : AreTables u) (answer : Result Group r.Refusal) (l : LeadsOn m.register.value u g answer) where
     same_bytes : u.extents ≡ m.catalog.tables.extents → u.stale ≡ m.catalog.tables.stale → SameBytes m.catalog.tables u g l.group
     same_bytes extents stale = record {
       extents = extents;
@@ -71,7 +71,7 @@ module _ (s : BayState) where
       (tree_leads_on m.register.value m.catalog g (names.edit_meant edit) put gone (described n m s g kept takes.mounts) p) takes.turns p.plan.after refl refl
   edit_leads_to n m g kept (Templates edit) put gone takes p =
       leads n m s g kept takes.mounts put gone (with_templates m.catalog.tables p.templates) p.plan.rules.tables (edited_by g (Templates edit))
-      (template_leads_on m.register.value m.catalog g (templates.edit_meant edit) put gone (described n m s g kept takes.mounts) p) takes.turns p.plan.after refl refl
+      (template_leads_on m.register.value m.catalog g (templates.template_edit_meant edit) put gone (described n m s g kept takes.mounts) p) takes.turns p.plan.after refl refl
   edit_leads_to n m g kept (SetAttribute name value) put gone takes p =
       leads n m s g kept takes.mounts put gone (with_settings m.catalog.tables p.settings) p.plan.rules.tables (edited_by g (SetAttribute name value))
       (attribute_leads_on m.register.value m.catalog g name value put gone (described n m s g kept takes.mounts) p) takes.turns p.plan.after refl refl
@@ -80,7 +80,7 @@ module _ (s : BayState) where
   edit_is_refused n m g kept (Tree edit) refusal mounts cause =
       by_catalog n m s g kept mounts (λ (h : Group). IsEditRefusedIn h (Tree edit) refusal) (tree_refusals g.name m.catalog (names.edit_meant edit) refusal (cells_of g) cause)
   edit_is_refused n m g kept (Templates edit) refusal mounts cause =
-      by_catalog n m s g kept mounts (λ (h : Group). IsEditRefusedIn h (Templates edit) refusal) (template_refusals g.name m.catalog (templates.edit_meant edit) refusal (cells_of g) cause)
+      by_catalog n m s g kept mounts (λ (h : Group). IsEditRefusedIn h (Templates edit) refusal) (template_refusals g.name m.catalog (templates.template_edit_meant edit) refusal (cells_of g) cause)
   edit_is_refused n m g kept (SetAttribute name value) refusal mounts cause =
       by_catalog n m s g kept mounts (λ (h : Group). IsEditRefusedIn h (SetAttribute name value) refusal) (attribute_refusals g.name m.catalog name value refusal (cells_of g) cause)
 

@@ -8,7 +8,7 @@ use Rattle.asm_group.specs.Group.{Cell, Group}
 use Rattle.asm_group.specs.Names.{Bytes}
 use Rattle.asm_group.specs.Refusal as r
 use Rattle.asm_formats.specs.Items.{Key}
-use Rattle.asm_base.specs.Records.{Entry}
+use Rattle.asm_base.specs.Records.{DirectoryRecord}
 use Rattle.asm_base.specs.declared.refusal.Refusal.{Refusal}
 use Rattle.asm_formats.specs.Status.{Status}
 use Rattle.asm_images.specs.Bridge.{disks_in}
@@ -34,8 +34,8 @@ use Rattle.group_files.specs.group_of.Groups.{HasCells, group_of}
 
 -- The world's group after the edit, or why it is refused.
 abbrev pub edited_by : Group → GroupEdit → Result Group r.Refusal
-edited_by g (Tree edit) = world.edited g (names.edit_meant edit)
-edited_by g (Templates edit) = settings.templates_edited g (templates.edit_meant edit)
+edited_by g (Tree edit) = world.edited_group g (names.edit_meant edit)
+edited_by g (Templates edit) = settings.group_after_template_edit g (templates.template_edit_meant edit)
 edited_by g (SetAttribute name value) = settings.attribute_set g (attribute_meant name value)
 
 -- What ties a mounted group to the disks of n slots, where its turns don't run out.
@@ -46,7 +46,7 @@ pub record TakesCommit (n : ℕ) (m : MountedGroup) (s : BayState) (g : Group) (
 -- A change that is the edit leads to the world's group after it.
 abbrev pub EditLeadsTo : BayState → Type 0
 EditLeadsTo s =
-    (n : ℕ) (m : MountedGroup) (g : Group) (kept : Kept) (edit : GroupEdit) (put : List Entry) (gone : List Key) → TakesCommit n m s g kept → IsEditPlan m.catalog edit put gone
+    (n : ℕ) (m : MountedGroup) (g : Group) (kept : Kept) (edit : GroupEdit) (put : List DirectoryRecord) (gone : List Key) → TakesCommit n m s g kept → IsEditPlan m.catalog edit put gone
     → (h : Group) × (edited_by g edit ≡ Ok h) × LeadsTo n m put gone s g h kept
 
 -- Why an edit is refused, beside the world's answer: no other edit than one of names wants blocks.
@@ -65,7 +65,7 @@ EditIsRefused s =
 -- The tables after a change that is the edit are those of the world's group after it, with the same cells.
 abbrev pub EditIsOfTables : Type 0
 EditIsOfTables =
-    (name : Bytes) (c : Catalogued) (cells : ℕ → List Cell) (edit : GroupEdit) (put : List Entry) (gone : List Key) (u : Tables) → HasCells c.tables cells → IsEditPlan c edit put gone → IsAfter c.tables put gone u
+    (name : Bytes) (c : Catalogued) (cells : ℕ → List Cell) (edit : GroupEdit) (put : List DirectoryRecord) (gone : List Key) (u : Tables) → HasCells c.tables cells → IsEditPlan c edit put gone → IsAfter c.tables put gone u
     → (edited_by (group_of name c.shape c.tables cells) edit ≡ Ok (group_of name c.shape u cells)) × HasCells u cells
 
 -- What refuses the edit of the tables is so in the world.

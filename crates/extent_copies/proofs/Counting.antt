@@ -9,7 +9,7 @@ use Rattle.asm_placement.specs.Modes.{serves}
 use Rattle.asm_placement.specs.Copies.{Copy, home, copies_at, is_on}
 use Rattle.extent_copies.specs.declared.extent.Extent.{Extent}
 use Rattle.extent_copies.specs.Extents.{IsExtentOf, copy_of}
-use Rattle.extent_copies.specs.Usable.{copies_after, first_passing, first_usable, is_current, is_current_at, is_fresh, is_fresh_at, is_kept, is_usable, is_usable_at, lies_in}
+use Rattle.extent_copies.specs.Usable.{copies_after, first_passing, first_usable, is_current, is_current_at, is_fresh, is_fresh_at, is_kept_mode, is_usable, is_usable_at, is_home_in_disk_set}
 use Rattle.extent_copies.proofs.Verdicts.{rest}
 
 -- ---- by the records
@@ -18,10 +18,10 @@ pub fresh_is : (b : Bool) (s : Shape) (items : List Item) (all : List Copy) (x :
 fresh_is b s items all x k is are less = is ∙ ap (λ (m : Bool). is_some (home (copy_of x k)) && not m) (are.marks k less)
 
 pub current_is : (b : Bool) (es : List Entry) (s : Shape) (items : List Item) (all : List Copy) (x : Extent) (k : ℕ) → b ≡ is_current_at es x k → IsExtentOf s items all x → k < x.copies → b ≡ is_current es items (copy_of x k)
-current_is b es s items all x k is are less = is ∙ ap (λ (m : Bool). is_on is_kept es (copy_of x k) && not m) (are.marks k less)
+current_is b es s items all x k is are less = is ∙ ap (λ (m : Bool). is_on is_kept_mode es (copy_of x k) && not m) (are.marks k less)
 
 same_usable : (attached : ℕ) (es : List Entry) (s : Shape) (items : List Item) (all : List Copy) (x : Extent) → IsExtentOf s items all x → (k : ℕ) → k < x.copies → is_usable_at attached es x k ≡ is_usable attached es items (copy_of x k)
-same_usable attached es s items all x are k less = ap (λ (m : Bool). (is_on serves es (copy_of x k) && not m) && lies_in attached (home (copy_of x k))) (are.marks k less)
+same_usable attached es s items all x are k less = ap (λ (m : Bool). (is_on serves es (copy_of x k) && not m) && is_home_in_disk_set attached (home (copy_of x k))) (are.marks k less)
 
 pub usable_is : (b : Bool) (attached : ℕ) (es : List Entry) (s : Shape) (items : List Item) (all : List Copy) (x : Extent) (k : ℕ) → b ≡ is_usable_at attached es x k → IsExtentOf s items all x → k < x.copies → b ≡ is_usable attached es items (copy_of x k)
 usable_is b attached es s items all x k is are less = is ∙ same_usable attached es s items all x are k less

@@ -4,7 +4,7 @@ use Rattle.std.specs.List.{list_any}
 use Rattle.std.proofs.lemmas.Bool.{cases_eq, eq-eqb, eqb-true, ne_eqb, both_ways, and_parts, not-true}
 use Rattle.std.proofs.lemmas.List.{take_all}
 use Rattle.asm_formats.specs.Status.{Entry}
-use Rattle.asm_placement.specs.DiskSets.{is_among, groups_of}
+use Rattle.asm_placement.specs.DiskSets.{is_among, distinct_failgroups}
 use Rattle.asm_placement.specs.Modes.{stays}
 use Rattle.asm_placement.specs.Partners.{table_disks}
 use Rattle.extent_copies.specs.NewFiles.{is_of_group}
@@ -33,13 +33,13 @@ none_left g (k ∷ gs) = by (eqb k g) refl (none_left g gs)
     by false is later = rw is later
 
 -- a group is among those of disks where one of them lies in it
-groups_any : (g : ℕ) (es : List Entry) → is_among (groups_of es) g ≡ list_any (is_of_group g) es
+groups_any : (g : ℕ) (es : List Entry) → is_among (distinct_failgroups es) g ≡ list_any (is_of_group g) es
 groups_any g [] = refl
 groups_any g (e ∷ es) = by (eqb e.failgroup g) refl (groups_any g es)
   where
-    by : (b : Bool) → eqb e.failgroup g ≡ b → is_among (groups_of es) g ≡ list_any (is_of_group g) es → (b || is_among (but e.failgroup (groups_of es)) g) ≡ (b || list_any (is_of_group g) es)
+    by : (b : Bool) → eqb e.failgroup g ≡ b → is_among (distinct_failgroups es) g ≡ list_any (is_of_group g) es → (b || is_among (but e.failgroup (distinct_failgroups es)) g) ≡ (b || list_any (is_of_group g) es)
     by true is later = refl
-    by false is later = still_among e.failgroup g (groups_of es) (λ same. both_ways (eqb e.failgroup g) is (eq-eqb e.failgroup g same)) ∙ later
+    by false is later = still_among e.failgroup g (distinct_failgroups es) (λ same. both_ways (eqb e.failgroup g) is (eq-eqb e.failgroup g same)) ∙ later
 
 -- ---- no number stands twice
 
@@ -78,9 +78,9 @@ once_without g (k ∷ gs) once = by (eqb k g) (once_without g gs once.later)
     by true later = later
     by false later = record { once = not_more g k gs once.once; later = later }
 
-groups_once : (es : List Entry) → AreOnce (groups_of es)
+groups_once : (es : List Entry) → AreOnce (distinct_failgroups es)
 groups_once [] = tt
-groups_once (e ∷ es) = record { once = none_left e.failgroup (groups_of es); later = once_without e.failgroup (groups_of es) (groups_once es) }
+groups_once (e ∷ es) = record { once = none_left e.failgroup (distinct_failgroups es); later = once_without e.failgroup (distinct_failgroups es) (groups_once es) }
 
 -- one that is there is taken away once
 taken : (g : ℕ) (gs : List ℕ) → AreOnce gs → is_among gs g ≡ true → length (but g gs) + 1 ≡ length gs
@@ -95,26 +95,26 @@ taken g (k ∷ gs) once some = by (eqb k g) refl some (taken g gs once.later)
 
 -- ---- one disk more
 
-pub more_known : (e : Entry) (es : List Entry) → list_any (is_of_group e.failgroup) es ≡ true → length (groups_of (e ∷ es)) ≡ length (groups_of es)
-more_known e es known = omega (arith, taken e.failgroup (groups_of es) (groups_once es) (groups_any e.failgroup es ∙ known))
+pub more_known : (e : Entry) (es : List Entry) → list_any (is_of_group e.failgroup) es ≡ true → length (distinct_failgroups (e ∷ es)) ≡ length (distinct_failgroups es)
+more_known e es known = omega (arith, taken e.failgroup (distinct_failgroups es) (groups_once es) (groups_any e.failgroup es ∙ known))
 
-pub more_new : (e : Entry) (es : List Entry) → list_any (is_of_group e.failgroup) es ≡ false → length (groups_of (e ∷ es)) ≡ length (groups_of es) + 1
-more_new e es new = omega (arith, ap (λ (l : List ℕ). length l) (but_none e.failgroup (groups_of es) (groups_any e.failgroup es ∙ new)))
+pub more_new : (e : Entry) (es : List Entry) → list_any (is_of_group e.failgroup) es ≡ false → length (distinct_failgroups (e ∷ es)) ≡ length (distinct_failgroups es) + 1
+more_new e es new = omega (arith, ap (λ (l : List ℕ). length l) (but_none e.failgroup (distinct_failgroups es) (groups_any e.failgroup es ∙ new)))
 
 -- ---- the regular disks that stay
 
-count_other : (e : Entry) (es : List Entry) → (not e.quorum && stays e.mode) ≡ false → length (groups_of (table_disks es)) ≡ length (groups_of (table_disks (e ∷ es)))
-count_other e es other = ap (λ (b : Bool). length (groups_of (cond b (e ∷ table_disks es) (table_disks es)))) (sym other)
+count_other : (e : Entry) (es : List Entry) → (not e.quorum && stays e.mode) ≡ false → length (distinct_failgroups (table_disks es)) ≡ length (distinct_failgroups (table_disks (e ∷ es)))
+count_other e es other = ap (λ (b : Bool). length (distinct_failgroups (cond b (e ∷ table_disks es) (table_disks es)))) (sym other)
 
 count_known : (e : Entry) (es : List Entry) → (not e.quorum && stays e.mode) ≡ true → list_any (is_of_group e.failgroup) (table_disks es) ≡ true
-    → length (groups_of (table_disks es)) ≡ length (groups_of (table_disks (e ∷ es)))
+    → length (distinct_failgroups (table_disks es)) ≡ length (distinct_failgroups (table_disks (e ∷ es)))
 count_known e es is known =
-    sym (more_known e (table_disks es) known) ∙ ap (λ (b : Bool). length (groups_of (cond b (e ∷ table_disks es) (table_disks es)))) (sym is)
+    sym (more_known e (table_disks es) known) ∙ ap (λ (b : Bool). length (distinct_failgroups (cond b (e ∷ table_disks es) (table_disks es)))) (sym is)
 
 count_new : (e : Entry) (es : List Entry) → (not e.quorum && stays e.mode) ≡ true → list_any (is_of_group e.failgroup) (table_disks es) ≡ false
-    → length (groups_of (table_disks es)) + 1 ≡ length (groups_of (table_disks (e ∷ es)))
+    → length (distinct_failgroups (table_disks es)) + 1 ≡ length (distinct_failgroups (table_disks (e ∷ es)))
 count_new e es is new =
-    sym (more_new e (table_disks es) new) ∙ ap (λ (b : Bool). length (groups_of (cond b (e ∷ table_disks es) (table_disks es)))) (sym is)
+    sym (more_new e (table_disks es) new) ∙ ap (λ (b : Bool). length (distinct_failgroups (cond b (e ∷ table_disks es) (table_disks es)))) (sym is)
 
 -- ---- the first of some disks, and the others
 
@@ -130,21 +130,21 @@ abbrev adds : Entry → List Entry → Bool
 adds e es = is_table_disk e && not (list_any (is_of_group e.failgroup) (table_disks es))
 
 pub more_here : (ds : List Entry) (e : Entry) (n : ℕ) → 0 < length ds → e ≡ get_or ds 0 e → true ≡ (is_table_disk e && not (list_any (is_of_group e.failgroup) (table_disks (behind ds))))
-    → n ≡ length (groups_of (table_disks (behind ds))) → n + 1 ≡ length (groups_of (table_disks ds))
+    → n ≡ length (distinct_failgroups (table_disks (behind ds))) → n + 1 ≡ length (distinct_failgroups (table_disks ds))
 more_here [] e n some at is count = absurd (omega (arith, some))
 more_here (d ∷ es) e n some at is count =
     let same : true ≡ adds d es = is ∙ ap (adds e) (behind_is d es) ∙ ap (λ (x : Entry). adds x es) at in
     let p = and_parts (is_table_disk d) (not (list_any (is_of_group d.failgroup) (table_disks es))) (sym same) in
-    ap (λ (k : ℕ). k + 1) (count ∙ ap (λ (l : List Entry). length (groups_of (table_disks l))) (behind_is d es)) ∙ count_new d es p.0 (not-true (list_any (is_of_group d.failgroup) (table_disks es)) p.1)
+    ap (λ (k : ℕ). k + 1) (count ∙ ap (λ (l : List Entry). length (distinct_failgroups (table_disks l))) (behind_is d es)) ∙ count_new d es p.0 (not-true (list_any (is_of_group d.failgroup) (table_disks es)) p.1)
 
 pub same_here : (ds : List Entry) (e : Entry) (n : ℕ) → 0 < length ds → e ≡ get_or ds 0 e → false ≡ (is_table_disk e && not (list_any (is_of_group e.failgroup) (table_disks (behind ds))))
-    → n ≡ length (groups_of (table_disks (behind ds))) → n ≡ length (groups_of (table_disks ds))
+    → n ≡ length (distinct_failgroups (table_disks (behind ds))) → n ≡ length (distinct_failgroups (table_disks ds))
 same_here [] e n some at is count = absurd (omega (arith, some))
 same_here (d ∷ es) e n some at is count =
-    count ∙ ap (λ (l : List Entry). length (groups_of (table_disks l))) (behind_is d es)
+    count ∙ ap (λ (l : List Entry). length (distinct_failgroups (table_disks l))) (behind_is d es)
     ∙ by (is_table_disk d) (list_any (is_of_group d.failgroup) (table_disks es)) refl refl (is ∙ ap (adds e) (behind_is d es) ∙ ap (λ (x : Entry). adds x es) at)
   where
-    by : (a b : Bool) → is_table_disk d ≡ a → list_any (is_of_group d.failgroup) (table_disks es) ≡ b → false ≡ (a && not b) → length (groups_of (table_disks es)) ≡ length (groups_of (table_disks (d ∷ es)))
+    by : (a b : Bool) → is_table_disk d ≡ a → list_any (is_of_group d.failgroup) (table_disks es) ≡ b → false ≡ (a && not b) → length (distinct_failgroups (table_disks es)) ≡ length (distinct_failgroups (table_disks (d ∷ es)))
     by false b other known none = count_other d es other
     by true true table known none = count_known d es table known
     by true false table new none = absurd cc

@@ -14,14 +14,14 @@ abbrev pub copy_of : Extent → ℕ → Copy
 copy_of x k = record { file = x.id.file; index = x.id.index; copy = k; homes = x.homes }
 
 -- its copies, by number
-abbrev pub copies_of : Extent → List Copy
-copies_of x = copies_at x.id.file x.id.index x.homes 0 x.copies
+abbrev pub copies_of_extent : Extent → List Copy
+copies_of_extent x = copies_at x.id.file x.id.index x.homes 0 x.copies
 
 -- The extent is as the records have it, and among these copies its own are those of its number.
 pub record IsExtentOf (s : Shape) (items : List Item) (all : List Copy) (x : Extent) : Type 0 where
   pub units : x.units ≡ units_of s.step x.id.index
   pub marks : (k : ℕ) → k < x.copies → has_bit x.marks k ≡ is_stale items x.id.file x.id.index k
-  pub copies : filter (same_extent (copy_of x 0)) all ≡ copies_of x
+  pub copies : filter (same_extent (copy_of x 0)) all ≡ copies_of_extent x
 
 -- ---- by marks
 

@@ -3,7 +3,7 @@ use Rattle.std.specs.Prelude.{ℕ, Bool, ◌==◌, ◌&&◌, not, List, length, 
 use Rattle.asm_group.specs.Names.{Bytes}
 use Rattle.asm_group.specs.Group.{Template}
 use Rattle.asm_formats.specs.Status.{Entry}
-use Rattle.asm_placement.specs.DiskSets.{groups_of}
+use Rattle.asm_placement.specs.DiskSets.{distinct_failgroups}
 use Rattle.asm_placement.specs.Modes.{stays}
 use Rattle.asm_placement.specs.Partners.{table_disks}
 use Rattle.asm_world.specs.Files.{if_system}
@@ -16,7 +16,7 @@ is_of_group g e = e.failgroup == g
 
 -- how many regular failure groups have a disk that is Online, Offline or Syncing
 abbrev pub serving_groups : List Entry → ℕ
-serving_groups es = length (groups_of (table_disks es))
+serving_groups es = length (distinct_failgroups (table_disks es))
 
 -- the template of this name, or else the system template of the type
 abbrev pub template_by : List Template → Bytes → Option Bytes → Option Template

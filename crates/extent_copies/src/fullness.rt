@@ -4,10 +4,10 @@ ghost use Rattle.std.specs.Prelude.{◌≡◌, ◌<◌, ◌≤◌, ◌+◌, ◌-
 ghost use Rattle.std.specs.List.{list_any};
 ghost use Rattle.asm_group.specs.Shape.{Shape};
 ghost use Rattle.asm_formats.specs.Items.{Item};
-ghost use Rattle.asm_placement.specs.Copies.{Copy, disks_of, is_full, siblings};
+ghost use Rattle.asm_placement.specs.Copies.{Copy, disks_of_copies, has_full_redundancy, siblings};
 ghost use Rattle.extent_copies.specs.Extents.{IsExtentOf, copy_of};
 ghost use Rattle.extent_copies.specs.NewFiles.{is_of_group};
-ghost use Rattle.extent_copies.specs.Usable.{all_from, copies_after, groups_after, is_full_at, is_whole_at};
+ghost use Rattle.extent_copies.specs.Usable.{all_from, copies_after, failgroup_count_after, is_full_at, is_whole_at};
 
 use crate::extent::{Extent, is_online};
 use crate::homes::entry_at;
@@ -20,7 +20,7 @@ impl Extent {
         requires { self.now.copies ≤ 3 }
         ensures value { result ≡ is_full_at disks.now self.now }
         // Where the extent is that of a group's records, it is so by these.
-        ensures records { (s : Shape) (items : List Item) (all : List Copy) → IsExtentOf s items all self.now → result ≡ is_full disks.now items (siblings all (copy_of self.now 0)) }
+        ensures records { (s : Shape) (items : List Item) (all : List Copy) → IsExtentOf s items all self.now → result ≡ has_full_redundancy disks.now items (siblings all (copy_of self.now 0)) }
     {
         is_full_at(disks, self)
     }
@@ -57,7 +57,7 @@ fn is_whole(disks: &[PstEntry], extent: &Extent, copy: u8) -> bool
 #[tactic(auto, using(crate::proofs::FullExtents::groups_end, crate::proofs::FullExtents::groups_absent, crate::proofs::FullExtents::groups_known, crate::proofs::FullExtents::groups_new))]
 fn groups_after(disks: &[PstEntry], extent: &Extent, copy: u8) -> u8
     requires { extent.now.copies ≤ 3 }
-    ensures count { result ≡ groups_after disks.now extent.now copy }
+    ensures count { result ≡ failgroup_count_after disks.now extent.now copy }
     ensures few { result ≤ extent.now.copies - copy }
 {
     if copy >= extent.copies {
@@ -80,7 +80,7 @@ fn groups_after(disks: &[PstEntry], extent: &Extent, copy: u8) -> u8
 #[tactic(auto, using(crate::proofs::FullExtents::any_end, crate::proofs::FullExtents::any_step))]
 fn has_group(disks: &[PstEntry], extent: &Extent, copy: u8, failgroup: u8) -> bool
     requires { extent.now.copies ≤ 3 }
-    ensures { result ≡ list_any (is_of_group failgroup) (disks_of disks.now (copies_after extent.now copy)) }
+    ensures { result ≡ list_any (is_of_group failgroup) (disks_of_copies disks.now (copies_after extent.now copy)) }
 {
     if copy >= extent.copies {
         return false;
@@ -89,7 +89,7 @@ fn has_group(disks: &[PstEntry], extent: &Extent, copy: u8, failgroup: u8) -> bo
 }
 
 fn lies_in_group(disks: &[PstEntry], extent: &Extent, copy: u8, failgroup: u8) -> bool
-    ensures { result ≡ list_any (is_of_group failgroup) (disks_of disks.now (copy_of extent.now copy ∷ [])) }
+    ensures { result ≡ list_any (is_of_group failgroup) (disks_of_copies disks.now (copy_of extent.now copy ∷ [])) }
 {
     match entry_at(disks, extent.home(copy)) {
         Some(disk) => disk.failgroup == failgroup,

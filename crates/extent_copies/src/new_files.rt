@@ -6,7 +6,7 @@ ghost use Rattle.std.specs.Option.{option_copied};
 ghost use Rattle.asm_group.specs.Group.{Group};
 ghost use Rattle.asm_group.specs.Names.{Bytes};
 ghost use Rattle.asm_group.specs.NewGroup.{templates_by_name};
-ghost use Rattle.asm_placement.specs.DiskSets.{groups_of};
+ghost use Rattle.asm_placement.specs.DiskSets.{distinct_failgroups};
 ghost use Rattle.asm_placement.specs.Partners.{table_disks};
 ghost use Rattle.asm_world.specs.Files.{copies_for, if_system, template_for};
 ghost use Rattle.template_directory.specs.Tables.{template_named};
@@ -36,7 +36,7 @@ pub fn serving_groups(status: &PstRecord) -> usize
 }
 
 fn groups_in(disks: &[PstEntry]) -> usize
-    ensures count { result ≡ length (groups_of (table_disks disks.now)) }
+    ensures count { result ≡ length (distinct_failgroups (table_disks disks.now)) }
     ensures few { result ≤ length disks.now }
 {
     match disks {

@@ -5,7 +5,7 @@ ghost use Rattle.asm_group.specs.Shape.{Shape};
 ghost use Rattle.asm_formats.specs.Items.{Item};
 ghost use Rattle.asm_placement.specs.Copies.{Copy, is_on};
 ghost use Rattle.extent_copies.specs.Extents.{IsExtentOf, copy_of};
-ghost use Rattle.extent_copies.specs.Usable.{copies_after, first_passing, first_usable, is_current, is_current_at, is_fresh, is_fresh_at, is_kept, is_usable, is_usable_at, lies_in};
+ghost use Rattle.extent_copies.specs.Usable.{copies_after, first_passing, first_usable, is_current, is_current_at, is_fresh, is_fresh_at, is_kept_mode, is_usable, is_usable_at, is_home_in_disk_set};
 
 use crate::extent::{Extent, can_be_read};
 use crate::homes::entry_at;
@@ -70,7 +70,7 @@ fn is_current_at(disks: &[PstEntry], extent: &Extent, copy: u8) -> bool
 }
 
 fn is_kept(disks: &[PstEntry], extent: &Extent, copy: u8) -> bool
-    ensures { result ≡ is_on is_kept disks.now (copy_of extent.now copy) }
+    ensures { result ≡ is_on is_kept_mode disks.now (copy_of extent.now copy) }
 {
     match entry_at(disks, extent.home(copy)) {
         Some(disk) => !matches!(disk.mode, Mode::Forced),
@@ -87,7 +87,7 @@ fn is_usable_at(disks: &[PstEntry], attached: DiskSet, extent: &Extent, copy: u8
 
 /// Whether a home lies on one of these disks.
 fn lies_in(disks: DiskSet, home: Option<Home>) -> bool
-    ensures { result ≡ lies_in disks home }
+    ensures { result ≡ is_home_in_disk_set disks home }
 {
     match home {
         Some(home) => disks.has(home.disk),

@@ -13,7 +13,7 @@ use Rattle.std.proofs.Math.ListN.{take-append-drop}
 use Rattle.asm_formats.specs.Items.{Homes, is_homes}
 use Rattle.asm_base.proofs.Exact.{AreFitting}
 use Rattle.asm_base.proofs.ItemTables.{removed_keeps}
-use Rattle.extent_map.specs.Extents.{Chunked, HasCount, IsTable, absent, chunk_at, chunk_or_blank, count_in, follows, has_extent, has_home, is_blank, is_full, item_of, stand_first, with_chunk, with_extent, with_more, without_chunk}
+use Rattle.extent_map.specs.Extents.{Chunked, HasCount, IsExtentTable, absent_homes, chunk_at, chunk_or_blank, count_in, follows, has_extent, has_home, is_blank, is_full, item_of_chunk, stand_first, with_chunk, with_extent, with_more, without_chunk}
 use Rattle.asm_base.specs.Chunks.{Chunk, chunk_cmp}
 use Rattle.extent_map.specs.Laws.{FillsChunks, ReplacesExtents, TakesChunks}
 use Rattle.extent_map.proofs.Laws.{chunk_total, same_chunk}
@@ -45,7 +45,7 @@ blank_set (x ∷ xs) zero h e = ap (λ (b : Bool). not b && is_blank xs) e
 blank_set (x ∷ xs) (suc p) h e = ap (λ (b : Bool). not (has_home x) && b) (blank_set xs p h e)
 
 pub replaces_extents : ReplacesExtents
-replaces_extents t f i h fits there ok = subst IsTable (sym is) (replaced_table t u k w fits change hs.0 hs.1 (stand_set hs.0 p h false same) (full_set hs.0 p h same) (blank_set hs.0 p h same)) where
+replaces_extents t f i h fits there ok = subst IsExtentTable (sym is) (replaced_table t u k w fits change hs.0 hs.1 (stand_set hs.0 p h false same) (full_set hs.0 p h same) (blank_set hs.0 p h same)) where
   k : Chunk
   k = (f, i / 256)
 
@@ -71,7 +71,7 @@ replaces_extents t f i h fits there ok = subst IsTable (sym is) (replaced_table 
   change = set_change t (f, i / 256) (slice_set hs.0 (i % 256) h) fits (ap is_some hs.1) (set_allowed f (i / 256) hs.0 (i % 256) h (item_at t (f, i / 256) hs.0 fits.0.1 hs.1) parts.0)
 
   is : with_extent t f i h ≡ set_value (is_at (chunk_cmp (f, i / 256))) t (slice_set hs.0 (i % 256) h)
-  is = ap (λ (o : Option (List Homes)). cond (is_some o) (set_value (is_at (chunk_cmp (f, i / 256))) t (slice_set (unwrap_or o []) (i % 256) h)) (with_chunk t (f, i / 256) (slice_set (replicate 256 absent) (i % 256) h))) hs.1
+  is = ap (λ (o : Option (List Homes)). cond (is_some o) (set_value (is_at (chunk_cmp (f, i / 256))) t (slice_set (unwrap_or o []) (i % 256) h)) (with_chunk t (f, i / 256) (slice_set (replicate 256 absent_homes) (i % 256) h))) hs.1
 
 -- ---- a chunk that goes
 
@@ -91,7 +91,7 @@ takes_chunks t f c fits none = edited_table t (without_chunk t (f, c)) (f, c) fi
   edit : IsEdit t (without_chunk t (f, c)) (f, c)
   edit = record {
     others = λ q other. gone_other chunk_cmp same_chunk chunk_total (f, c) q t other;
-    items = removed_keeps chunk_cmp chunk_total item_of (is_at (chunk_cmp (f, c))) t fits.0;
+    items = removed_keeps chunk_cmp chunk_total item_of_chunk (is_at (chunk_cmp (f, c))) t fits.0;
   }
 
   here : (w : List Homes) → chunk_at (without_chunk t (f, c)) (f, c) ≡ Some w → IsRight None (without_chunk t (f, c)) (f, c) w
@@ -138,17 +138,17 @@ module _ (base homes : List Homes) (size : length base ≡ 256) (stands : Stands
         ap has_home (get_or-append_right (take n base ++ homes) (drop m base) m p [] two past ∙ get_or-drop m base (p - m) [] ∙ ap (λ (j : ℕ). get_or base j []) here)
         ∙ none_from base n p stands (stopped (omega (arith, lt, more_long, past, size))) (omega (arith, past))
 
-blank_stands : Stands (replicate 256 absent)
+blank_stands : Stands (replicate 256 absent_homes)
 blank_stands = refl
 
 -- the extents that the file has where its chunk isn't full
-module _ (t : List Chunked) (f c : ℕ) (fits : IsTable t) (ok : follows t f c ≡ true) where
+module _ (t : List Chunked) (f c : ℕ) (fits : IsExtentTable t) (ok : follows t f c ≡ true) where
   abbrev pub base : List Homes
   base = chunk_or_blank t (f, c)
 
-  either_base : (A : List Homes → Type 0) → ((hs : List Homes) → chunk_at t (f, c) ≡ Some hs → A hs) → A (replicate 256 absent) → A base
+  either_base : (A : List Homes → Type 0) → ((hs : List Homes) → chunk_at t (f, c) ≡ Some hs → A hs) → A (replicate 256 absent_homes) → A base
   either_base A there blank = by (chunk_at t (f, c)) refl where
-    by : (o : Option (List Homes)) → chunk_at t (f, c) ≡ o → A (unwrap_or o (replicate 256 absent))
+    by : (o : Option (List Homes)) → chunk_at t (f, c) ≡ o → A (unwrap_or o (replicate 256 absent_homes))
     by None e = blank
     by (Some hs) e = there hs e
 
@@ -160,10 +160,10 @@ module _ (t : List Chunked) (f c : ℕ) (fits : IsTable t) (ok : follows t f c �
 
   at_base : (p : ℕ) → p < 256 → at_place (chunk_at t (f, c)) p ≡ has_at base p
   at_base p lt = by (chunk_at t (f, c)) where
-    none : has_at (replicate 256 absent) p ≡ false
-    none = ap has_home (get_or-replicate 256 p absent [] lt)
+    none : has_at (replicate 256 absent_homes) p ≡ false
+    none = ap has_home (get_or-replicate 256 p absent_homes [] lt)
 
-    by : (o : Option (List Homes)) → at_place o p ≡ has_at (unwrap_or o (replicate 256 absent)) p
+    by : (o : Option (List Homes)) → at_place o p ≡ has_at (unwrap_or o (replicate 256 absent_homes)) p
     by None = sym none
     by (Some hs) = refl
 
@@ -219,9 +219,9 @@ fills_chunks t f c homes fits file number ok behind room = elim (cases_lt (count
       (more_allowed f c (count_in (chunk_or_blank t (f, c))) (count_in (chunk_or_blank t (f, c)) + length homes) (chunk_or_blank t (f, c)) homes file number (base_fits t f c fits behind) parts.0 long)
 
   -- a full chunk gets no more
-  by : (new : List Homes) → length new ≡ 0 → 256 ≤ count_in (chunk_or_blank t (f, c)) → (o : Option (List Homes)) → chunk_at t (f, c) ≡ o → IsTable (with_chunk t (f, c) (with_more (chunk_or_blank t (f, c)) new))
+  by : (new : List Homes) → length new ≡ 0 → 256 ≤ count_in (chunk_or_blank t (f, c)) → (o : Option (List Homes)) → chunk_at t (f, c) ≡ o → IsExtentTable (with_chunk t (f, c) (with_more (chunk_or_blank t (f, c)) new))
   by (h ∷ new) none full o e = absurd (omega (arith, none))
-  by [] none full None e = let few : 256 ≤ count_in (replicate 256 absent) = rw e at full in absurd (omega (arith, few))
+  by [] none full None e = let few : 256 ≤ count_in (replicate 256 absent_homes) = rw e at full in absurd (omega (arith, few))
   by [] none full (Some hs) e =
       let its : with_more (chunk_or_blank t (f, c)) [] ≡ hs = rw e (nothing_more hs (count_in hs)) in
-      subst IsTable (sym (ap (λ (v : List Homes). with_chunk t (f, c) v) its ∙ put_same chunk_cmp same_chunk chunk_total (f, c) hs t fits.0.0 e)) fits
+      subst IsExtentTable (sym (ap (λ (v : List Homes). with_chunk t (f, c) v) its ∙ put_same chunk_cmp same_chunk chunk_total (f, c) hs t fits.0.0 e)) fits

@@ -7,7 +7,7 @@ use Rattle.std.proofs.lemmas.List.{drop-replicate, get_or-replicate, length-repl
 use Rattle.std.proofs.lemmas.Option.{none-some}
 use Rattle.asm_formats.specs.Items.{Homes}
 use Rattle.asm_base.proofs.Exact.{some_is}
-use Rattle.extent_map.specs.Extents.{Chunked, IsTable, absent, chunk_at, chunk_or_blank, cut_to, has_extent, has_home, is_blank, stand_first, with_chunk}
+use Rattle.extent_map.specs.Extents.{Chunked, IsExtentTable, absent_homes, chunk_at, chunk_or_blank, cut_to, has_extent, has_home, is_blank, stand_first, with_chunk}
 use Rattle.extent_map.specs.Laws.{CutsChunks}
 use Rattle.extent_map.proofs.ChunkEnds.{none_from}
 use Rattle.extent_map.proofs.Ends.{IsChange, IsRight, Place, edited_table, lower_is_other, rule_of, still_full}
@@ -31,21 +31,21 @@ blank_front zero xs ys a b = b
 blank_front (suc k) [] ys a b = b
 blank_front (suc k) (x ∷ xs) ys a b = let p = and_parts (not (has_home x)) (is_blank xs) a in rw p.0 (blank_front k xs ys p.1 b)
 
-none_in : (n p : ℕ) → p < length {A = Homes} (replicate n absent) → has_at (replicate n absent) p ≡ false
-none_in n p lt = ap has_home (get_or-replicate n p absent [] (omega (arith, lt, length-replicate {A = Homes} n absent)))
+none_in : (n p : ℕ) → p < length {A = Homes} (replicate n absent_homes) → has_at (replicate n absent_homes) p ≡ false
+none_in n p lt = ap has_home (get_or-replicate n p absent_homes [] (omega (arith, lt, length-replicate {A = Homes} n absent_homes)))
 
-cut_is : (kept : ℕ) (xs : List Homes) → cut_to kept xs ≡ take kept xs ++ replicate (256 - kept) absent
-cut_is kept xs = ap (λ (ys : List Homes). take kept xs ++ ys) (drop-replicate kept 256 absent)
+cut_is : (kept : ℕ) (xs : List Homes) → cut_to kept xs ≡ take kept xs ++ replicate (256 - kept) absent_homes
+cut_is kept xs = ap (λ (ys : List Homes). take kept xs ++ ys) (drop-replicate kept 256 absent_homes)
 
 stand_cut : (kept : ℕ) (xs : List Homes) → Stands xs → Stands (cut_to kept xs)
-stand_cut kept xs stands = subst Stands (sym (cut_is kept xs)) (stand_front kept xs (replicate (256 - kept) absent) false (none_in (256 - kept)) stands)
+stand_cut kept xs stands = subst Stands (sym (cut_is kept xs)) (stand_front kept xs (replicate (256 - kept) absent_homes) false (none_in (256 - kept)) stands)
 
 blank_cut : (kept : ℕ) (xs : List Homes) → is_blank xs ≡ true → is_blank (cut_to kept xs) ≡ true
-blank_cut kept xs blank = ap is_blank (cut_is kept xs) ∙ blank_front kept xs (replicate (256 - kept) absent) blank (blank_by (replicate (256 - kept) absent) (none_in (256 - kept)))
+blank_cut kept xs blank = ap is_blank (cut_is kept xs) ∙ blank_front kept xs (replicate (256 - kept) absent_homes) blank (blank_by (replicate (256 - kept) absent_homes) (none_in (256 - kept)))
 
 -- ---- the table
 
-module _ (t : List Chunked) (f c kept : ℕ) (fits : IsTable t) (w : List Homes) (there : chunk_at t (f, c) ≡ Some w) (none : has_extent t f ((c + 1) * 256) ≡ false) where
+module _ (t : List Chunked) (f c kept : ℕ) (fits : IsExtentTable t) (w : List Homes) (there : chunk_at t (f, c) ≡ Some w) (none : has_extent t f ((c + 1) * 256) ≡ false) where
   abbrev cut : List Homes
   cut = cut_to kept w
 
@@ -72,13 +72,13 @@ module _ (t : List Chunked) (f c kept : ℕ) (fits : IsTable t) (w : List Homes)
       let first : has_at homes 0 ≡ false = ap (λ (o : Option (List Homes)). at_place o 0) (sym e) ∙ sym (same_place t f (c + 1) 0 (omega arith)) ∙ ap (has_extent t f) (omega arith) ∙ none in
       blank_by homes (λ p lt. none_from homes 0 p (all_stand t None (f, c + 1) homes fits.1 e) first (omega arith))
 
-  cut_table : IsTable u
+  cut_table : IsExtentTable u
   cut_table = edited_table t u (f, c) fits change.edit here (λ homes e. inl (blank_behind homes e))
 
 pub cuts_chunks : CutsChunks
 cuts_chunks t f c kept fits there none = by (chunk_at t (f, c)) refl there where
-  by : (o : Option (List Homes)) → chunk_at t (f, c) ≡ o → is_some o ≡ true → IsTable (with_chunk t (f, c) (cut_to kept (chunk_or_blank t (f, c))))
+  by : (o : Option (List Homes)) → chunk_at t (f, c) ≡ o → is_some o ≡ true → IsExtentTable (with_chunk t (f, c) (cut_to kept (chunk_or_blank t (f, c))))
   by None e some = absurd cc
   by (Some w) e some =
-      let its : chunk_or_blank t (f, c) ≡ w = ap (λ (o : Option (List Homes)). unwrap_or o (replicate 256 absent)) e in
-      subst (λ (v : List Homes). IsTable (with_chunk t (f, c) (cut_to kept v))) (sym its) (cut_table t f c kept fits w e none)
+      let its : chunk_or_blank t (f, c) ≡ w = ap (λ (o : Option (List Homes)). unwrap_or o (replicate 256 absent_homes)) e in
+      subst (λ (v : List Homes). IsExtentTable (with_chunk t (f, c) (cut_to kept v))) (sym its) (cut_table t f c kept fits w e none)

@@ -10,8 +10,8 @@ use Rattle.asm_formats.specs.Items.{Homes}
 use Rattle.asm_base.specs.Records.{Ascend}
 use Rattle.asm_base.specs.Tables.{IsItemTable}
 use Rattle.asm_base.proofs.Exact.{some_is, test_some}
-use Rattle.extent_map.specs.Extents.{Chunked, IsTable, chunk_at, has_no_gap, is_behind, is_blank, is_full, item_of, opened, stand_first, stands_at}
-use Rattle.asm_base.specs.Chunks.{Chunk, chunk_cmp, is_before}
+use Rattle.extent_map.specs.Extents.{Chunked, IsExtentTable, chunk_at, has_no_gap, is_behind, is_blank, is_full, item_of_chunk, opened, stand_first, stands_at}
+use Rattle.asm_base.specs.Chunks.{Chunk, chunk_cmp, is_chunk_before}
 use Rattle.extent_map.proofs.Laws.{chunk_total, same_chunk}
 use Rattle.extent_map.proofs.Numbering.{Full, Stands, all_stand, comes_after, found, found_or, found_self, full_before, is_same, tail_up}
 
@@ -82,13 +82,13 @@ is_behind_past : (past : Option Chunk) (k : Chunk) (c : ℕ) → k.1 ≡ c + 1 �
 is_behind_past past k c next e = rw e (both_hold (eqb k.0 k.0) (eqb (c + 1) k.1) (eq-eqb k.0 k.0 refl) (eq-eqb (c + 1) k.1 (sym next)))
 
 -- the first chunk doesn't stand behind one of the table
-not_first : (x : Chunked) (t : List Chunked) (c : ℕ) → Ascend is_before (x ∷ t) → x.0.1 ≡ c + 1 → Full (x ∷ t) (x.0.0, c) → ⊥
+not_first : (x : Chunked) (t : List Chunked) (c : ℕ) → Ascend is_chunk_before (x ∷ t) → x.0.1 ≡ c + 1 → Full (x ∷ t) (x.0.0, c) → ⊥
 not_first x t c up next full = elim (found_or (x.0.0, c) x t full.0 full.1) [
   | inl here ↦ omega (arith, next, ap (λ (k : Chunk). k.1) here.0)
   | inr behind ↦ not_lower x.0 (x.0.0, c) refl next (comes_after x t (x.0.0, c) full.0 up behind.1)
 ]
 
-stands_here : (past : Option Chunk) (x : Chunked) (t : List Chunked) → Rule past (x ∷ t) → Ascend is_before (x ∷ t) → stands_at past x ≡ true
+stands_here : (past : Option Chunk) (x : Chunked) (t : List Chunked) → Rule past (x ∷ t) → Ascend is_chunk_before (x ∷ t) → stands_at past x ≡ true
 stands_here past x t rule up = both_hold (stand_first false x.1) (is_blank x.1 || (eqb x.0.1 0 || is_behind past x.0)) r.stands (elim r.place [
   | inl blank ↦ or_left (is_blank x.1) (eqb x.0.1 0 || is_behind past x.0) blank
   | inr p ↦ or_right (is_blank x.1) (eqb x.0.1 0 || is_behind past x.0) (elim p [
@@ -109,7 +109,7 @@ full_on x t k full = elim (found_or k x t full.0 full.1) [
   | inr behind ↦ inr (full.0, behind.1, full.2)
 ]
 
-rule_on : (past : Option Chunk) (x : Chunked) (t : List Chunked) → Rule past (x ∷ t) → Ascend is_before (x ∷ t) → IsPast past (x ∷ t) → Rule (opened x) t
+rule_on : (past : Option Chunk) (x : Chunked) (t : List Chunked) → Rule past (x ∷ t) → Ascend is_chunk_before (x ∷ t) → IsPast past (x ∷ t) → Rule (opened x) t
 rule_on past x t rule up is k homes e = record { stands = r.stands; place = place r.place } where
   after : chunk_cmp x.0 k ≡ Less
   after = comes_after x t k homes up e
@@ -126,14 +126,14 @@ rule_on past x t rule up is k homes e = record { stands = r.stands; place = plac
   place (inr (inr (c, next, inl before))) = absurd (between (k.0, c) x.0 k refl next (is (k.0, c) x.0 x.1 before (at_head x t)) after)
   place (inr (inr (c, next, inr full))) = inr (inr (c, next, full_on x t (k.0, c) full))
 
-past_on : (x : Chunked) (t : List Chunked) → Ascend is_before (x ∷ t) → IsPast (opened x) t
+past_on : (x : Chunked) (t : List Chunked) → Ascend is_chunk_before (x ∷ t) → IsPast (opened x) t
 past_on x t up j k homes e at = let o = test_some (is_full x.1) x.0 j e in subst (λ (i : Chunk). chunk_cmp i k ≡ Less) o.1 (comes_after x t k homes up at)
 
-no_gap : (t : List Chunked) (past : Option Chunk) → Rule past t → Ascend is_before t → IsPast past t → has_no_gap past t ≡ true
+no_gap : (t : List Chunked) (past : Option Chunk) → Rule past t → Ascend is_chunk_before t → IsPast past t → has_no_gap past t ≡ true
 no_gap [] past rule up is = refl
 no_gap (x ∷ t) past rule up is = rw (stands_here past x t rule up) (no_gap t (opened x) (rule_on past x t rule up is) (tail_up x t up) (past_on x t up))
 
-pub rule_of : (t : List Chunked) → IsTable t → Rule None t
+pub rule_of : (t : List Chunked) → IsExtentTable t → Rule None t
 rule_of t fits k homes e = record { stands = all_stand t None k homes fits.1 e; place = by (is_blank homes) refl k.1 refl } where
   by : (b : Bool) → is_blank homes ≡ b → (n : ℕ) → k.1 ≡ n → Place None t k homes
   by true q n m = inl q
@@ -151,7 +151,7 @@ rule_of t fits k homes e = record { stands = all_stand t None k homes fits.1 e; 
 -- the table u is t but for a chunk, which may be gone
 pub record IsEdit (t u : List Chunked) (k : Chunk) : Type 0 where
   pub others : (q : Chunk) → is_at (chunk_cmp q) k ≡ false → chunk_at u q ≡ chunk_at t q
-  pub items : IsItemTable is_before item_of u
+  pub items : IsItemTable is_chunk_before item_of_chunk u
 
 pub lower_is_other : (k : Chunk) (c : ℕ) → k.1 ≡ c + 1 → is_at (chunk_cmp (k.0, c)) k ≡ false
 lower_is_other k c next = by (is_at (chunk_cmp (k.0, c)) k) refl where
@@ -163,7 +163,7 @@ pub still_full : (t u : List Chunked) (k : Chunk) → IsEdit t u k → (j : Chun
 still_full t u k edit j other full = (full.0, edit.others j other ∙ full.1, full.2)
 
 -- what stands at the chunk is right, and behind it are no extents, or it is full if it was
-module _ (t u : List Chunked) (k : Chunk) (fits : IsTable t) (edit : IsEdit t u k) (here : (w : List Homes) → chunk_at u k ≡ Some w → IsRight None u k w)
+module _ (t u : List Chunked) (k : Chunk) (fits : IsExtentTable t) (edit : IsEdit t u k) (here : (w : List Homes) → chunk_at u k ≡ Some w → IsRight None u k w)
     (behind : (homes : List Homes) → chunk_at t (k.0, k.1 + 1) ≡ Some homes → (is_blank homes ≡ true) ⊎ (Full t k → Full u k)) where
   -- a chunk behind the one that changes has no extents or stands behind a full one, and others stand as before
   place_on : (q : Chunk) (homes : List Homes) → chunk_at t q ≡ Some homes → Place None t q homes → Place None u q homes
@@ -192,7 +192,7 @@ module _ (t u : List Chunked) (k : Chunk) (fits : IsTable t) (edit : IsEdit t u 
         let r = rule_of t fits q homes at in
         record { stands = r.stands; place = place_on q homes at r.place }
 
-  pub edited_table : IsTable u
+  pub edited_table : IsExtentTable u
   edited_table = (edit.items, no_gap u None edited_rule edit.items.0 (λ j q homes e at. absurd (none-some j e)))
 
 -- the table u is t with these homes in a chunk
@@ -207,7 +207,7 @@ FullBelow t k = (c : ℕ) → k.1 ≡ c + 1 → Full t (k.0, c)
 abbrev pub BlankAbove : List Chunked → Chunk → Type 0
 BlankAbove t k = (homes : List Homes) → chunk_at t (k.0, k.1 + 1) ≡ Some homes → is_blank homes ≡ true
 
-module _ (t u : List Chunked) (k : Chunk) (w : List Homes) (fits : IsTable t) (change : IsChange t u k w) where
+module _ (t u : List Chunked) (k : Chunk) (w : List Homes) (fits : IsExtentTable t) (change : IsChange t u k w) where
   abbrev edit : IsEdit t u k
   edit = change.edit
 
@@ -218,12 +218,12 @@ module _ (t u : List Chunked) (k : Chunk) (w : List Homes) (fits : IsTable t) (c
   place_of below zero m = inr (inl m)
   place_of below (suc c) m = let next : k.1 ≡ c + 1 = omega (arith, m) in inr (inr (c, next, inr (still_full t u k edit (k.0, c) (lower_is_other k c next) (below c next))))
 
-  pub changed_table : Stands w → FullBelow t k → BlankAbove t k → IsTable u
+  pub changed_table : Stands w → FullBelow t k → BlankAbove t k → IsExtentTable u
   changed_table stands below above =
       edited_table t u k fits edit (its_homes (λ v. IsRight None u k v) (record { stands = stands; place = place_of below k.1 refl })) (λ homes e. inl (above homes e))
 
   -- where the chunk has extents at the same places as before
-  pub replaced_table : (old : List Homes) → chunk_at t k ≡ Some old → stand_first false w ≡ stand_first false old → is_full w ≡ is_full old → is_blank w ≡ is_blank old → IsTable u
+  pub replaced_table : (old : List Homes) → chunk_at t k ≡ Some old → stand_first false w ≡ stand_first false old → is_full w ≡ is_full old → is_blank w ≡ is_blank old → IsExtentTable u
   replaced_table old there stands full blank =
       edited_table t u k fits edit (its_homes (λ v. IsRight None u k v) (record { stands = stands ∙ r.stands; place = place r.place })) (λ homes e. inr stays)
     where

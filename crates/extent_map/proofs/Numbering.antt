@@ -11,8 +11,8 @@ use Rattle.std.proofs.lemmas.Option.{none-some}
 use Rattle.asm_formats.specs.Items.{Homes, is_item}
 use Rattle.asm_base.specs.Records.{Ascend}
 use Rattle.asm_base.proofs.Exact.{some_is, test_some}
-use Rattle.extent_map.specs.Extents.{Chunked, IsTable, chunk_at, has_home, has_no_gap, is_behind, is_blank, is_full, item_of, opened, stand_first, stands_at}
-use Rattle.asm_base.specs.Chunks.{Chunk, chunk_cmp, is_before}
+use Rattle.extent_map.specs.Extents.{Chunked, IsExtentTable, chunk_at, has_home, has_no_gap, is_behind, is_blank, is_full, item_of_chunk, opened, stand_first, stands_at}
+use Rattle.asm_base.specs.Chunks.{Chunk, chunk_cmp, is_chunk_before}
 use Rattle.extent_map.specs.Laws.{NumbersExtents}
 use Rattle.extent_map.proofs.Laws.{chunk_total, same_chunk}
 use Rattle.extent_map.proofs.Values.{chunk_fits}
@@ -117,14 +117,14 @@ all_stand (x ∷ t) past k homes s e =
     ]
 
 -- what is found behind a chunk comes after it
-pub comes_after : (x : Chunked) (t : List Chunked) (k : Chunk) (homes : List Homes) → Ascend is_before (x ∷ t) → chunk_at t k ≡ Some homes → chunk_cmp x.0 k ≡ Less
+pub comes_after : (x : Chunked) (t : List Chunked) (k : Chunk) (homes : List Homes) → Ascend is_chunk_before (x ∷ t) → chunk_at t k ≡ Some homes → chunk_cmp x.0 k ≡ Less
 comes_after x [] k homes up e = absurd cc
 comes_after x (y ∷ t) k homes up e = elim (found_or k y t homes e) [
   | inl here ↦ subst (λ (j : Chunk). chunk_cmp x.0 j ≡ Less) (sym here.0) (less_is (chunk_cmp x.0 y.0) up.0)
   | inr behind ↦ chunk_total.trans x.0 y.0 k (less_is (chunk_cmp x.0 y.0) up.0) (comes_after y t k homes up.1 behind.1)
 ]
 
-pub tail_up : (x : Chunked) (t : List Chunked) → Ascend is_before (x ∷ t) → Ascend is_before t
+pub tail_up : (x : Chunked) (t : List Chunked) → Ascend is_chunk_before (x ∷ t) → Ascend is_chunk_before t
 tail_up x [] up = tt
 tail_up x (y ∷ t) up = up.1
 
@@ -148,7 +148,7 @@ stands_behind past f c homes s filled =
     behind_is past f c (or_right (eqb (c + 1) 0) (is_behind past (f, c + 1)) (or_right (is_blank homes) (eqb (c + 1) 0 || is_behind past (f, c + 1)) p filled) (not_zero c))
 
 -- the chunk before one with extents is full
-pub full_before : (t : List Chunked) (past : Option Chunk) (f c : ℕ) (homes : List Homes) → has_no_gap past t ≡ true → Ascend is_before t → chunk_at t (f, c + 1) ≡ Some homes → is_blank homes ≡ false → (past ≡ Some (f, c)) ⊎ Full t (f, c)
+pub full_before : (t : List Chunked) (past : Option Chunk) (f c : ℕ) (homes : List Homes) → has_no_gap past t ≡ true → Ascend is_chunk_before t → chunk_at t (f, c + 1) ≡ Some homes → is_blank homes ≡ false → (past ≡ Some (f, c)) ⊎ Full t (f, c)
 full_before [] past f c homes s up e filled = absurd cc
 full_before (x ∷ t) past f c homes s up e filled =
     let g = both_true (stands_at past x) (has_no_gap (opened x) t) s in
@@ -168,7 +168,7 @@ full_before (x ∷ t) past f c homes s up e filled =
       ]
     ]
 
-pub size_of : (t : List Chunked) (k : Chunk) (homes : List Homes) → AllByRecursion (λ x. is_item (item_of x) ≡ true) t → chunk_at t k ≡ Some homes → length homes ≡ 256
+pub size_of : (t : List Chunked) (k : Chunk) (homes : List Homes) → AllByRecursion (λ x. is_item (item_of_chunk x) ≡ true) t → chunk_at t k ≡ Some homes → length homes ≡ 256
 size_of [] k homes all e = absurd cc
 size_of (x ∷ t) k homes all e = elim (found_or k x t homes e) [
   | inl here ↦ ap length (sym here.1) ∙ (chunk_fits x.0.0 x.0.1 x.1 all.0).0
@@ -198,7 +198,7 @@ same_chunk_before t k p s e =
     let h = the_chunk (chunk_at t k) (suc p) e in
     rw h.1 (next_home h.0 false p (all_stand t None k h.0 s h.1) h.2)
 
-last_of_chunk : (t : List Chunked) (f c : ℕ) → IsTable t → at_place (chunk_at t (f, c + 1)) 0 ≡ true → at_place (chunk_at t (f, c)) 255 ≡ true
+last_of_chunk : (t : List Chunked) (f c : ℕ) → IsExtentTable t → at_place (chunk_at t (f, c + 1)) 0 ≡ true → at_place (chunk_at t (f, c)) 255 ≡ true
 last_of_chunk t f c fits e =
     let h = the_chunk (chunk_at t (f, c + 1)) 0 e in
     elim (full_before t None f c h.0 fits.1 fits.0.0 h.1 (not_blank h.0 h.2)) [

@@ -11,7 +11,7 @@ use Rattle.asm_base.specs.Records.{all_of}
 use Rattle.asm_base.proofs.Exact.{AreFitting}
 use Rattle.record_values.specs.Values.{chunk_reading}
 use Rattle.record_values.proofs.Chunks.{chunk_allowed, chunk_decoded, each_fits, homes_fit}
-use Rattle.extent_map.specs.Extents.{absent, chunk_key, cut_to}
+use Rattle.extent_map.specs.Extents.{absent_homes, chunk_key, cut_to}
 pub use Rattle.record_values.proofs.Chunks.{IsHomes, chunk_fits}
 
 pub chunk_numbered : (f c : ℕ) (homes : List Homes) → is_item (chunk_item f c homes) ≡ true → c + 1 < 2 ^ 32
@@ -59,8 +59,8 @@ all_drop (suc n) [] all = tt
 all_drop (suc n) (x ∷ xs) all = all_drop n xs all.1
 
 -- a chunk with more extents, of which the old ones are of the formats
-pub blank_fits : AreFitting IsHomes 256 (replicate 256 absent)
-blank_fits = (length-replicate 256 absent, same_fits 256 absent (homes_fit absent refl))
+pub blank_fits : AreFitting IsHomes 256 (replicate 256 absent_homes)
+blank_fits = (length-replicate 256 absent_homes, same_fits 256 absent_homes (homes_fit absent_homes refl))
 
 pub more_allowed : (f c n m : ℕ) (old homes : List Homes) → f < 2 ^ 32 → c + 1 < 2 ^ 32 → AreFitting IsHomes 256 old → list_all is_homes homes ≡ true → length (take n old ++ homes ++ drop m old) ≡ 256
     → is_item (chunk_item f c (take n old ++ homes ++ drop m old)) ≡ true
@@ -70,15 +70,15 @@ more_allowed f c n m old homes file number fits right size =
       all_append (take n old ++ homes) (drop m old) (all_append (take n old) homes (all_take n old fits.1) (each_fits homes right)) (all_drop m old fits.1),
     )
 
-pub new_allowed : (f c i : ℕ) (h : Homes) → f < 2 ^ 32 → c + 1 < 2 ^ 32 → is_homes h ≡ true → is_item (chunk_item f c (slice_set (replicate 256 absent) i h)) ≡ true
+pub new_allowed : (f c i : ℕ) (h : Homes) → f < 2 ^ 32 → c + 1 < 2 ^ 32 → is_homes h ≡ true → is_item (chunk_item f c (slice_set (replicate 256 absent_homes) i h)) ≡ true
 new_allowed f c i h file number right =
-    chunk_allowed f c (slice_set (replicate 256 absent) i h) file number (length-set (replicate 256 absent) i h ∙ length-replicate 256 absent, set_fits (replicate 256 absent) i h (same_fits 256 absent (homes_fit absent refl)) (homes_fit h right))
+    chunk_allowed f c (slice_set (replicate 256 absent_homes) i h) file number (length-set (replicate 256 absent_homes) i h ∙ length-replicate 256 absent_homes, set_fits (replicate 256 absent_homes) i h (same_fits 256 absent_homes (homes_fit absent_homes refl)) (homes_fit h right))
 
 -- one that has lost some
 pub cut_allowed : (f c kept : ℕ) (homes : List Homes) → is_item (chunk_item f c homes) ≡ true → is_item (chunk_item f c (cut_to kept homes)) ≡ true
 cut_allowed f c kept homes ok =
     let fits = chunk_fits f c homes ok in
-    let blank : List Homes = replicate 256 absent in
+    let blank : List Homes = replicate 256 absent_homes in
     let size : length (cut_to kept homes) ≡ 256 =
-    omega (arith, length-append (take kept homes) (drop kept blank), length-take kept homes, length-drop kept blank, length-replicate {A = Homes} 256 absent, fits.0) in
+    omega (arith, length-append (take kept homes) (drop kept blank), length-take kept homes, length-drop kept blank, length-replicate {A = Homes} 256 absent_homes, fits.0) in
     chunk_allowed f c (cut_to kept homes) (file_of f c homes ok) (chunk_numbered f c homes ok) (size, all_append (take kept homes) (drop kept blank) (all_take kept homes fits.1) (all_drop kept blank blank_fits.1))

@@ -5,9 +5,9 @@ use Rattle.std.specs.Map.{set_value}
 use Rattle.std.specs.List.{list_all, prefix_len}
 use Rattle.std.specs.Option.{is_some, option_and_then, unwrap_or}
 use Rattle.asm_formats.specs.Items.{Homes, Item, chunk_item, chunk_len, is_homes, Key, files_kind}
-use Rattle.asm_base.specs.Records.{Entry}
+use Rattle.asm_base.specs.Records.{DirectoryRecord}
 use Rattle.asm_base.specs.Chunks.{Chunk, chunk_cmp}
-use Rattle.item_table.specs.Tables.{IsTable as IsKeyTable, add as key_add, at_key, from_key, record_of as key_record, with_key, without_key}
+use Rattle.item_table.specs.Tables.{IsTable as IsKeyTable, add_record as key_add, at_key, from_key, record_of as key_record, with_key, without_key}
 
 -- a chunk's extents, each with the homes of three copies
 abbrev pub Chunked : Type 0
@@ -29,8 +29,8 @@ chunks_from table chunk = from_key chunk_cmp table chunk
 -- ---- extents
 
 -- no extent
-abbrev pub absent : Homes
-absent = None ∷ None ∷ None ∷ []
+abbrev pub absent_homes : Homes
+absent_homes = None ∷ None ∷ None ∷ []
 
 -- the extent is there: it has a home
 abbrev pub has_home : Homes → Bool
@@ -63,10 +63,10 @@ with_homes table chunk place homes = set_value (is_at (chunk_cmp chunk)) table (
 abbrev pub with_extent : List Chunked → ℕ → ℕ → Homes → List Chunked
 with_extent table f i homes =
     if is_some (chunk_at table (f, i / chunk_len)) then with_homes table (f, i / chunk_len) (i % chunk_len) homes
-    else with_chunk table (f, i / chunk_len) (slice_set (replicate chunk_len absent) (i % chunk_len) homes)
+    else with_chunk table (f, i / chunk_len) (slice_set (replicate chunk_len absent_homes) (i % chunk_len) homes)
 
 abbrev pub without_extent : List Chunked → ℕ → ℕ → List Chunked
-without_extent table f i = with_homes table (f, i / chunk_len) (i % chunk_len) absent
+without_extent table f i = with_homes table (f, i / chunk_len) (i % chunk_len) absent_homes
 
 -- ---- a chunk with more extents
 
@@ -80,11 +80,11 @@ with_more chunk homes = take (count_in chunk) chunk ++ homes ++ drop (count_in c
 
 -- the extents of a chunk, none of which are there where it isn't
 abbrev pub chunk_or_blank : List Chunked → Chunk → List Homes
-chunk_or_blank table chunk = unwrap_or (chunk_at table chunk) (replicate chunk_len absent)
+chunk_or_blank table chunk = unwrap_or (chunk_at table chunk) (replicate chunk_len absent_homes)
 
 -- the extents of a chunk below a place, and none from there on
 abbrev pub cut_to : ℕ → List Homes → List Homes
-cut_to kept chunk = take kept chunk ++ drop kept (replicate chunk_len absent)
+cut_to kept chunk = take kept chunk ++ drop kept (replicate chunk_len absent_homes)
 
 -- the chunk is the file's first, or the last extent of the one before is there
 abbrev pub follows : List Chunked → ℕ → ℕ → Bool
@@ -99,11 +99,11 @@ are_extents homes = list_all is_homes homes && list_all has_home homes
 abbrev pub chunk_key : ℕ → ℕ → Key
 chunk_key f c = record { kind = files_kind; a = f; b = c + 1 }
 
-abbrev pub item_of : Chunked → Item
-item_of x = chunk_item x.0.0 x.0.1 x.1
+abbrev pub item_of_chunk : Chunked → Item
+item_of_chunk x = chunk_item x.0.0 x.0.1 x.1
 
-abbrev pub record_of : Chunked → Entry
-record_of x = key_record item_of x
+abbrev pub record_of_chunk : Chunked → DirectoryRecord
+record_of_chunk x = key_record item_of_chunk x
 
 -- the head of a file has the second number 0
 abbrev pub is_chunk : Key → Bool
@@ -148,11 +148,11 @@ has_no_gap past [] = true
 has_no_gap past (x ∷ table) = if stands_at past x then has_no_gap (opened x) table else false
 
 -- a table: chunks in order, each of the formats, without a gap
-abbrev pub IsTable : List Chunked → Type 0
-IsTable table = IsKeyTable chunk_cmp item_of table × IsTrue (has_no_gap None table)
+abbrev pub IsExtentTable : List Chunked → Type 0
+IsExtentTable table = IsKeyTable chunk_cmp item_of_chunk table × IsTrue (has_no_gap None table)
 
-abbrev pub add : List Chunked → Entry → Option (List Chunked)
-add table e = key_add chunk_cmp chunked table e
+abbrev pub add_chunk_record : List Chunked → DirectoryRecord → Option (List Chunked)
+add_chunk_record table e = key_add chunk_cmp chunked table e
 
 -- only a table without a gap
 abbrev pub without_gap : Option (List Chunked) → Option (List Chunked)

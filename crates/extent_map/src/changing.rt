@@ -4,7 +4,7 @@ ghost use Rattle.std.specs.Prelude.{◌≡◌, ◌<◌, ◌+◌, ◌^◌, IfOk, 
 ghost use Rattle.std.specs.Bool.{OnFalse, OnTrue};
 ghost use Rattle.std.specs.BTreeMap.{is_at};
 ghost use Rattle.asm_formats.specs.Values.{decoded_item};
-ghost use Rattle.extent_map.specs.Changing.{AreChunks, value_at};
+ghost use Rattle.extent_map.specs.Changing.{AreChunks, chunk_value_at};
 ghost use Rattle.extent_map.specs.Extents.{chunk_key};
 ghost use Rattle.asm_base.specs.Chunks.{Chunk, chunk_cmp};
 
@@ -26,7 +26,7 @@ impl ExtentMap {
         value: &Value,
     ) -> Result<bool, NoMemory>
         requires { chunk + 1 < 2 ^ 32 }
-        ensures put { IfOk result (λ put. OnTrue put ((c : Chunk) → value_at self.new c ≡ (if is_at (chunk_cmp (file, chunk)) c then Some value.now else value_at self.old c))) }
+        ensures put { IfOk result (λ put. OnTrue put ((c : Chunk) → chunk_value_at self.new c ≡ (if is_at (chunk_cmp (file, chunk)) c then Some value.now else chunk_value_at self.old c))) }
         ensures refused { IfOk result (λ put. OnFalse put (decoded_item (chunk_key file chunk) value.now ≡ None)) }
         ensures stays { IfOk result (λ put. OnFalse put (self.new ≡ self.old)) }
         ensures err { OnErr result (self.new ≡ self.old) }
@@ -43,7 +43,7 @@ impl ExtentMap {
     /// Takes a chunk away, where it is there. In the midst of a change the extents of a file may have a gap.
     #[tactic(auto, using(crate::proofs::ChangeLaws::removed_keeps_chunks))]
     pub fn remove_record(&mut self, file: u32, chunk: u32)
-        ensures gone { (c : Chunk) → value_at self.new c ≡ (if is_at (chunk_cmp (file, chunk)) c then None else value_at self.old c) }
+        ensures gone { (c : Chunk) → chunk_value_at self.new c ≡ (if is_at (chunk_cmp (file, chunk)) c then None else chunk_value_at self.old c) }
         ensures chunks { AreChunks self.old → AreChunks self.new }
     {
         let _ = self.take_away((file, chunk));

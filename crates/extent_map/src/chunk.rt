@@ -2,7 +2,7 @@
 
 ghost use Rattle.std.specs.Prelude.{◌≡◌, ◌≤◌, ◌+◌, ◌||◌, [], get_or, length, slice_set, replicate, IfOk, None};
 ghost use Rattle.std.specs.Option.{is_some};
-ghost use Rattle.extent_map.specs.Extents.{absent, count_in, cut_to, has_home, with_more};
+ghost use Rattle.extent_map.specs.Extents.{absent_homes, count_in, cut_to, has_home, with_more};
 
 use asm_base::{Homes, NoMemory};
 use std::alloc::Global;
@@ -28,7 +28,7 @@ impl Model for Chunk {
 impl Chunk {
     /// A chunk with no extents.
     pub fn blank(alloc: Global) -> Result<Chunk, NoMemory>
-        ensures { IfOk result (λ c. c ≡ replicate 256 absent) }
+        ensures { IfOk result (λ c. c ≡ replicate 256 absent_homes) }
     {
         let homes = vec![in alloc; ABSENT; 256].map_err(|_| NoMemory)?;
         Ok(Chunk { homes })

@@ -2,7 +2,7 @@
 
 ghost use Rattle.std.specs.Prelude.{◌≡◌, ◌≤◌, ◌+◌, ℕ, IsTrue};
 ghost use Rattle.asm_formats.specs.Items.{Homes as FormatHomes, is_home, is_homes};
-ghost use Rattle.extent_map.specs.Extents.{HasCount, IsTable, may_stand, with_extent, without_extent};
+ghost use Rattle.extent_map.specs.Extents.{HasCount, IsExtentTable, may_stand, with_extent, without_extent};
 
 use crate::chunk::has_home;
 use crate::table::ExtentMap;
@@ -15,13 +15,13 @@ impl ExtentMap {
     /// How many extents a file has, which is the index of its next one. It looks at 40 extents, however many there are.
     #[tactic(auto, using(crate::proofs::FileEnds::end_appends, crate::proofs::FileEnds::end_goes))]
     pub fn count(&self, file: u32) -> u64
-        requires { IsTable self.now }
+        requires { IsExtentTable self.now }
         // The file has the extents below this number, and no others.
         ensures count { HasCount self.now file result }
         // It stays a table with an extent more at the end.
-        ensures more { (homes : FormatHomes) → IsTrue (may_stand result homes) → IsTable (with_extent self.now file result homes) }
+        ensures more { (homes : FormatHomes) → IsTrue (may_stand result homes) → IsExtentTable (with_extent self.now file result homes) }
         // It stays a table without the last one.
-        ensures less { (n : ℕ) → n + 1 ≡ result → IsTable (without_extent self.now file n) }
+        ensures less { (n : ℕ) → n + 1 ≡ result → IsExtentTable (without_extent self.now file n) }
         ensures few { result ≤ 1099511627520 }
     {
         self.end_of(file)
@@ -30,7 +30,7 @@ impl ExtentMap {
     /// The first index at which there is no extent, by halves.
     #[tactic(auto, using(crate::proofs::FileEnds::more_below, crate::proofs::FileEnds::none_above, crate::proofs::FileEnds::no_extent_past, crate::proofs::FileEnds::count_is))]
     fn end_of(&self, file: u32) -> u64
-        requires { IsTable self.now }
+        requires { IsExtentTable self.now }
         ensures count { HasCount self.now file result }
         ensures few { result ≤ 1099511627520 }
     {

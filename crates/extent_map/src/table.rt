@@ -35,9 +35,9 @@ impl Model for ExtentMap {
 }
 
 impl ExtentMap {
-    ghost use Rattle.extent_map.specs.Changing.{AreChunks, value_at};
-    ghost use Rattle.extent_map.specs.Extents.{absent, Chunked, IsNumbered, IsTable, add, chunk_at, chunks_from, extent_at, has_extent, has_no_gap, is_chunk, record_of, with_chunk, with_extent, with_homes, without_chunk, without_extent, without_gap};
-    ghost use Rattle.asm_base.specs.Chunks.{Chunk as Place, chunk_cmp, is_before};
+    ghost use Rattle.extent_map.specs.Changing.{AreChunks, chunk_value_at};
+    ghost use Rattle.extent_map.specs.Extents.{absent_homes, Chunked, IsNumbered, IsExtentTable, add_chunk_record, chunk_at, chunks_from, extent_at, has_extent, has_no_gap, is_chunk, record_of_chunk, with_chunk, with_extent, with_homes, without_chunk, without_extent, without_gap};
+    ghost use Rattle.asm_base.specs.Chunks.{Chunk as Place, chunk_cmp, is_chunk_before};
 
     pub fn new(alloc: Global) -> ExtentMap
         ensures { result ≡ [] }
@@ -126,10 +126,10 @@ impl ExtentMap {
     /// Puts the homes of an extent, with its chunk where that isn't there. Where there is no memory the table stays.
     #[tactic(auto, using(crate::proofs::Laws::put_keeps_table))]
     pub fn put(&mut self, key: ExtentId, item: Homes) -> Result<(), NoMemory>
-        requires { IsTable (with_extent self.old key.file key.index item) }
+        requires { IsExtentTable (with_extent self.old key.file key.index item) }
         ensures ok { OnOk result (self.new ≡ with_extent self.old key.file key.index item) }
         ensures err { OnErr result (self.new ≡ self.old) }
-        ensures table { IsTable self.old → IsTable self.new }
+        ensures table { IsExtentTable self.old → IsExtentTable self.new }
     {
         self.put_homes(key, item)
     }
@@ -148,7 +148,7 @@ impl ExtentMap {
 
     /// Puts an extent in a chunk that isn't there yet.
     fn put_new(&mut self, at: (u32, u32), place: u8, homes: Homes) -> Result<(), NoMemory>
-        ensures ok { OnOk result (self.new ≡ with_chunk self.old at (slice_set (replicate 256 absent) place homes)) }
+        ensures ok { OnOk result (self.new ≡ with_chunk self.old at (slice_set (replicate 256 absent_homes) place homes)) }
         ensures err { OnErr result (self.new ≡ self.old) }
     {
         let mut chunk = Chunk::blank(self.alloc)?;
@@ -158,10 +158,10 @@ impl ExtentMap {
 
     /// Takes an extent away, and tells whether it was there. Its chunk stays.
     pub fn remove(&mut self, key: ExtentId) -> bool
-        requires { IsTable (without_extent self.old key.file key.index) }
+        requires { IsExtentTable (without_extent self.old key.file key.index) }
         ensures there { result ≡ is_some (extent_at self.old key.file key.index) }
         ensures after { self.new ≡ without_extent self.old key.file key.index }
-        ensures table { IsTable self.new }
+        ensures table { IsExtentTable self.new }
     {
         let is_there = self.get(key).is_some();
         let _ = self.set((key.file, key.index / 256), (key.index % 256) as u8, ABSENT);
@@ -170,10 +170,10 @@ impl ExtentMap {
 
     /// Takes a chunk away, and tells whether it was there.
     pub fn remove_chunk(&mut self, file: u32, chunk: u32) -> bool
-        requires { IsTable (without_chunk self.old (file, chunk)) }
+        requires { IsExtentTable (without_chunk self.old (file, chunk)) }
         ensures there { result ≡ is_some (chunk_at self.old (file, chunk)) }
         ensures after { self.new ≡ without_chunk self.old (file, chunk) }
-        ensures table { IsTable self.new }
+        ensures table { IsExtentTable self.new }
     {
         self.map.remove(&(file, chunk)).is_some()
     }
@@ -208,7 +208,7 @@ impl ExtentMap {
     pub(crate) fn take_away(&mut self, at: (u32, u32)) -> bool
         ensures there { result ≡ is_some (chunk_at self.old at) }
         ensures after { self.new ≡ without_chunk self.old at }
-        ensures gone { (c : Place) → value_at self.new c ≡ (if is_at (chunk_cmp at) c then None else value_at self.old c) }
+        ensures gone { (c : Place) → chunk_value_at self.new c ≡ (if is_at (chunk_cmp at) c then None else chunk_value_at self.old c) }
     {
         self.map.remove(&at).is_some()
     }
@@ -234,7 +234,7 @@ impl ExtentMap {
         chunk: u32,
     ) -> Result<Option<(Key, Value)>, NoMemory>
         requires { chunk + 1 < 2 ^ 32 }
-        ensures { IfOk result (λ made. made ≡ option_map (λ homes. record_of ((file, chunk), homes)) (chunk_at self.now (file, chunk))) }
+        ensures { IfOk result (λ made. made ≡ option_map (λ homes. record_of_chunk ((file, chunk), homes)) (chunk_at self.now (file, chunk))) }
     {
         let at = (file, chunk);
         match self.map.get(&at) {
@@ -246,8 +246,8 @@ impl ExtentMap {
     /// Puts the table's records into a change. After an `Err` some of them may stand there.
     #[tactic(auto, using(crate::proofs::Laws::table_numbered))]
     pub fn to_records(&self, alloc: Global, change: &mut Change) -> Result<(), NoMemory>
-        requires { IsTable self.now }
-        ensures put { OnOk result (change.new.put ≡ change.old.put ++ map record_of self.now) }
+        requires { IsExtentTable self.now }
+        ensures put { OnOk result (change.new.put ≡ change.old.put ++ map record_of_chunk self.now) }
         ensures gone { change.new.gone ≡ change.old.gone }
     {
         self.put_records(alloc, change)
@@ -255,7 +255,7 @@ impl ExtentMap {
 
     fn put_records(&self, alloc: Global, change: &mut Change) -> Result<(), NoMemory>
         requires { AllByRecursion IsNumbered self.now }
-        ensures put { OnOk result (change.new.put ≡ change.old.put ++ map record_of self.now) }
+        ensures put { OnOk result (change.new.put ≡ change.old.put ++ map record_of_chunk self.now) }
         ensures gone { change.new.gone ≡ change.old.gone }
     {
         for (at, chunk) in self.map.iter() {
@@ -269,16 +269,16 @@ impl ExtentMap {
     #[tactic(auto, using(crate::proofs::Laws::table_found, crate::proofs::Laws::table_again))]
     pub fn from_records(alloc: Global, records: &Records) -> Result<Option<ExtentMap>, NoMemory>
         // What is read is a table that has these records.
-        ensures found { IfOk result (λ read. IfSome read (λ t. IsTable t × (of_kinds is_chunk records.now ≡ map record_of t))) }
+        ensures found { IfOk result (λ read. IfSome read (λ t. IsExtentTable t × (of_kinds is_chunk records.now ≡ map record_of_chunk t))) }
         // A table that has these records is read.
-        ensures only { IfOk result (λ read. (t : Items Chunked) → IsTable t → of_kinds is_chunk records.now ≡ map record_of t → read ≡ Some t) }
+        ensures only { IfOk result (λ read. (t : Items Chunked) → IsExtentTable t → of_kinds is_chunk records.now ≡ map record_of_chunk t → read ≡ Some t) }
     {
         let read = ExtentMap::read_right(alloc, records)?;
         Ok(read)
     }
 
     fn read_right(alloc: Global, records: &Records) -> Result<Option<ExtentMap>, NoMemory>
-        ensures { IfOk result (λ read. read ≡ without_gap (read_from is_chunk add [] records.now)) }
+        ensures { IfOk result (λ read. read ≡ without_gap (read_from is_chunk add_chunk_record [] records.now)) }
     {
         let Some(table) = ExtentMap::read(alloc, records)? else {
             return Ok(None);
@@ -292,7 +292,7 @@ impl ExtentMap {
 
     #[tactic(auto, using(asm_base::proofs::Tables::read_taken, asm_base::proofs::Tables::read_refused), unfolding(asm_base::specs::Records::read_from))]
     pub(crate) fn read(alloc: Global, records: &Records) -> Result<Option<ExtentMap>, NoMemory>
-        ensures { IfOk result (λ read. read ≡ read_from is_chunk add [] records.now) }
+        ensures { IfOk result (λ read. read ≡ read_from is_chunk add_chunk_record [] records.now) }
     {
         let mut table = ExtentMap::new(alloc);
         for (key, value) in records.iter() {
@@ -305,9 +305,9 @@ impl ExtentMap {
 
     /// Takes up one record more, or passes over one of another kind. `false` where it doesn't follow.
     fn take_up(&mut self, alloc: Global, key: Key, value: &Value) -> Result<bool, NoMemory>
-        requires { Ascend is_before self.old }
-        ensures step { IfOk result (λ taken. (if is_chunk key then add self.old (key, value.now) else Some self.old) ≡ (if taken then Some self.new else None)) }
-        ensures ascending { IfOk result (λ taken. OnTrue taken (Ascend is_before self.new)) }
+        requires { Ascend is_chunk_before self.old }
+        ensures step { IfOk result (λ taken. (if is_chunk key then add_chunk_record self.old (key, value.now) else Some self.old) ≡ (if taken then Some self.new else None)) }
+        ensures ascending { IfOk result (λ taken. OnTrue taken (Ascend is_chunk_before self.new)) }
     {
         if key.kind != record_kind::FILES || key.b == 0 {
             return Ok(true);
@@ -325,7 +325,7 @@ impl ExtentMap {
 
     /// Whether a chunk comes behind the last one.
     fn ends_before(&self, at: (u32, u32)) -> bool
-        ensures { result ≡ ends_below is_before self.now at }
+        ensures { result ≡ ends_below is_chunk_before self.now at }
     {
         match self.map.last_key_value() {
             None => true,

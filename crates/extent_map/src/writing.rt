@@ -2,8 +2,8 @@
 
 ghost use Rattle.std.specs.Prelude.{◌≡◌, ◌≤◌, ◌+◌, ◌*◌, flat_map, length, IfOk};
 ghost use Rattle.asm_formats.specs.Values.{home_fields, value};
-ghost use Rattle.asm_base.specs.Cursors.{Puts};
-ghost use Rattle.extent_map.specs.Extents.{record_of};
+ghost use Rattle.asm_base.specs.Cursors.{PutsField};
+ghost use Rattle.extent_map.specs.Extents.{record_of_chunk};
 
 use crate::chunk::Chunk;
 use asm_base::{
@@ -15,7 +15,7 @@ use std::alloc::Global;
 #[tactic(auto, unfolding(asm_formats::specs::Values::value))]
 pub fn chunk_record(alloc: Global, at: (u32, u32), chunk: &Chunk) -> Result<(Key, Value), NoMemory>
     requires { at.1 + 1 ≤ 4294967295 }
-    ensures { IfOk result (λ made. made ≡ record_of (at, chunk.now)) }
+    ensures { IfOk result (λ made. made ≡ record_of_chunk (at, chunk.now)) }
 {
     let key = Key {
         kind: record_kind::FILES,
@@ -40,7 +40,7 @@ fn chunk_value(alloc: Global, homes: &[Homes]) -> Result<Value, NoMemory>
 
 fn put_extents(to: &mut Writer, homes: &[Homes])
     requires { to.old.at + 15 * length homes.now ≤ 4096 }
-    ensures puts { Puts to.old to.new (flat_map (flat_map home_fields) homes.now) }
+    ensures puts { PutsField to.old to.new (flat_map (flat_map home_fields) homes.now) }
     ensures at { to.new.at ≡ to.old.at + 15 * length homes.now }
 {
     put_bytes(to, &[]);
@@ -51,7 +51,7 @@ fn put_extents(to: &mut Writer, homes: &[Homes])
 
 fn put_extent(to: &mut Writer, homes: &Homes)
     requires { to.old.at + 15 ≤ 4096 }
-    ensures puts { Puts to.old to.new (flat_map home_fields homes.now) }
+    ensures puts { PutsField to.old to.new (flat_map home_fields homes.now) }
     ensures at { to.new.at ≡ to.old.at + 15 }
 {
     let homes = *homes;
@@ -63,7 +63,7 @@ fn put_extent(to: &mut Writer, homes: &Homes)
 /// An absent home is 255 and 0.
 fn put_home(to: &mut Writer, home: Option<Home>)
     requires { to.old.at + 5 ≤ 4096 }
-    ensures puts { Puts to.old to.new (home_fields home) }
+    ensures puts { PutsField to.old to.new (home_fields home) }
     ensures at { to.new.at ≡ to.old.at + 5 }
 {
     match home {

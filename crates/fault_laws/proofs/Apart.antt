@@ -96,7 +96,7 @@ module _ (r : Status) (items : List Item) (t : Tables) (g : Group) (a : AreTable
       (and_parts (list_all (is_inside g.shape r.entries) (placed g.shape.step items)) (all_apart (placed g.shape.step items)) d.places)
 
   homes_right : (x : Chunked) → IsAmong t.extents x → list_all is_homes x.1 ≡ true
-  homes_right x h = chunk_homes x.0.0 x.0.1 x.1 (each_of (λ (y : Chunked). is_item (extents.item_of y) ≡ true) t.extents x a.extents.0.1 h)
+  homes_right x h = chunk_homes x.0.0 x.0.1 x.1 (each_of (λ (y : Chunked). is_item (extents.item_of_chunk y) ≡ true) t.extents x a.extents.0.1 h)
 
   pub apart : first_wrong is_on_disks t.extents ≡ None
   apart = none_wrong is_on_disks t.extents (λ x h. all_on_disks g.shape.step x.0.0 (x.0.1 * 256) x.1 (homes_right x h) (chunk_apart g.shape.step t.extents x fit.1 h))

@@ -3,7 +3,7 @@ use Rattle.std.proofs.Common.{◌≡◌, true, List, [], map, Option, Some, None
 use Rattle.std.specs.Prelude.{IfSome, is_some}
 use Rattle.asm_group.specs.Group.{Group}
 use Rattle.asm_formats.specs.Status.{Status}
-use Rattle.asm_base.specs.Records.{Entry, add_item, of_kinds, read_from, record_at}
+use Rattle.asm_base.specs.Records.{DirectoryRecord, add_item, of_kinds, read_from, record_at}
 use Rattle.asm_base.specs.Tables.{IsItemTable, entry_of_record}
 use Rattle.file_directory.specs.Files as files
 use Rattle.file_directory.proofs.Laws as file_laws
@@ -40,7 +40,7 @@ there : {A : Type 0} (o : Option A) → (o ≡ None → ⊥) → is_some o ≡ t
 there None some = absurd (some refl)
 there (Some x) some = refl
 
-module _ (r : Status) (content : List Entry) (g : Group) (i : DescribeIn content r g) where
+module _ (r : Status) (content : List DirectoryRecord) (g : Group) (i : DescribeIn content r g) where
   are : AreReadable content
   are = readable_is content (readable content i.items i.ordered i.are) i.ordered
 
@@ -51,58 +51,58 @@ module _ (r : Status) (content : List Entry) (g : Group) (i : DescribeIn content
 
   -- ---- each table is made of the records
 
-  abbrev files_in : Option (List files.File)
-  files_in = read_from files.is_mine files.add [] content
+  abbrev files_in : Option (List files.NumberedFile)
+  files_in = read_from files.is_key_of_file files.add_file_record [] content
 
-  files_there : (t : List files.File) × files.IsTable t × (of_kinds files.is_mine content ≡ map files.record_of t)
-  files_there = is_read files.IsTable (λ t. of_kinds files.is_mine content ≡ map files.record_of t) files_in
+  files_there : (t : List files.NumberedFile) × files.IsFileTable t × (of_kinds files.is_key_of_file content ≡ map files.record_of_file t)
+  files_there = is_read files.IsFileTable (λ t. of_kinds files.is_key_of_file content ≡ map files.record_of_file t) files_in
       (files_read content files_in are (λ t fits same. file_laws.table_again content files_in t refl fits same)) (file_laws.table_found content files_in refl)
 
   abbrev chunks_in : Option (List extents.Chunked)
-  chunks_in = extents.without_gap (read_from extents.is_chunk extents.add [] content)
+  chunks_in = extents.without_gap (read_from extents.is_chunk extents.add_chunk_record [] content)
 
-  chunks_there : (t : List extents.Chunked) × extents.IsTable t × (of_kinds extents.is_chunk content ≡ map extents.record_of t)
-  chunks_there = is_read extents.IsTable (λ t. of_kinds extents.is_chunk content ≡ map extents.record_of t) chunks_in
+  chunks_there : (t : List extents.Chunked) × extents.IsExtentTable t × (of_kinds extents.is_chunk content ≡ map extents.record_of_chunk t)
+  chunks_there = is_read extents.IsExtentTable (λ t. of_kinds extents.is_chunk content ≡ map extents.record_of_chunk t) chunks_in
       (extents_read content chunks_in are (λ t fits same. no_gap content i.items i.ordered i.are r g i.describes t fits same) (λ t fits same. extent_laws.table_again content chunks_in t refl fits same))
       (extent_laws.table_found content chunks_in refl)
 
   abbrev nodes_in : Option (List nodes.Numbered)
-  nodes_in = read_from nodes.is_mine (add_item nodes.is_before (entry_of_record nodes.entry_of)) [] content
+  nodes_in = read_from nodes.is_key_of_node (add_item nodes.is_before (entry_of_record nodes.node_of_item)) [] content
 
-  nodes_there : (t : List nodes.Numbered) × nodes.IsTable t × (of_kinds nodes.is_mine content ≡ map nodes.record_of t)
+  nodes_there : (t : List nodes.Numbered) × nodes.IsNodeTable t × (of_kinds nodes.is_key_of_node content ≡ map nodes.record_of_node t)
   nodes_there =
-      let n = is_read (IsItemTable nodes.is_before nodes.item_of) (λ t. of_kinds nodes.is_mine content ≡ map nodes.record_of t) nodes_in
+      let n = is_read (IsItemTable nodes.is_before nodes.item_of_node) (λ t. of_kinds nodes.is_key_of_node content ≡ map nodes.record_of_node t) nodes_in
       (tree_read content nodes_in are (λ t fits same. rule content i.items i.ordered i.are r g i.describes t fits same) (λ t fits same. node_laws.nodes_again content nodes_in refl t fits.items same))
       (node_laws.nodes_found content nodes_in refl) in
       (n.0, record { items = n.1; rule = rule content i.items i.ordered i.are r g i.describes n.0 n.1 n.2 }, n.2)
 
   abbrev templates_in : Option templates.Table
-  templates_in = templates.table_of (of_kinds templates.is_mine content)
+  templates_in = templates.table_of (of_kinds templates.is_key_of_templates content)
 
-  templates_there : (t : templates.Table) × templates.IsTable t × (of_kinds templates.is_mine content ≡ templates.records_of t)
-  templates_there = is_read templates.IsTable (λ t. of_kinds templates.is_mine content ≡ templates.records_of t) templates_in
-      (templates_read content templates_in are needed (λ t fits same. template_laws.table_again (of_kinds templates.is_mine content) templates_in t refl fits same))
-      (template_laws.table_found (of_kinds templates.is_mine content) templates_in refl)
+  templates_there : (t : templates.Table) × templates.IsTemplateTable t × (of_kinds templates.is_key_of_templates content ≡ templates.records_of_templates t)
+  templates_there = is_read templates.IsTemplateTable (λ t. of_kinds templates.is_key_of_templates content ≡ templates.records_of_templates t) templates_in
+      (templates_read content templates_in are needed (λ t fits same. template_laws.table_again (of_kinds templates.is_key_of_templates content) templates_in t refl fits same))
+      (template_laws.table_found (of_kinds templates.is_key_of_templates content) templates_in refl)
 
   abbrev marks_in : Option (List stale.Marked)
-  marks_in = read_from stale.is_marks stale.add [] content
+  marks_in = read_from stale.is_marks stale.add_marks_record [] content
 
-  marks_there : (t : List stale.Marked) × stale.IsTable t × (of_kinds stale.is_marks content ≡ map stale.record_of t)
-  marks_there = is_read stale.IsTable (λ t. of_kinds stale.is_marks content ≡ map stale.record_of t) marks_in
+  marks_there : (t : List stale.Marked) × stale.IsMarkTable t × (of_kinds stale.is_marks content ≡ map stale.record_of_marks t)
+  marks_there = is_read stale.IsMarkTable (λ t. of_kinds stale.is_marks content ≡ map stale.record_of_marks t) marks_in
       (stale_read content marks_in are (λ t fits same. stale_laws.table_again content marks_in t refl fits same)) (stale_laws.table_found content marks_in refl)
 
   abbrev operations_in : Option operations.Operations
-  operations_in = read_from operations.is_operation operation_readings.add operations.nothing_begun content
+  operations_in = read_from operations.is_operation operation_readings.add_operation_record operations.nothing_begun content
 
-  operations_there : (t : operations.Operations) × operations.IsTable t × (of_kinds operations.is_operation content ≡ operations.records_of t)
-  operations_there = is_read operations.IsTable (λ t. of_kinds operations.is_operation content ≡ operations.records_of t) operations_in
+  operations_there : (t : operations.Operations) × operations.IsOperationTable t × (of_kinds operations.is_operation content ≡ operations.records_of_operations t)
+  operations_there = is_read operations.IsOperationTable (λ t. of_kinds operations.is_operation content ≡ operations.records_of_operations t) operations_in
       (operations_read content operations_in are (λ t fits same. operation_laws.table_again content operations_in t refl fits same)) (operation_laws.table_found content operations_in refl)
 
   abbrev disks_in : Option (List disks.Disk)
-  disks_in = read_from disks.is_mine disks.add [] content
+  disks_in = read_from disks.is_key_of_disk disks.add_disk_record [] content
 
-  disks_there : (t : List disks.Disk) × disks.IsTable t × (of_kinds disks.is_mine content ≡ map disks.record_of t)
-  disks_there = is_read disks.IsTable (λ t. of_kinds disks.is_mine content ≡ map disks.record_of t) disks_in
+  disks_there : (t : List disks.Disk) × disks.IsDiskTable t × (of_kinds disks.is_key_of_disk content ≡ map disks.record_of_disk t)
+  disks_there = is_read disks.IsDiskTable (λ t. of_kinds disks.is_key_of_disk content ≡ map disks.record_of_disk t) disks_in
       (disks_read content disks_in are (λ t fits same. disk_laws.table_again content disks_in t refl fits same)) (disk_laws.table_found content disks_in refl)
 
   -- ---- all of them

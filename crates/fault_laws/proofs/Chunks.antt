@@ -20,7 +20,7 @@ use Rattle.extent_map.proofs.Laws.{chunk_total}
 use Rattle.extent_map.proofs.Numbering.{size_of}
 use Rattle.staleness_directory.specs.Marks.{Marked, marks_at}
 use Rattle.catalog_tables.specs.Tables.{AreTables, Tables}
-use Rattle.catalog_tables.specs.Rules.{AreOnRegular, are_chunk_marks, are_marks_of, are_on_regular, are_within, are_within_head, first_wrong, has_chunk, has_marks, is_mark_of, is_marked_right, is_on_regular, is_owned, is_regular_chunk, is_within, keeps_copies, marks_of}
+use Rattle.catalog_tables.specs.Rules.{AreOnRegular, are_chunk_marks, are_marks_of, are_on_regular, are_within, are_within_head, first_wrong, has_chunk, has_marks, is_mark_of, is_marked_right, is_on_regular, is_owned, is_regular_chunk, is_home_within, keeps_copies, marks_of}
 use Rattle.catalog_tables.specs.Items.{AreItemsOf}
 use Rattle.catalog_tables.proofs.TableItems.{among_found, chunks_exact}
 use Rattle.catalog_laws.proofs.ItemLaws.{heads_are, homes_are, marks_are, stale_are}
@@ -35,7 +35,7 @@ or_true : (b : Bool) → (b || true) ≡ true
 or_true true = refl
 or_true false = refl
 
-within_one : (n k : ℕ) (hs : Homes) → (n ≤ k → get_or hs k None ≡ None) → is_within n hs k ≡ true
+within_one : (n k : ℕ) (hs : Homes) → (n ≤ k → get_or hs k None ≡ None) → is_home_within n hs k ≡ true
 within_one n k hs none = elim (cases_lt k n) [
   | inl lt ↦ rw (lt-ltb k n lt) refl
   | inr le ↦ rw (none le) (or_true (nat_lt k n))
@@ -43,8 +43,8 @@ within_one n k hs none = elim (cases_lt k n) [
 
 within : (n : ℕ) (hs : Homes) → ((k : ℕ) → n ≤ k → get_or hs k None ≡ None) → are_within n hs ≡ true
 within n hs none =
-    and_from (is_within n hs 0) (is_within n hs 1 && is_within n hs 2) (within_one n 0 hs (none 0))
-    (and_from (is_within n hs 1) (is_within n hs 2) (within_one n 1 hs (none 1)) (within_one n 2 hs (none 2)))
+    and_from (is_home_within n hs 0) (is_home_within n hs 1 && is_home_within n hs 2) (within_one n 0 hs (none 0))
+    (and_from (is_home_within n hs 1) (is_home_within n hs 2) (within_one n 1 hs (none 1)) (within_one n 2 hs (none 2)))
 
 mark_one : (m k : ℕ) (hs : Homes) → (has_bit m k ≡ true → is_some (get_or hs k None) ≡ true) → is_mark_of m hs k ≡ true
 mark_one m k hs there = by (has_bit m k) refl where

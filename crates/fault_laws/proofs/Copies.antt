@@ -22,7 +22,7 @@ use Rattle.asm_images.specs.Kept.{header_in}
 use Rattle.catalog_tables.proofs.TableItems.{right_among}
 use Rattle.change_directory.specs.declared.copy.DirCopy.{DirCopy}
 use Rattle.change_directory.specs.Changes.{content_in}
-use Rattle.change_directory.specs.StoreLaws.{HasContent, counted}
+use Rattle.change_directory.specs.StoreLaws.{HasContent, counting_page}
 use Rattle.directory_store.specs.Loading.{HasTwins, LoadCause}
 use Rattle.directory_store.specs.Reading.{HasDamage}
 use Rattle.directory_store.specs.declared.error.LoadError.{LoadError}
@@ -59,7 +59,7 @@ no_twins c number block page x has right twins =
     let other = ap page_items (at twins.page twins.inside) ∙ twins.reads_second in
     records_apart pages items.0 items.1 twins.earlier twins.page twins.first twins.second twins.before (omega (arith, length-map-range_with_len page 0 c.dir_blocks, twins.inside)) one other (ap key_rank twins.one_key)
   where
-    at : (p : ℕ) → p < c.dir_blocks → get_or (map page (range_with_len 0 c.dir_blocks)) p [] ≡ counted c x p
+    at : (p : ℕ) → p < c.dir_blocks → get_or (map page (range_with_len 0 c.dir_blocks)) p [] ≡ counting_page c x p
     at p lt = get_or-map-range_with_len page 0 c.dir_blocks p p [] lt (omega arith) ∙ sym (has.pages.pages p lt)
 
 module _ (s t : BayState) (found : FoundDisks) (survey : Surveyed) (groups : List Group) (held later : Image) (there : AreThere found.slots found.headed s) (left : s.leaves s.calls held)

@@ -32,7 +32,7 @@ use Rattle.status_register.proofs.Meeting.{surveyed_record_counts}
 use Rattle.catalog_tables.specs.Faults.{IsAtFault}
 use Rattle.group_mount.specs.Founds.{FoundDisks}
 use Rattle.group_mount.specs.Loads.{copies_read}
-use Rattle.group_mount.specs.NamedCopies.{copy_of}
+use Rattle.group_mount.specs.NamedCopies.{directory_copy_of}
 use Rattle.group_mount.specs.Verdicts.{member_of}
 use Rattle.group_mount.specs.declared.finding.Headed.{Headed}
 use Rattle.group_mount.proofs.Alikes.{shape_from}
@@ -55,7 +55,7 @@ content_here : (x : Image) (slot : ℕ) (h : Header) → header_in x slot ≡ So
 unfolding metadata
 content_here x slot h is = ap (λ (o : Option Header). said_content o (disk_bytes x slot)) is
 
-copy_here : (x : Image) (k : Headed) (c : DirCopy) → c ≡ copy_of k → header_in x k.slot ≡ Some k.header → (disk_in x k.slot).content ≡ content_in c x
+copy_here : (x : Image) (k : Headed) (c : DirCopy) → c ≡ directory_copy_of k → header_in x k.slot ≡ Some k.header → (disk_in x k.slot).content ≡ content_in c x
 copy_here x k c copy is = content_here x k.slot k.header is ∙ (λ i. copy_content (sym copy i).dir_blocks (disk_bytes x (sym copy i).slot))
 
 module _ (found : FoundDisks) (survey : Surveyed) (store : Stored) (shape : Shape) (t : BayState) (w : WasLoaded found survey store shape t) (x : Image) (left : t.leaves t.calls x) where

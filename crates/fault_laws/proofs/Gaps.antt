@@ -10,8 +10,8 @@ use Rattle.asm_formats.specs.Items.{Homes, Item, chunk_len, file_item, chunk_ite
 use Rattle.asm_formats.specs.Status.{Status}
 use Rattle.asm_placement.specs.Tables.{first_said, home_of, homes_in, if_is, is_extent}
 use Rattle.asm_images.specs.Describing.{DescribesGroup}
-use Rattle.asm_base.specs.Chunks.{chunk_cmp, is_before}
-use Rattle.asm_base.specs.Records.{Entry, key_cmp, keys_of, of_kinds}
+use Rattle.asm_base.specs.Chunks.{chunk_cmp, is_chunk_before}
+use Rattle.asm_base.specs.Records.{DirectoryRecord, key_cmp, keys_of, of_kinds}
 use Rattle.asm_base.specs.Tables.{IsItemTable}
 use Rattle.asm_base.proofs.Exact.{some_is, test_some}
 use Rattle.extent_map.specs.Extents as extents
@@ -52,19 +52,19 @@ or_first : (a b c : Bool) → ((a || b) || c) ≡ (a || (b || c))
 or_first true b c = refl
 or_first false b c = refl
 
-module _ (content : List Entry) (items : List Item) (sorted : IsStrictlySortedBy key_cmp (keys_of content)) (are : AreItemsIn content items) (r : Status) (g : Group) (d : DescribesGroup r items g)
-    (table : List Chunked) (fits : IsItemTable is_before extents.item_of table) (same : of_kinds extents.is_chunk content ≡ map extents.record_of table) where
+module _ (content : List DirectoryRecord) (items : List Item) (sorted : IsStrictlySortedBy key_cmp (keys_of content)) (are : AreItemsIn content items) (r : Status) (g : Group) (d : DescribesGroup r items g)
+    (table : List Chunked) (fits : IsItemTable is_chunk_before extents.item_of_chunk table) (same : of_kinds extents.is_chunk content ≡ map extents.record_of_chunk table) where
   homes_are : (f c : ℕ) → homes_in items f c ≡ chunk_at table (f, c)
   homes_are f c = homes_said items f c ∙ said_by (tells_chunk f c) items (chunk_at table (f, c)) there only where
     there : (y : List Homes) → chunk_at table (f, c) ≡ Some y → (i : Item) × IsAmong items i × (tells_chunk f c i ≡ Some y)
     there y e =
         let among = found_is chunk_cmp chunk_total chunks_exact (f, c) table y e in
-        (chunk_item f c y, into content items sorted are extents.item_of extents.is_chunk table same fits.1 ((f, c), y) among, rw (eq-eqb f f refl, eq-eqb c c refl) refl)
+        (chunk_item f c y, into content items sorted are extents.item_of_chunk extents.is_chunk table same fits.1 ((f, c), y) among, rw (eq-eqb f f refl, eq-eqb c c refl) refl)
 
     only : (j : Item) (z : List Homes) → IsAmong items j → tells_chunk f c j ≡ Some z → chunk_at table (f, c) ≡ Some z
     only j z h e =
         let mine : extents.is_chunk (extents.chunk_key f c) ≡ true = ap not (ne_eqb (c + 1) 0 (λ e. omega (arith, e))) in
-        let b = back content items sorted are extents.item_of extents.is_chunk table same fits.1 (chunk_item f c z) (subst (λ (i : Item). IsAmong items i) (told f c j z e) h) mine in
+        let b = back content items sorted are extents.item_of_chunk extents.is_chunk table same fits.1 (chunk_item f c z) (subst (λ (i : Item). IsAmong items i) (told f c j z e) h) mine in
         let one : ((f, c), z) ≡ b.0 = some_is ((f, c), z) b.0 (ap extents.chunked b.2) in
         among_found chunk_cmp chunk_total chunks_exact table ((f, c), z) fits.0 (subst (λ (x : Chunked). IsAmong table x) (sym one) b.1)
 

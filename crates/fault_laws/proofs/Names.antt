@@ -13,14 +13,14 @@ use Rattle.asm_formats.specs.Among.{IsAmong}
 use Rattle.asm_formats.specs.Items.{FileHead, Item, Node}
 use Rattle.asm_formats.specs.Status as status
 use Rattle.asm_formats.specs.Status.{Status}
-use Rattle.asm_placement.specs.Naming.{is_birth, is_directory, is_named_as, names_back}
+use Rattle.asm_placement.specs.Naming.{is_birth, is_kind_directory, is_named_as, names_back}
 use Rattle.asm_images.specs.Describing.{DescribesGroup}
 use Rattle.asm_images.specs.Describing as images
 use Rattle.asm_images.specs.Tables.{node_of}
-use Rattle.file_directory.specs.Files.{File, head_at}
+use Rattle.file_directory.specs.Files.{NumberedFile, head_at}
 use Rattle.alias_tree.specs.Nodes.{Numbered, node_at}
 use Rattle.catalog_tables.specs.Tables.{AreTables, Tables}
-use Rattle.catalog_tables.specs.Rules.{first_unknown, first_wrong, has_info, has_names, is_named_back, names_file}
+use Rattle.catalog_tables.specs.Rules.{first_unknown, first_wrong, has_info, has_names, is_named_back, names_file_in_tables}
 use Rattle.catalog_tables.specs.Items.{AreItemsOf}
 use Rattle.catalog_tables.proofs.TableItems.{among_found, numbers_exact}
 use Rattle.catalog_laws.proofs.ItemLaws.{heads_are}
@@ -42,24 +42,24 @@ module _ (r : Status) (items : List Item) (t : Tables) (g : Group) (a : AreTable
   node_found : (x : Numbered) → IsAmong t.nodes x → node_at t.nodes x.0 ≡ Some x.1
   node_found x h = among_found nat_cmp nat_cmp_total numbers_exact t.nodes x a.nodes.items.0 h
 
-  pub file_found : (x : File) → IsAmong t.files x → head_at t.files x.0 ≡ Some x.1
+  pub file_found : (x : NumberedFile) → IsAmong t.files x → head_at t.files x.0 ≡ Some x.1
   file_found x h = among_found nat_cmp nat_cmp_total numbers_exact t.files x a.files.0 h
 
   pub nodes : first_wrong (is_named_back t) t.nodes ≡ None
   nodes = none_wrong (is_named_back t) t.nodes (λ x h.
-      ap (λ (o : Option FileHead). is_directory x.1.kind || names_back x.1.kind x.0 o) (sym (heads_are t items a is x.1.file))
+      ap (λ (o : Option FileHead). is_kind_directory x.1.kind || names_back x.1.kind x.0 o) (sym (heads_are t items a is x.1.file))
       ∙ d.tree_rules.nodes x.0 x.1 (nodes_are t items is x.0 ∙ node_found x h))
 
-  named : (f : ℕ) (kind : NodeKind) (n : ℕ) → names_file t f kind n ≡ (eqb n 0 || is_named_as kind f (node_of items n))
+  named : (f : ℕ) (kind : NodeKind) (n : ℕ) → names_file_in_tables t f kind n ≡ (eqb n 0 || is_named_as kind f (node_of items n))
   named f kind n = ap (λ (o : Option Node). eqb n 0 || is_named_as kind f o) (sym (nodes_are t items is n))
 
   pub names : first_wrong (has_names t) t.files ≡ None
   names = none_wrong (has_names t) t.files (λ x h.
       let there = heads_are t items a is x.0 ∙ file_found x h in
-      and_from (names_file t x.0 System x.1.system) (names_file t x.0 Alias x.1.alias)
+      and_from (names_file_in_tables t x.0 System x.1.system) (names_file_in_tables t x.0 Alias x.1.alias)
       (named x.0 System x.1.system ∙ d.tree_rules.system x.0 x.1 there)
       (named x.0 Alias x.1.alias ∙ d.tree_rules.alias x.0 x.1 there))
 
   pub infos : first_unknown t r.entries ≡ None
   infos = none_unknown (has_info t) r.entries
-      (same_all (has_info t) (images.has_info items) r.entries (λ e. ap (is_birth e.birth) (sym (infos_are t items is e.number))) ∙ d.disks)
+      (same_all (has_info t) (images.has_info_in_items items) r.entries (λ e. ap (is_birth e.birth) (sym (infos_are t items is e.number))) ∙ d.disks)

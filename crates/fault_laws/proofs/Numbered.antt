@@ -10,9 +10,9 @@ use Rattle.asm_formats.specs.Among.{IsAmong}
 use Rattle.asm_formats.specs.Items.{Homes}
 use Rattle.asm_base.specs.Records.{Ascend}
 use Rattle.asm_base.specs.Tables.{IsItemTable}
-use Rattle.asm_base.specs.Chunks.{Chunk, chunk_cmp, is_before}
+use Rattle.asm_base.specs.Chunks.{Chunk, chunk_cmp, is_chunk_before}
 use Rattle.asm_base.proofs.Exact.{test_some}
-use Rattle.extent_map.specs.Extents.{Chunked, chunk_at, has_extent, has_home, has_no_gap, is_behind, is_blank, is_full, item_of, opened, stand_first, stands_at}
+use Rattle.extent_map.specs.Extents.{Chunked, chunk_at, has_extent, has_home, has_no_gap, is_behind, is_blank, is_full, item_of_chunk, opened, stand_first, stands_at}
 use Rattle.extent_map.proofs.Laws.{chunk_total}
 use Rattle.extent_map.proofs.Numbering.{size_of, the_chunk}
 use Rattle.catalog_tables.proofs.TableItems.{among_found, below, chunks_exact, found_is, numbers_exact, tail_up}
@@ -101,7 +101,7 @@ record AreBehind (before : Option Chunk) (t : List Chunked) : Type 0 where
       → (before ≡ Some (x.0.0, c)) ⊎ ((y : Chunked) × IsAmong t y × (y.0 ≡ (x.0.0, c)) × (is_full y.1 ≡ true))
   later : (k : Chunk) → before ≡ Some k → (x : Chunked) → IsAmong t x → chunk_cmp k x.0 ≡ Less
 
-module _ (before : Option Chunk) (x : Chunked) (t : List Chunked) (up : Ascend is_before (x ∷ t)) (b : AreBehind before (x ∷ t)) where
+module _ (before : Option Chunk) (x : Chunked) (t : List Chunked) (up : Ascend is_chunk_before (x ∷ t)) (b : AreBehind before (x ∷ t)) where
   behind_first : (y : Chunked) → IsAmong t y → chunk_cmp x.0 y.0 ≡ Less
   behind_first y h = below chunk_cmp chunk_total chunks_exact x t y up h
 
@@ -142,7 +142,7 @@ module _ (before : Option Chunk) (x : Chunked) (t : List Chunked) (up : Ascend i
       ]
     ]
 
-none_by : (t : List Chunked) (before : Option Chunk) → Ascend is_before t → AreBehind before t → ((x : Chunked) → IsAmong t x → stand_first false x.1 ≡ true) → has_no_gap before t ≡ true
+none_by : (t : List Chunked) (before : Option Chunk) → Ascend is_chunk_before t → AreBehind before t → ((x : Chunked) → IsAmong t x → stand_first false x.1 ≡ true) → has_no_gap before t ≡ true
 none_by [] before up b first = refl
 none_by (x ∷ t) before up b first =
     rw (stands before x t up b (first x (inl refl)))
@@ -150,7 +150,7 @@ none_by (x ∷ t) before up b first =
 
 -- ---- a table whose extents are numbered
 
-module _ (table : List Chunked) (fits : IsItemTable is_before item_of table) (numbered : (f i : ℕ) → has_extent table f (suc i) ≡ true → has_extent table f i ≡ true) where
+module _ (table : List Chunked) (fits : IsItemTable is_chunk_before item_of_chunk table) (numbered : (f i : ℕ) → has_extent table f (suc i) ≡ true → has_extent table f i ≡ true) where
   found : (x : Chunked) → IsAmong table x → chunk_at table x.0 ≡ Some x.1
   found x h = among_found chunk_cmp chunk_total chunks_exact table x fits.0 h
 

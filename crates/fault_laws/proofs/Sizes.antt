@@ -51,16 +51,16 @@ some_copies : (n : ℕ) → is_redundancy n ≡ true → 0 < n
 some_copies n e = leb-true 1 n (and_parts _ _ e).0
 
 module _ (r : Status) (items : List Item) (t : Tables) (g : Group) (a : AreTables t) (is : AreItemsOf t items) (d : DescribesGroup r items g) where
-  of_file : (x : heads.File) → IsAmong t.files x → (file : File) → maps.get g.files x.0 ≡ Some file → IsHeadOf x.1 file → HasExtents t g.shape x
+  of_file : (x : heads.NumberedFile) → IsAmong t.files x → (file : File) → maps.get g.files x.0 ≡ Some file → IsHeadOf x.1 file → HasExtents t g.shape x
   of_file x h file at same i due =
       let head = head_is t x.0 x.1 a (file_found r items t g a is d x h) in
-      let here : layout.has_extent file.stripe g.shape.au g.shape.step (length file.cells) i ≡ true =
-      ap (λ (s : Stripe). layout.has_extent s g.shape.au g.shape.step (length file.cells) i) (sym same.1)
-      ∙ ap (λ (n : ℕ). layout.has_extent x.1.stripe g.shape.au g.shape.step n i) (sym same.4) ∙ due in
+      let here : layout.has_extent_by_size file.stripe g.shape.au g.shape.step (length file.cells) i ≡ true =
+      ap (λ (s : Stripe). layout.has_extent_by_size s g.shape.au g.shape.step (length file.cells) i) (sym same.1)
+      ∙ ap (λ (n : ℕ). layout.has_extent_by_size x.1.stripe g.shape.au g.shape.step n i) (sym same.4) ∙ due in
       all_there x.1.copies (chunk_at t.extents (x.0, i / chunk_len)) (i % chunk_len) (some_copies x.1.copies head.copies)
       (λ copy lt. ap is_some (sym (home_by t items a is x.0 i copy)) ∙ d.extents x.0 i copy file at here (subst (λ (n : ℕ). copy < n) same.0 lt))
 
-  of_head : (x : heads.File) → IsAmong t.files x → HasExtents t g.shape x
+  of_head : (x : heads.NumberedFile) → IsAmong t.files x → HasExtents t g.shape x
   of_head x h = by (maps.get g.files x.0) refl (subst (λ (o : Option FileHead). SameFile o (maps.get g.files x.0)) found (same_file r items t g a is d x.0)) where
     found : head_at t.files x.0 ≡ Some x.1
     found = file_found r items t g a is d x h

@@ -12,12 +12,12 @@ use Rattle.asm_group.specs.Group.{Group}
 use Rattle.asm_formats.specs.Among.{IsAmong}
 use Rattle.asm_formats.specs.Items.{Item, Node, file_item, chunk_item, disk_item, rebalance_item, pending_item, templates_item, node_item, settings_item, marks_item}
 use Rattle.asm_formats.specs.Status.{Status}
-use Rattle.asm_placement.specs.Naming.{is_directory}
+use Rattle.asm_placement.specs.Naming.{is_kind_directory}
 use Rattle.asm_placement.specs.Tables.{first_said, if_is}
 use Rattle.asm_images.specs.Describing.{DescribesGroup}
 use Rattle.asm_images.specs.Tables.{node_of}
 use Rattle.asm_images.specs.Tree as images
-use Rattle.asm_base.specs.Records.{Entry, key_cmp, keys_of, of_kinds}
+use Rattle.asm_base.specs.Records.{DirectoryRecord, key_cmp, keys_of, of_kinds}
 use Rattle.asm_base.specs.Tables.{IsItemTable}
 use Rattle.asm_base.proofs.Exact.{some_is, test_some}
 use Rattle.alias_tree.specs.Nodes as nodes
@@ -51,34 +51,34 @@ told n (templates_item ts) y e = absurd cc
 told n (settings_item s) y e = absurd cc
 told n (marks_item f c m) y e = absurd cc
 
-same_directory : (k : NodeKind) → nodes.kind_is_directory k ≡ is_directory k
+same_directory : (k : NodeKind) → nodes.kind_is_directory k ≡ is_kind_directory k
 same_directory Directory = refl
 same_directory System = refl
 same_directory Alias = refl
 
-module _ (content : List Entry) (items : List Item) (sorted : IsStrictlySortedBy key_cmp (keys_of content)) (are : AreItemsIn content items) (r : Status) (g : Group) (d : DescribesGroup r items g)
-    (table : List Numbered) (fits : IsItemTable nodes.is_before nodes.item_of table) (same : of_kinds nodes.is_mine content ≡ map nodes.record_of table) where
+module _ (content : List DirectoryRecord) (items : List Item) (sorted : IsStrictlySortedBy key_cmp (keys_of content)) (are : AreItemsIn content items) (r : Status) (g : Group) (d : DescribesGroup r items g)
+    (table : List Numbered) (fits : IsItemTable nodes.is_before nodes.item_of_node table) (same : of_kinds nodes.is_key_of_node content ≡ map nodes.record_of_node table) where
   nodes_are : (n : ℕ) → node_of items n ≡ node_at table n
   nodes_are n = node_said items n ∙ said_by (tells_node n) items (node_at table n) there only where
     there : (y : Node) → node_at table n ≡ Some y → (i : Item) × IsAmong items i × (tells_node n i ≡ Some y)
     there y e =
         let among = found_is nat_cmp nat_cmp_total numbers_exact n table y e in
-        (node_item n y, into content items sorted are nodes.item_of nodes.is_mine table same fits.1 (n, y) among, rw (eq-eqb n n refl) refl)
+        (node_item n y, into content items sorted are nodes.item_of_node nodes.is_key_of_node table same fits.1 (n, y) among, rw (eq-eqb n n refl) refl)
 
     only : (j : Item) (z : Node) → IsAmong items j → tells_node n j ≡ Some z → node_at table n ≡ Some z
     only j z h e =
-        let b = back content items sorted are nodes.item_of nodes.is_mine table same fits.1 (node_item n z) (subst (λ (i : Item). IsAmong items i) (told n j z e) h) refl in
-        let one : (n, z) ≡ b.0 = some_is (n, z) b.0 (ap nodes.entry_of b.2) in
+        let b = back content items sorted are nodes.item_of_node nodes.is_key_of_node table same fits.1 (node_item n z) (subst (λ (i : Item). IsAmong items i) (told n j z e) h) refl in
+        let one : (n, z) ≡ b.0 = some_is (n, z) b.0 (ap nodes.node_of_item b.2) in
         among_found nat_cmp nat_cmp_total numbers_exact table (n, z) fits.0 (subst (λ (x : Numbered). IsAmong table x) (sym one) b.1)
 
   abbrev IsSame : ℕ → Type 0
-  IsSame steps = (n : ℕ) → nodes.reaches_root table steps n ≡ images.reaches_root items steps n
+  IsSame steps = (n : ℕ) → nodes.reaches_root table steps n ≡ images.reaches_root_in_items items steps n
 
   same_reaches : (steps : ℕ) → IsSame steps
   unfolding nodes.reaches_root
   same_reaches zero n = refl
   same_reaches (suc steps) n = by (node_at table n) refl (same_reaches steps) where
-    by : (o : Option Node) → node_at table n ≡ o → IsSame steps → nodes.reaches_root table (suc steps) n ≡ images.reaches_root items (suc steps) n
+    by : (o : Option Node) → node_at table n ≡ o → IsSame steps → nodes.reaches_root table (suc steps) n ≡ images.reaches_root_in_items items (suc steps) n
     by None e rest = rw (nodes_are n, e) refl
     by (Some node) e rest = rw (nodes_are n, e) (ap (λ (b : Bool). eqb n 0 || b) (rest node.parent))
 

@@ -20,7 +20,7 @@ use Rattle.asm_world.specs.Files as f
 use Rattle.asm_world.specs.Numbers as code
 use Rattle.asm_world.specs.Paths.{target_from}
 use Rattle.asm_world.specs.Reply.{Reply, Done, Refused}
-use Rattle.asm_world.specs.Step.{Has, Reads, Step}
+use Rattle.asm_world.specs.Step.{HasMountedGroup, ReadsFile, Step}
 use Rattle.asm_world.specs.Waits.{HasLines}
 use Rattle.asm_world.specs.World.{SessionEntry, SessionState, World, Mounted, DismountedBy, entry_among, entry_in, groups_of, is_mounted, mounted_group}
 use Rattle.session.proofs.catalog_laws.HavingItems.{have_items}
@@ -209,7 +209,7 @@ module _ (paths : List Bytes) (text path : Bytes) (at size : ℕ) (says : meanin
       abbrev g : Group
       g = as_mounted.group
 
-      has : Has w name entry.id g
+      has : HasMountedGroup w name entry.id g
       has = record { entry = entry; named = named_so; is = refl; mounted = group.on.state; only = list_of (maps.get w.groups entry.id) g as_mounted.only }
 
       found_group : mounted_group w name ≡ Some g
@@ -259,7 +259,7 @@ module _ (paths : List Bytes) (text path : Bytes) (at size : ℕ) (says : meanin
             (subst (λ (h : Group). maps.get h.files file.file ≡ Some the_file) (sym of_tables) (named.has_file g.name m.catalog.shape m.catalog.tables (cells_of g) inside as_mounted.mounts.whole.are_tables file opens.opened))
             (sym opens.opened.stripe) (omega (arith, long, read.many)))
 
-        reads : Reads at size lines inside g
+        reads : ReadsFile at size lines inside g
         reads = record {
           file = the_file;
           bytes = read.bytes;

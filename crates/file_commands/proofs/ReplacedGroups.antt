@@ -32,7 +32,7 @@ pub record IsWorkedOn (es entries' : List SessionEntry) (groups groups' : List M
   pub found : group_among es groups name ≡ Some before
   pub apart : AreNamesApart es
   pub lengths : length groups ≡ length es
-  pub groups_are : groups' ≡ session.with_group es groups name after
+  pub groups_are : groups' ≡ session.with_group_named es groups name after
   pub entries_are : entries' ≡ with_state es name (state_view after)
   pub on : entry.state ≡ Mounted
 
@@ -98,7 +98,7 @@ module _ (w : World) (entries' : List SessionEntry) (groups groups' : List Mount
     all_done told_done f m k at_f on_f only named = ⊎_elim
         (λ mine.
         let was_there = subst (λ (l : List MountedGroup). IsPaired w.session l f m) worked.groups_are at_f in
-        let f_among : IsAmong w.session f = paired_among w.session (session.with_group w.session groups name after) f m was_there in
+        let f_among : IsAmong w.session f = paired_among w.session (session.with_group_named w.session groups name after) f m was_there in
         let one : f ≡ entry = one_named w.session name entry f worked.apart worked.named f_among mine.0 in
         let alike : h ≡ k = cons_same h k (sym (at_id w w_done entry.id (h ∷ []) replaces) ∙ ap (λ (x : SessionEntry). groups_of w_done x.id) (sym one) ∙ only) in
         subst (λ (x : Group). IsToldBy m x) alike (subst (λ (x : MountedGroup). IsToldBy x h) (sym mine.1) told_done))
@@ -117,7 +117,7 @@ module _ (w : World) (entries' : List SessionEntry) (groups groups' : List Mount
       pairs = λ f m at_f on_f. ⊎_elim
           (λ mine.
           let was_there = subst (λ (l : List MountedGroup). IsPaired w.session l f m) worked.groups_are at_f in
-          let f_among : IsAmong w.session f = paired_among w.session (session.with_group w.session groups name after) f m was_there in
+          let f_among : IsAmong w.session f = paired_among w.session (session.with_group_named w.session groups name after) f m was_there in
           inl (ap (λ (x : SessionEntry). x.id) (one_named w.session name entry f worked.apart worked.named f_among mine.0), mine.1))
           (λ other. inr (other_entry ids f m other.1 on_f other.0, other.1))
           (paired_with w.session groups name after f m worked.apart (subst (λ (l : List MountedGroup). IsPaired w.session l f m) worked.groups_are at_f));

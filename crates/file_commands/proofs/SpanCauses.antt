@@ -7,7 +7,7 @@ use Rattle.asm_group.specs.Group.{Cell, Group}
 use Rattle.asm_group.specs.Names.{Bytes, Path}
 use Rattle.asm_group.specs.Refusal as r
 use Rattle.asm_group.specs.Shape.{Shape, is_dir_blocks, is_sector, is_shape, is_step, is_unit_size}
-use Rattle.asm_world.specs.Causes.{Cause, IsCaused, When, decided, may, tests}
+use Rattle.asm_world.specs.Causes.{Cause, IsCaused, When, decided, may, tested_causes}
 use Rattle.asm_world.specs.Edits as e
 use Rattle.asm_world.specs.Files as f
 use Rattle.asm_world.specs.Numbers as code
@@ -80,7 +80,7 @@ sectors_are true x y is = absurd (true≢false is)
 
 -- what may refuse a call on a span of a file, of which faults have this number
 abbrev pub causes_of_span : ℕ → ℕ → ℕ → Path → Group → List Cause
-causes_of_span fault at len path g = tests (f.span_causes g path at len) ++ may (code.lost ∷ fault ∷ code.dismounted ∷ [])
+causes_of_span fault at len path g = tested_causes (f.span_causes g path at len) ++ may (code.lost ∷ fault ∷ code.dismounted ∷ [])
 
 -- the causes of a read
 abbrev pub read_causes : Path → ℕ → ℕ → Group → List Cause
@@ -105,7 +105,7 @@ module _ (fault : ℕ) (m : MountedGroup) (shape : IsTrue (is_shape m.catalog.sh
   g = group_of name m.catalog.shape m.catalog.tables cells
 
   abbrev no_file : Bool
-  no_file = not (e.is_file g path)
+  no_file = not (e.group_has_file g path)
 
   abbrev no_sectors : Bool
   no_sectors = not (f.is_sectors g at) || not (f.is_sectors g len)

@@ -13,14 +13,14 @@ use Rattle.asm_group.specs.Refusal as r
 use Rattle.asm_formats.specs.Among.{IsAmong}
 use Rattle.asm_placement.proofs.Membership.{among_left, among_right}
 use Rattle.asm_world.specs.Below.{Below, GroupBelow}
-use Rattle.asm_world.specs.Between.{Between, MayStandFor, also, changed_or_none, groups_named, group_at, group_of, groups_between, with_free_at, with_free_in, with_free_of, with_span_free}
+use Rattle.asm_world.specs.Between.{Between, MayStandFor, also, changed_or_none, groups_named, group_at, group_name_of, groups_between, with_free_at, with_free_in, with_free_of, with_span_free}
 use Rattle.asm_world.specs.Causes.{Cause, When, HasCause, IsCaused, at_path, at_target, causes, decided, group_causes, in_group, state_causes}
 use Rattle.asm_world.specs.Command.{Command, Asked, DbFill, DbWrite}
 use Rattle.asm_world.specs.Files as f
 use Rattle.asm_world.specs.Numbers as code
 use Rattle.asm_world.specs.Paths.{target_from}
 use Rattle.asm_world.specs.Reply.{Done, Refused}
-use Rattle.asm_world.specs.Step.{ChangesAt, DoneCommand, Has, IsDismounted, IsTorn, MayStopTorn, RefusedCommand}
+use Rattle.asm_world.specs.Step.{ChangesAt, DoneCommand, HasMountedGroup, IsDismounted, IsTorn, MayStopTorn, RefusedCommand}
 use Rattle.asm_world.specs.Waits.{HasLines}
 use Rattle.asm_world.specs.World.{SessionEntry, World, DismountedBy, entry_in, groups_of, mounted_group, only_group, with_dismounted, with_group}
 use Rattle.session.specs.group_disks.Found.{Counts}
@@ -49,7 +49,7 @@ pub record IsWrite (command : Command) (path : Bytes) (at : ℕ) (bytes : Bytes)
   pub named : (w : World) → groups_named w command ≡ group_at w path
   pub freed : (w : World) → with_span_free w command ≡ with_free_at w (target_from w.place path) at (length bytes)
   pub causes_are : (below : Below) (w : World) → causes below w command ≡ at_path w path (write_causes at (length bytes))
-  pub done : (below : Below) (w new : World) → ChangesAt w path (λ id p old changed. f.written old p at (f.known bytes) ≡ Ok changed) new
+  pub done : (below : Below) (w new : World) → ChangesAt w path (λ id p old changed. f.group_after_write old p at (f.known bytes) ≡ Ok changed) new
       → DoneCommand below w command [] new
   pub left : (below : Below) (w : World) (cause : r.Refusal) (new : World) → Left below w command cause new → RefusedCommand below w command cause new
   pub lines : (below : Below) (w : World) → HasLines below w command (Done []) × ((cause : r.Refusal) → HasLines below w command (Refused [] cause))
@@ -95,7 +95,7 @@ dbfill_is path at size byte = record {
   freed = λ w. ap (λ (n : ℕ). with_free_at w (target_from w.place path) at n) (sym (length-replicate size byte));
   causes_are = λ below w. ap (λ (n : ℕ). at_path w path (write_causes at n)) (sym (length-replicate size byte));
   done = λ below w new changes.
-      (subst (λ (cells : List Cell). ChangesAt w path (λ id p old changed. f.written old p at cells ≡ Ok changed) new) (known_again size byte) changes, refl);
+      (subst (λ (cells : List Cell). ChangesAt w path (λ id p old changed. f.group_after_write old p at cells ≡ Ok changed) new) (known_again size byte) changes, refl);
   left = λ below w cause new left. left_fill path at size byte below w cause new left;
   lines = λ below w. (tt, λ cause. refl);
   changes = refl;
@@ -135,7 +135,7 @@ module _ (command : Command) (path : Bytes) (at : ℕ) (bytes : Bytes) (write : 
     in_named = write.causes_are below w ∙ ap (λ (o : Option (Bytes × Path)). at_target w o (write_causes at len)) leads
 
     names : groups_named w command ≡ name ∷ []
-    names = write.named w ∙ ap group_of leads
+    names = write.named w ∙ ap group_name_of leads
 
     -- ---- the group isn't in the session, or is dismounted
 
@@ -160,7 +160,7 @@ module _ (command : Command) (path : Bytes) (at : ℕ) (bytes : Bytes) (write : 
 
     -- ---- the group is mounted
 
-    module _ (id : ℕ) (g : Group) (has : Has w name id g) where
+    module _ (id : ℕ) (g : Group) (has : HasMountedGroup w name id g) where
       there : mounted_group w name ≡ Some g
       there = rw (has.named, has.mounted, has.is, has.only) refl
 
@@ -172,7 +172,7 @@ module _ (command : Command) (path : Bytes) (at : ℕ) (bytes : Bytes) (write : 
       caused cause is = has_cause below w command cause (subst (λ (l : List Cause). IsCaused l cause) (sym causes_in) is)
 
       -- it was done
-      pub done : (h : Group) → decided (write_causes at len inside g) ≡ None → f.written g inside at (f.known bytes) ≡ Ok h
+      pub done : (h : Group) → decided (write_causes at len inside g) ≡ None → f.group_after_write g inside at (f.known bytes) ≡ Ok h
           → MayAnswer below w command (Done []) (with_group w id h)
       done h none is = record {
         step = write.done below w (with_group w id h) (record {
@@ -192,7 +192,7 @@ module _ (command : Command) (path : Bytes) (at : ℕ) (bytes : Bytes) (write : 
 
       -- ---- the world with the span Free
 
-      module _ (free : Group) (free_is : f.written g inside at (replicate len Free) ≡ Ok free) where
+      module _ (free : Group) (free_is : f.group_after_write g inside at (replicate len Free) ≡ Ok free) where
         list_of : groups_of w has.entry.id ≡ g ∷ []
         list_of = ap (λ (i : ℕ). groups_of w i) has.is ∙ ap (λ (o : Option (List Group)). unwrap_or o []) has.only
 

@@ -21,7 +21,7 @@ use Rattle.asm_world.specs.Causes.{IsCaused, decided, may}
 use Rattle.asm_world.specs.Numbers as code
 use Rattle.asm_world.specs.Paths.{target_from}
 use Rattle.asm_world.specs.Reply.{Reply, Done, Refused}
-use Rattle.asm_world.specs.Step.{Has}
+use Rattle.asm_world.specs.Step.{HasMountedGroup}
 use Rattle.asm_world.specs.World.{SessionEntry, World, Mounted, DismountedBy, groups_of, is_mounted, with_group}
 use Rattle.catalog_tables.specs.Rules.{KeepsRules}
 use Rattle.session.specs.directory_store.Answers.{NoCalls}
@@ -146,7 +146,7 @@ module _ (paths : List Bytes) (text name : Bytes) (inside : Path) (at : ℕ) (by
     abbrev told : IsToldBy before g
     told = call.told entry before g (put.pair w entries' was.groups now.groups name before after entry worked call.told) is_on list called
 
-    has : Has w name entry.id g
+    has : HasMountedGroup w name entry.id g
     has = record { entry = entry; named = worked.named; is = refl; mounted = worked.on; only = get_only (maps.get w.groups entry.id) g list }
 
     -- what the tables are refused by the group is
@@ -157,7 +157,7 @@ module _ (paths : List Bytes) (text name : Bytes) (inside : Path) (at : ℕ) (by
 
     module _ (same : after ≡ before) (still : NoCalls s t) where
       groups_stay : now.groups ≡ was.groups
-      groups_stay = worked.groups_are ∙ ap (λ (m : MountedGroup). session.with_group w.session was.groups name m) same ∙ same_group w.session was.groups name before worked.found
+      groups_stay = worked.groups_are ∙ ap (λ (m : MountedGroup). session.with_group_named w.session was.groups name m) same ∙ same_group w.session was.groups name before worked.found
 
       idle : (c : r.Refusal) → counted.IsWriteRefused c (counts_of s) (counts_of t) → writes.Left (below_with below unread) w (meaning text) c w → IsCaused (write_causes at (length bytes) inside g) c → Ends (Refused [] c)
       idle c why left is = (

@@ -44,7 +44,7 @@ at_itself f other cells = ap (λ (b : Bool). if b then other else cells f) (eq-e
 at_others : (f : ℕ) (other : List Cell) (cells : ℕ → List Cell) → AreCellsButFor f cells (cells_but f other cells)
 at_others f other cells k apart = ap (λ (b : Bool). if b then other else cells k) (ne_eqb k f apart)
 
-put_cells : (fs : List heads.File) (f : ℕ) (head : FileHead) (other : List Cell) (cells : ℕ → List Cell) → head_at fs f ≡ Some head
+put_cells : (fs : List heads.NumberedFile) (f : ℕ) (head : FileHead) (other : List Cell) (cells : ℕ → List Cell) → head_at fs f ≡ Some head
     → files_by_number (cells_but f other cells) fs ≡ maps.insert (files_by_number cells fs) f (file_of_head head other)
 put_cells fs f head other cells at = same_files (files_by_number (cells_but f other cells) fs) (maps.insert (files_by_number cells fs) f (file_of_head head other)) (λ k.
     files_are (cells_but f other cells) fs k ∙ by k
@@ -85,14 +85,14 @@ put_in_group name s t cells n head other at =
 
 -- ---- the world's write
 
-by_file : (g : Group) (path : Path) (at n : ℕ) (file : File) (cells : List Cell) → e.file_at g path ≡ Some n → f.named_file g path ≡ Some file
+by_file : (g : Group) (path : Path) (at n : ℕ) (file : File) (cells : List Cell) → e.group_file_at g path ≡ Some n → f.named_file g path ≡ Some file
     → f.with_cells_at g path (λ old. f.with_cells old at cells) ≡ f.with_file_cells g n file (f.with_cells file.cells at cells)
 by_file g path at n file cells number there =
-    ap (λ (o : Option File). f.with_cells_of g (e.file_at g path) o (λ old. f.with_cells old at cells)) there
+    ap (λ (o : Option File). f.with_cells_of g (e.group_file_at g path) o (λ old. f.with_cells old at cells)) there
     ∙ ap (λ (o : Option ℕ). f.with_cells_of g o (Some file) (λ old. f.with_cells old at cells)) number
 
-untested : (g : Group) (path : Path) (at n len : ℕ) (file : File) (cells : List Cell) → e.file_at g path ≡ Some n → f.named_file g path ≡ Some file → length cells ≡ len
-    → first_cause (f.span_causes g path at len) ≡ None → f.written g path at cells ≡ Ok (f.with_file_cells g n file (f.with_cells file.cells at cells))
+untested : (g : Group) (path : Path) (at n len : ℕ) (file : File) (cells : List Cell) → e.group_file_at g path ≡ Some n → f.named_file g path ≡ Some file → length cells ≡ len
+    → first_cause (f.span_causes g path at len) ≡ None → f.group_after_write g path at cells ≡ Ok (f.with_file_cells g n file (f.with_cells file.cells at cells))
 untested g path at n len file cells number there long none =
     ap (λ (k : ℕ). unless_refused (first_cause (f.span_causes g path at k)) (f.with_cells_at g path (λ old. f.with_cells old at cells))) long
     ∙ ap (λ (o : Option r.Refusal). unless_refused o (f.with_cells_at g path (λ old. f.with_cells old at cells))) none
@@ -128,16 +128,16 @@ module _ (m : MountedGroup) (shape : IsTrue (is_shape m.catalog.shape)) (tables 
   free = freed_to g file.file the_file at (length bytes)
 
   -- the world's write of so many cells
-  put_so : (cells : List Cell) → length cells ≡ length bytes → f.written g path at cells ≡ Ok (f.with_file_cells g file.file the_file (f.with_cells the_file.cells at cells))
-  put_so cells long = subst (λ (x : Group). f.written x path at cells ≡ Ok (f.with_file_cells x file.file the_file (f.with_cells the_file.cells at cells))) (sym told.is)
+  put_so : (cells : List Cell) → length cells ≡ length bytes → f.group_after_write g path at cells ≡ Ok (f.with_file_cells g file.file the_file (f.with_cells the_file.cells at cells))
+  put_so cells long = subst (λ (x : Group). f.group_after_write x path at cells ≡ Ok (f.with_file_cells x file.file the_file (f.with_cells the_file.cells at cells))) (sym told.is)
       (untested of_tables path at file.file (length bytes) the_file cells (named.number m.name m.catalog.shape m.catalog.tables told.cells path tables file opened)
       (named.there m.name m.catalog.shape m.catalog.tables told.cells path tables file opened) long
       (spans.untested code.write_fault m shape tables m.name told.cells path at (length bytes) file opened told.has span))
 
-  pub written_is : f.written g path at (f.known bytes) ≡ Ok h
+  pub written_is : f.group_after_write g path at (f.known bytes) ≡ Ok h
   written_is = put_so (f.known bytes) (length-map bytes _)
 
-  pub freed_is : f.written g path at (replicate (length bytes) Free) ≡ Ok free
+  pub freed_is : f.group_after_write g path at (replicate (length bytes) Free) ≡ Ok free
   freed_is = put_so (replicate (length bytes) Free) (length-replicate (length bytes) Free)
 
   -- a group in whose file so many cells are put is told by tables with the same names
@@ -164,7 +164,7 @@ module _ (m : MountedGroup) (shape : IsTrue (is_shape m.catalog.shape)) (tables 
     pub told_so : IsToldBy new (f.with_file_cells g file.file the_file put)
     told_so = record {
       cells = cells_but file.file put told.cells;
-      has = λ k head at_k. there_has k head (ap (λ (fs : List heads.File). head_at fs k) (sym names.files) ∙ at_k);
+      has = λ k head at_k. there_has k head (ap (λ (fs : List heads.NumberedFile). head_at fs k) (sym names.files) ∙ at_k);
       is = group_is;
     }
 

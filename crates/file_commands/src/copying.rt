@@ -1,6 +1,6 @@
 // cp: into a group, from the host or from a group, and out to the host.
 ghost use Rattle.std.specs.Prelude.{◌≡◌, ◌⊎◌, ◌+◌, IfErr, IfOk, length};
-ghost use Rattle.asm_world.specs.Command.{Asked, Copy};
+ghost use Rattle.asm_world.specs.Command.{Asked, CopyFile};
 ghost use Rattle.asm_world.specs.Language.{command_of};
 ghost use Rattle.bay.specs.Counts.{Rose};
 ghost use Rattle.bay.specs.Hosts.{AllStay};
@@ -474,7 +474,7 @@ pub fn copy_file<B: Bay, H: Host>(
     source: Text,
     target: Text,
 ) -> Answer
-    requires asked { command_of text.now ≡ Asked (Copy source target) }
+    requires asked { command_of text.now ≡ Asked (CopyFile source target) }
     requires ready { AreReady desk.old.session.groups (B.state desk.old.bay) }
     ensures answers { IsAnswered text.now result desk.old desk.new }
     ensures cause { HostReply source target (H.faults desk.old.host) (H.faults desk.new.host) result.reply }

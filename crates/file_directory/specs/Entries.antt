@@ -4,9 +4,9 @@ use Rattle.std.proofs.lemmas.Bool.{ne_eqb}
 use Rattle.asm_formats.specs.Items.{Item, file_item, chunk_item, disk_item, rebalance_item, pending_item, templates_item, node_item, settings_item, marks_item}
 use Rattle.asm_base.proofs.ItemTables.{AreEntries, IsEntry}
 use Rattle.item_table.proofs.Entries.{IsKnown, entries_by, entry_by}
-use Rattle.file_directory.specs.Files.{entry_of, is_mine, item_of}
+use Rattle.file_directory.specs.Files.{file_of_item, is_key_of_file, item_of_file_head}
 
-each_item : (i : Item) → IsKnown is_mine item_of entry_of i
+each_item : (i : Item) → IsKnown is_key_of_file item_of_file_head file_of_item i
 each_item (file_item f h) = inl ((f, h), refl)
 each_item (chunk_item f c homes) = inr (ne_eqb (c + 1) 0 (λ same. omega (arith, same)), refl)
 each_item (disk_item d info) = inr (refl, refl)
@@ -17,8 +17,8 @@ each_item (node_item n node) = inr (refl, refl)
 each_item (settings_item s) = inr (refl, refl)
 each_item (marks_item f c marks) = inr (refl, refl)
 
-pub is_entry : IsEntry item_of entry_of
-is_entry = entry_by is_mine item_of entry_of each_item (λ x. refl)
+pub is_file_entry : IsEntry item_of_file_head file_of_item
+is_file_entry = entry_by is_key_of_file item_of_file_head file_of_item each_item (λ x. refl)
 
-pub are_entries : AreEntries is_mine item_of
-are_entries = entries_by is_mine item_of entry_of each_item
+pub are_file_entries : AreEntries is_key_of_file item_of_file_head
+are_file_entries = entries_by is_key_of_file item_of_file_head file_of_item each_item

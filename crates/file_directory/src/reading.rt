@@ -6,7 +6,7 @@ ghost use Rattle.asm_base.specs.Cursors.{Reads};
 ghost use Rattle.asm_base.specs.Records.{all_of};
 ghost use Rattle.asm_base.specs.Tables.{entry_of_record};
 ghost use Rattle.record_values.specs.Values.{file_reading};
-ghost use Rattle.file_directory.specs.Files.{entry_of, is_mine};
+ghost use Rattle.file_directory.specs.Files.{file_of_item, is_key_of_file};
 
 use crate::head::FileHead;
 use asm_base::{
@@ -17,8 +17,8 @@ use std::alloc::Global;
 
 /// The head that the value of a file's record is the spelling of, or None where it isn't that of any.
 pub(crate) fn head_in(alloc: Global, key: Key, value: &Value) -> Result<Option<FileHead>, NoMemory>
-    requires { IsTrue (is_mine key) }
-    ensures { IfOk result (λ read. entry_of_record entry_of (key, value.now) ≡ option_map (λ h. (key.a, h)) read) }
+    requires { IsTrue (is_key_of_file key) }
+    ensures { IfOk result (λ read. entry_of_record file_of_item (key, value.now) ≡ option_map (λ h. (key.a, h)) read) }
 {
     let read = read_bytes(alloc, value.as_bytes())?;
     Ok(read)

@@ -2,7 +2,7 @@
 
 ghost use Rattle.std.specs.FinMap.{nat_cmp-IsAntisymmetric};
 ghost use Rattle.file_directory.specs.Files as files;
-ghost use Rattle.file_directory.specs.Entries.{are_entries, is_entry};
+ghost use Rattle.file_directory.specs.Entries.{are_file_entries, is_file_entry};
 
 use crate::head::FileHead;
 use crate::reading::head_in;
@@ -15,11 +15,11 @@ use std::alloc::Global;
 pub type FileTable = KeyTable<u32, FileHead>;
 
 impl Listed<u32> for FileHead {
-    ghost item_of = { files.item_of };
+    ghost item_of = { files.item_of_file_head };
 
-    ghost entry_of = { files.entry_of };
+    ghost entry_of = { files.file_of_item };
 
-    ghost is_mine = { files.is_mine };
+    ghost is_mine = { files.is_key_of_file };
 
     ghost place_of = { λ key. key.a };
 
@@ -39,9 +39,9 @@ impl Listed<u32> for FileHead {
         self.copy()
     }
 
-    ghost is_entry = { is_entry };
+    ghost is_entry = { is_file_entry };
 
-    ghost are_entries = { are_entries };
+    ghost are_entries = { are_file_entries };
 
     ghost exact = { nat_cmp-IsAntisymmetric };
 }

@@ -3,8 +3,8 @@
 ghost use Rattle.std.specs.Prelude.{◌≡◌, ◌≤◌, length, IfOk, IsTrue};
 ghost use Rattle.asm_formats.specs.Items.{file_item, is_item};
 ghost use Rattle.asm_formats.specs.Values.{file_value};
-ghost use Rattle.asm_base.specs.Cursors.{Puts};
-ghost use Rattle.file_directory.specs.Files.{record_of};
+ghost use Rattle.asm_base.specs.Cursors.{PutsField};
+ghost use Rattle.file_directory.specs.Files.{record_of_file};
 
 use crate::head::FileHead;
 use asm_base::{
@@ -17,7 +17,7 @@ use std::alloc::Global;
 #[tactic(auto, using(crate::proofs::Laws::name_fits), unfolding(asm_formats::specs::Values::value))]
 pub fn record_of(alloc: Global, file: u32, head: &FileHead) -> Result<(Key, Value), NoMemory>
     requires { IsTrue (is_item (file_item file head.now)) }
-    ensures { IfOk result (λ e. e ≡ record_of (file, head.now)) }
+    ensures { IfOk result (λ e. e ≡ record_of_file (file, head.now)) }
 {
     let mut block = Block::zeros();
     let mut to = Writer {
@@ -37,7 +37,7 @@ pub fn record_of(alloc: Global, file: u32, head: &FileHead) -> Result<(Key, Valu
 fn put_head(to: &mut Writer, head: &FileHead)
     requires start { to.old.at ≡ 0 }
     requires fits { length head.now.type_name ≤ 30 }
-    ensures puts { Puts to.old to.new (file_value head.now) }
+    ensures puts { PutsField to.old to.new (file_value head.now) }
     ensures at { to.new.at ≡ 57 }
 {
     put_u8(to, head.copies);

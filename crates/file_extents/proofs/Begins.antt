@@ -3,7 +3,7 @@ use Rattle.std.proofs.Common.{◌≡◌, ◌⊎◌, ⊎_elim, inl, inr, List, No
 use Rattle.std.specs.Prelude.{OnOk}
 use Rattle.bay.specs.State.{BayState}
 use Rattle.asm_group.specs.declared.PendingKind.{PendingKind}
-use Rattle.asm_base.specs.Records.{Entry}
+use Rattle.asm_base.specs.Records.{DirectoryRecord}
 use Rattle.asm_base.specs.declared.refusal.Refusal.{Refusal}
 use Rattle.asm_formats.specs.Items.{Key}
 use Rattle.catalog_tables.specs.Changing.{IsAfter}
@@ -16,7 +16,7 @@ use Rattle.file_extents.specs.Rows.{SpaceCause}
 use Rattle.file_extents.specs.declared.rows.NewExtents.{NewExtents}
 
 -- the operation was committed, once the move that was on its way was given up
-pub begins : (a b : MountedGroup) (k : Catalogued) (kind : PendingKind) (new : NewExtents) (put : List Entry) (gone : List Key) (r : Result (Unit {0}) Refusal) (c : MountedGroup)
+pub begins : (a b : MountedGroup) (k : Catalogued) (kind : PendingKind) (new : NewExtents) (put : List DirectoryRecord) (gone : List Key) (r : Result (Unit {0}) Refusal) (c : MountedGroup)
     → b ≡ record a { flight = None } → k ≡ b.catalog → IsPlan k put gone (begun k.tables kind new)
     → OnOk r (IsAfter b.catalog.tables put gone c.catalog.tables) → OnOk r (Begins a kind new c)
 begins a b k kind new put gone r c up at plan applied = go r applied

@@ -10,7 +10,7 @@ use Rattle.asm_formats.specs.Status.{Status, ascends_from, is_entry, is_status}
 use Rattle.asm_placement.specs.DiskSets.{numbers}
 use Rattle.asm_placement.specs.Naming.{is_pending}
 use Rattle.asm_placement.specs.Placed.{placed_extents}
-use Rattle.catalog_tables.specs.file_directory.Files.{head_at, is_file}
+use Rattle.catalog_tables.specs.file_directory.Files.{head_at, is_file_number}
 use Rattle.catalog_tables.specs.extent_map.Extents.{Chunked, chunk_at, chunk_or_blank, count_in, has_extent, has_home, extent_at}
 use Rattle.catalog_tables.proofs.extent_map.FileEnds.{same_place}
 use Rattle.group_pieces.specs.catalog.ExtentPlans.{MayAppend}
@@ -156,6 +156,6 @@ or_left false b is = absurd (true≢false (sym is))
 pub owned_with : (t : Tables) (op : Pending) → first_wrong (is_owned t) t.extents ≡ None → t.operations.pending ≡ None
     → AreOwned (record t { operations = record t.operations { pending = Some op } })
 owned_with t op owned none = passes_where (is_owned t) (is_owned (record t { operations = record t.operations { pending = Some op } })) t.extents
-    (λ x h ok. or_left (is_file t.files x.0.0) (is_pending x.0.0 (Some op))
-    (file_alone (is_file t.files x.0.0) (ap (λ (o : Option Pending). is_file t.files x.0.0 || is_pending x.0.0 o) (sym none) ∙ ok)))
+    (λ x h ok. or_left (is_file_number t.files x.0.0) (is_pending x.0.0 (Some op))
+    (file_alone (is_file_number t.files x.0.0) (ap (λ (o : Option Pending). is_file_number t.files x.0.0 || is_pending x.0.0 o) (sym none) ∙ ok)))
     owned

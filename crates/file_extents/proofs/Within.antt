@@ -10,7 +10,7 @@ use Rattle.std.proofs.Math.Arith.{lt_of_le-ne}
 use Rattle.asm_formats.specs.Items.{Homes}
 use Rattle.asm_base.specs.Records.{Ascend}
 use Rattle.catalog_tables.specs.extent_map.Extents.{Chunked, chunks_from}
-use Rattle.asm_base.specs.Chunks.{chunk_cmp, is_before}
+use Rattle.asm_base.specs.Chunks.{chunk_cmp, is_chunk_before}
 use Rattle.group_pieces.specs.catalog.NamePlans.{is_within_file}
 use Rattle.catalog_tables.specs.Rules.{are_within, first_wrong}
 
@@ -37,7 +37,7 @@ lt_is f g o e = by (nat_cmp f g) refl e
     by Equal is e = let same : f ≡ g = ranked f g Equal (sym is) in omega arith
     by Greater is e = absurd cc
 
-rises : (xs : List Chunked) → Ascend is_before xs → Rise xs
+rises : (xs : List Chunked) → Ascend is_chunk_before xs → Rise xs
 rises [] up = tt
 rises (x ∷ []) up = (tt, tt)
 rises (x ∷ y ∷ ys) up =
@@ -130,7 +130,7 @@ starts_right f copies (x ∷ xs) rise = by (keeps f x) refl (starts_right f copi
         let dropped : starts f (x ∷ xs) ≡ starts f xs = rw is refl in
         subst (AreTheRest f copies (x ∷ xs)) (sym dropped) (record { same = later.same ∙ sym passed; from = later.from; rise = later.rise })
 
-pub at_start : (f copies : ℕ) (all left : List Chunked) → Ascend is_before all → left ≡ chunks_from all (f, 0) → AreTheRest f copies all left
+pub at_start : (f copies : ℕ) (all left : List Chunked) → Ascend is_chunk_before all → left ≡ chunks_from all (f, 0) → AreTheRest f copies all left
 at_start f copies all left up is = subst (AreTheRest f copies all) (sym is) (starts_right f copies all (rises all up))
 
 pub one_more : (f copies : ℕ) (all left next : List Chunked) (x : Chunked) (homes : List Homes) → homes ≡ x.1 → left ≡ x ∷ next → list_all (are_within copies) homes ≡ true

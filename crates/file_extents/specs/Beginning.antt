@@ -2,7 +2,7 @@
 use Rattle.std.specs.Prelude.{◌≡◌, ◌⊎◌, List, None, Some}
 use Rattle.bay.specs.State.{BayState}
 use Rattle.asm_group.specs.declared.PendingKind.{PendingKind}
-use Rattle.asm_base.specs.Records.{Entry}
+use Rattle.asm_base.specs.Records.{DirectoryRecord}
 use Rattle.asm_base.specs.declared.refusal.Refusal.{Refusal}
 use Rattle.asm_formats.specs.Items.{Key}
 use Rattle.catalog_tables.specs.Changing.{IsAfter}
@@ -19,7 +19,7 @@ begun t kind new = record t { operations = record t.operations { pending = Some 
 
 -- The operation that makes these extents was committed as the pending one.
 pub record Begins (before : MountedGroup) (kind : PendingKind) (new : NewExtents) (after : MountedGroup) : Type 0 where
-  pub put : List Entry
+  pub put : List DirectoryRecord
   pub gone : List Key
   pub plan : IsPlan before.catalog put gone (begun before.catalog.tables kind new)
   pub applied : IsAfter before.catalog.tables put gone after.catalog.tables

@@ -2,12 +2,12 @@
 use Rattle.std.specs.Prelude.{◌≡◌, Result, Err}
 use Rattle.asm_base.specs.declared.refusal.Refusal.{Refusal}
 use Rattle.asm_base.specs.declared.refusal.Refusal.TheVariants as cause
-use Rattle.group_pieces.specs.group_engine.Making.{closed}
+use Rattle.group_pieces.specs.group_engine.Making.{access_after_closing}
 use Rattle.group_pieces.specs.group_engine.Mounts.{MountedGroup}
 
 -- the group takes no more calls
 abbrev pub shut : MountedGroup → MountedGroup
-shut m = record m { access = closed m.access }
+shut m = record m { access = access_after_closing m.access }
 
 -- the group that a step with this answer leaves: after want of memory it takes no more calls
 abbrev pub or_shut : Result (Unit {0}) Refusal → MountedGroup → MountedGroup

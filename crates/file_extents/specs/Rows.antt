@@ -5,7 +5,7 @@ use Rattle.asm_formats.specs.Items.{Homes}
 use Rattle.asm_base.specs.declared.kinds.ExtentId.{ExtentId}
 use Rattle.asm_base.specs.declared.refusal.Refusal.{Refusal}
 use Rattle.asm_base.specs.declared.refusal.Refusal.TheVariants as cause
-use Rattle.catalog_tables.specs.partnership.Rows.{Choosing, IsRow, homes_at}
+use Rattle.catalog_tables.specs.partnership.Rows.{Choosing, IsRow, homes_for_extent}
 use Rattle.group_pieces.specs.group_engine.Mounts.{MountedGroup}
 use Rattle.file_extents.specs.declared.rows.NewExtents.{NewExtents}
 
@@ -21,7 +21,7 @@ pub record HasNoSpace (m : MountedGroup) (new : NewExtents) (units : List UnitMa
   pub file : x.file ≡ new.file
   pub index : x.index ≡ new.first + length row
   pub wanted : x.index < new.first + new.count
-  pub none : homes_at (choosing m new) last x.index ≡ None
+  pub none : homes_for_extent (choosing m new) last x.index ≡ None
 
 -- why the extents have no homes by these maps: there is no choice for one once those before it have theirs. Want of memory is free.
 abbrev pub ChoiceCause : MountedGroup → NewExtents → List UnitMap → Refusal → Type 0

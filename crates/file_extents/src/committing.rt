@@ -2,7 +2,7 @@
 ghost use Rattle.std.specs.Bool.{OnTrue};
 ghost use Rattle.std.specs.Prelude.{◌≡◌, ◌⊎◌, None};
 ghost use Rattle.group_pieces.specs.group_engine.Commits.{KeepsRecord, StatusCause};
-ghost use Rattle.group_pieces.specs.group_engine.Making.{closed};
+ghost use Rattle.group_pieces.specs.group_engine.Making.{access_after_closing};
 ghost use Rattle.group_pieces.specs.group_engine.Mounts.{IsMounted, Takes};
 ghost use Rattle.group_pieces.specs.group_engine.Own.{KeepsGroup};
 ghost use Rattle.asm_base.specs.declared.refusal.Refusal.TheVariants as cause;
@@ -15,7 +15,7 @@ use std::alloc::Global;
 
 /// Memory was wanted behind a commit: the group takes no more calls.
 pub(crate) fn shut(m: &mut Mounted) -> Refusal
-    ensures group { m.new ≡ record m.old { access = closed m.old.access } }
+    ensures group { m.new ≡ record m.old { access = access_after_closing m.old.access } }
     ensures refusal { result ≡ cause.NoMemory }
 {
     m.close();

@@ -1,7 +1,7 @@
 //! New extents of a file, which all get homes, and then are filled and committed chunk by chunk. Whoever fills them hands over their
 //! bytes in order.
 ghost use Rattle.std.specs.Prelude.{◌≡◌, ◌<◌, ◌≤◌, ◌+◌, IfErr, IfOk, IfSome, OnOk, vec_len};
-ghost use Rattle.catalog_tables.specs.striping.Pieces.{IsLayout};
+ghost use Rattle.catalog_tables.specs.striping.Pieces.{IsAllowedLayout};
 ghost use Rattle.group_pieces.specs.group_engine.Mounts.{IsMounted, IsWhole, Takes};
 ghost use Rattle.group_pieces.specs.group_engine.Own.{KeepsGroup};
 ghost use Rattle.group_pieces.specs.group_engine.Pending.{GoesOn};
@@ -287,7 +287,7 @@ fn write_pieces<B: Bay>(
 ) -> Result<(), Refusal>
     requires mounted { IsMounted m.now }
     requires takes { Takes m.now (B.state bay.old) }
-    requires layout { IsLayout layout }
+    requires layout { IsAllowedLayout layout }
     ensures keeps { KeepsGroup m.now m.now (B.state bay.old) (B.state bay.new) }
     ensures end { filling.new.end ≡ filling.old.end }
     ensures failed { FailsMore m.now filling.old.failed filling.new.failed (B.state bay.old) (B.state bay.new) }

@@ -1,6 +1,6 @@
 // Where the bytes of a file lie, in pieces.
 ghost use Rattle.std.specs.Prelude.{◌≡◌, ◌+◌, ◌<◌, ◌≤◌, ◌^◌, IfSome};
-ghost use Rattle.catalog_tables.specs.striping.Pieces.{IsLayout};
+ghost use Rattle.catalog_tables.specs.striping.Pieces.{IsAllowedLayout};
 ghost use Rattle.group_pieces.specs.Usable.{FitsExtent};
 ghost use Rattle.file_extents.specs.Pieces.{IsFirstPiece, IsOfShape};
 
@@ -21,7 +21,7 @@ pub struct Piece {
 
 /// How the files of a group of this shape lie that have this stripe. None where no group has the shape.
 pub fn layout_of(shape: Shape, stripe: Stripe) -> Option<Layout>
-    ensures layout { IfSome result IsLayout }
+    ensures layout { IfSome result IsAllowedLayout }
     ensures unit { IfSome result (λ layout. layout.au ≡ shape.au) }
     ensures step { IfSome result (λ layout. layout.step ≡ shape.step) }
     ensures stripe { IfSome result (λ layout. layout.stripe ≡ stripe) }
@@ -39,7 +39,7 @@ pub fn layout_of(shape: Shape, stripe: Stripe) -> Option<Layout>
 /// The first of a file's bytes from one on that lie in a row on one extent, at most 1 MiB of them. None where there are none, or
 /// where they aren't whole sectors of an extent with a number.
 pub fn first_piece(shape: Shape, layout: Layout, file: u32, at: u64, len: u64) -> Option<Piece>
-    requires layout { IsLayout layout }
+    requires layout { IsAllowedLayout layout }
     ensures fits { IfSome result (λ p. FitsExtent shape p.x.index p.inner p.len) }
     ensures file { IfSome result (λ p. p.x.file ≡ file) }
     ensures some { IfSome result (λ p. 0 < p.len) }

@@ -5,7 +5,7 @@ use Rattle.asm_formats.specs.Items.{FileHead, Homes}
 use Rattle.asm_formats.specs.Sets.{has_bit}
 use Rattle.catalog.specs.ExtentPlans.{first_new, home_at, with_appended}
 use Rattle.catalog_laws.proofs.RegularHomes.{appending_keeps}
-use Rattle.catalog_tables.specs.Rules.{is_due, marks_of}
+use Rattle.catalog_tables.specs.Rules.{head_has_extent, marks_of}
 use Rattle.file_directory.specs.Files.{head_at}
 use Rattle.flight_laws.specs.Agreeing.{AgreesWhole, HasCurrent}
 use Rattle.flight_laws.specs.Filling.{AppendIsSurplus, FilledIsHeld, KnowsByte}
@@ -62,5 +62,5 @@ append_is_surplus entries c put gone f n homes marks are may behind regular plan
   infos = λ none. none;
   regular = λ is. appending_keeps entries c.tables f n homes marks is regular;
 } where
-  before : (k i : ℕ) (head : FileHead) → head_at c.tables.files k ≡ Some head → is_due c.shape head i ≡ true → k ≡ f → i < first_new c.tables f n
+  before : (k i : ℕ) (head : FileHead) → head_at c.tables.files k ≡ Some head → head_has_extent c.shape head i ≡ true → k ≡ f → i < first_new c.tables f n
   before k i head there due same = behind i head (ap (λ (x : ℕ). head_at c.tables.files x) (sym same) ∙ there) due

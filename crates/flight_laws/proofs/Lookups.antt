@@ -14,12 +14,12 @@ use Rattle.asm_formats.specs.Items.{Home, Homes, is_home, is_homes, is_item}
 use Rattle.asm_formats.specs.Sets.{has_bit}
 use Rattle.asm_placement.specs.Moves.{without_bit}
 use Rattle.asm_base.specs.Chunks.{Chunk, chunk_cmp}
-use Rattle.extent_map.specs.Extents.{Chunked, absent, chunk_at, chunk_or_blank, count_in, with_extent, with_more}
+use Rattle.extent_map.specs.Extents.{Chunked, absent_homes, chunk_at, chunk_or_blank, count_in, with_extent, with_more}
 use Rattle.extent_map.proofs.FileEnds.{item_at}
 use Rattle.extent_map.proofs.Laws.{chunk_total, same_chunk}
 use Rattle.extent_map.proofs.Lookups.{key_is, put_here, put_other, set_here, set_other}
 use Rattle.extent_map.proofs.Numbering.{found_self, size_of}
-use Rattle.staleness_directory.specs.Marks.{Marked, item_of, marks_at}
+use Rattle.staleness_directory.specs.Marks.{Marked, item_of_marks, marks_at}
 use Rattle.catalog.specs.ExtentPlans.{first_new, home_at, homes_moved, marks_behind, marks_changed, with_appended, with_marks_at, with_marks_changed, with_move}
 use Rattle.catalog.proofs.MarkPlans.{are_marks, marks_small}
 use Rattle.catalog_tables.specs.Rules.{homes_at, marks_of}
@@ -70,12 +70,12 @@ other_place f i a j apart same place =
     apart files (omega (arith, chunks, place))
 
 -- no home stands in an extent that isn't there
-no_home : (p c : ℕ) → get_or (get_or (replicate 256 absent) p []) c None ≡ None
+no_home : (p c : ℕ) → get_or (get_or (replicate 256 absent_homes) p []) c None ≡ None
 no_home p c = elim (cases_lt p 256) [
-  | inl lt ↦ ap (λ (hs : Homes). get_or hs c None) (get_or-replicate 256 p absent [] lt) ∙ none_in c
-  | inr past ↦ ap (λ (hs : Homes). get_or hs c None) (get_or_past (replicate 256 absent) p [] (omega (arith, past, length-replicate {A = Homes} 256 absent)))
+  | inl lt ↦ ap (λ (hs : Homes). get_or hs c None) (get_or-replicate 256 p absent_homes [] lt) ∙ none_in c
+  | inr past ↦ ap (λ (hs : Homes). get_or hs c None) (get_or_past (replicate 256 absent_homes) p [] (omega (arith, past, length-replicate {A = Homes} 256 absent_homes)))
 ] where
-  none_in : (c : ℕ) → get_or absent c None ≡ None
+  none_in : (c : ℕ) → get_or absent_homes c None ≡ None
   none_in zero = refl
   none_in (suc zero) = refl
   none_in (suc (suc zero)) = refl
@@ -87,7 +87,7 @@ module _ (t : Tables) (are : AreTables t) (f i : ℕ) (hs : Homes) where
   k = (f, i / 256)
 
   abbrev by_chunk : Option (List Homes) → List Chunked
-  by_chunk o = cond (is_some o) (set_value (is_at (chunk_cmp k)) t.extents (slice_set (unwrap_or o []) (i % 256) hs)) (insert_entry chunk_cmp t.extents k (slice_set (replicate 256 absent) (i % 256) hs))
+  by_chunk o = cond (is_some o) (set_value (is_at (chunk_cmp k)) t.extents (slice_set (unwrap_or o []) (i % 256) hs)) (insert_entry chunk_cmp t.extents k (slice_set (replicate 256 absent_homes) (i % 256) hs))
 
   pub extent_here : found [] (with_extent t.extents f i hs) k (i % 256) ≡ hs
   extent_here = by (chunk_at t.extents k) refl where
@@ -96,8 +96,8 @@ module _ (t : Tables) (are : AreTables t) (f i : ℕ) (hs : Homes) where
         ap (λ (o : Option (List Homes)). found [] (by_chunk o) k (i % 256)) e ∙ set_found [] t.extents k (slice_set w (i % 256) hs) (i % 256) (ap is_some e)
         ∙ get_or-set_same w (i % 256) hs [] (omega (arith, size_of t.extents k w are.extents.0.1 e))
     by None e =
-        ap (λ (o : Option (List Homes)). found [] (by_chunk o) k (i % 256)) e ∙ put_found [] t.extents k (slice_set (replicate 256 absent) (i % 256) hs) (i % 256)
-        ∙ get_or-set_same (replicate 256 absent) (i % 256) hs [] (omega (arith, length-replicate {A = Homes} 256 absent))
+        ap (λ (o : Option (List Homes)). found [] (by_chunk o) k (i % 256)) e ∙ put_found [] t.extents k (slice_set (replicate 256 absent_homes) (i % 256) hs) (i % 256)
+        ∙ get_or-set_same (replicate 256 absent_homes) (i % 256) hs [] (omega (arith, length-replicate {A = Homes} 256 absent_homes))
 
   -- an extent at another place has the homes that it had
   module _ (a j c : ℕ) (apart : a ≡ f → j ≡ i → ⊥) where
@@ -117,9 +117,9 @@ module _ (t : Tables) (are : AreTables t) (f i : ℕ) (hs : Homes) where
         | inl hit ↦
             let same : q ≡ k = key_is chunk_cmp same_chunk chunk_total q k hit in
             ap (λ (x : Chunk). get_or (found [] (by_chunk None) x (j % 256)) c None) same
-            ∙ ap (λ (x : Homes). get_or x c None) (put_found [] t.extents k (slice_set (replicate 256 absent) (i % 256) hs) (j % 256) ∙ get_or-set_other (replicate 256 absent) (i % 256) (j % 256) hs [] (other_place f i a j apart same))
+            ∙ ap (λ (x : Homes). get_or x c None) (put_found [] t.extents k (slice_set (replicate 256 absent_homes) (i % 256) hs) (j % 256) ∙ get_or-set_other (replicate 256 absent_homes) (i % 256) (j % 256) hs [] (other_place f i a j apart same))
             ∙ no_home (j % 256) c ∙ ap (λ (o : Option (List Homes)). get_or (get_or (unwrap_or o []) (j % 256) []) c None) (sym e) ∙ ap (λ (x : Chunk). get_or (found [] t.extents x (j % 256)) c None) (sym same)
-        | inr miss ↦ ap (λ (o : Option (List Homes)). get_or (get_or (unwrap_or o []) (j % 256) []) c None) (put_other chunk_cmp same_chunk k (slice_set (replicate 256 absent) (i % 256) hs) q miss t.extents)
+        | inr miss ↦ ap (λ (o : Option (List Homes)). get_or (get_or (unwrap_or o []) (j % 256) []) c None) (put_other chunk_cmp same_chunk k (slice_set (replicate 256 absent_homes) (i % 256) hs) q miss t.extents)
       ]
 
 -- ---- its marks
@@ -131,7 +131,7 @@ blank_marks None p lt = get_or-replicate 256 p 0 0 lt
 
 marks_long : (t : Tables) (k : Chunk) (o : Option (List ℕ)) → AreTables t → marks_at t.stale k ≡ o → length (unwrap_or o (replicate 256 0)) ≡ 256
 marks_long t k None are at = length-replicate {A = ℕ} 256 0
-marks_long t k (Some m) are at = (are_marks k.0 k.1 m (holds_at chunk_cmp same_chunk chunk_total (λ (x : Marked). is_item (item_of x) ≡ true) t.stale k m are.stale.1 at)).size
+marks_long t k (Some m) are at = (are_marks k.0 k.1 m (holds_at chunk_cmp same_chunk chunk_total (λ (x : Marked). is_item (item_of_marks x) ≡ true) t.stale k m are.stale.1 at)).size
 
 -- the table of marks with others of an extent
 module _ (t : Tables) (are : AreTables t) (f i v : ℕ) where
@@ -154,7 +154,7 @@ marks_low t f i are = by (marks_at t.stale (f, i / 256)) refl where
   by : (o : Option (List ℕ)) → marks_at t.stale (f, i / 256) ≡ o → marks_of t f i < 8
   by None at = omega (arith, ap (λ (o : Option (List ℕ)). get_or (unwrap_or o []) (i % 256) 0) at)
   by (Some m) at =
-      let small = (are_marks f (i / 256) m (holds_at chunk_cmp same_chunk chunk_total (λ (x : Marked). is_item (item_of x) ≡ true) t.stale (f, i / 256) m are.stale.1 at)).small in
+      let small = (are_marks f (i / 256) m (holds_at chunk_cmp same_chunk chunk_total (λ (x : Marked). is_item (item_of_marks x) ≡ true) t.stale (f, i / 256) m are.stale.1 at)).small in
       omega (arith, ap (λ (o : Option (List ℕ)). get_or (unwrap_or o []) (i % 256) 0) at, marks_small m (i % 256) small)
 
 -- a mark that isn't set once another one is cleared wasn't before
@@ -312,9 +312,9 @@ module _ (t : Tables) (are : AreTables t) (f n : ℕ) (homes : List Homes) (mark
 
   base_long : length base ≡ 256
   base_long = by (chunk_at t.extents (f, n)) refl where
-    by : (o : Option (List Homes)) → chunk_at t.extents (f, n) ≡ o → length (unwrap_or o (replicate 256 absent)) ≡ 256
+    by : (o : Option (List Homes)) → chunk_at t.extents (f, n) ≡ o → length (unwrap_or o (replicate 256 absent_homes)) ≡ 256
     by (Some w) e = size_of t.extents (f, n) w are.extents.0.1 e
-    by None e = length-replicate {A = Homes} 256 absent
+    by None e = length-replicate {A = Homes} 256 absent_homes
 
   homes_fit : count + length homes ≤ length base
   homes_fit = omega (arith, room, base_long)
@@ -348,7 +348,7 @@ module _ (t : Tables) (are : AreTables t) (f n : ℕ) (homes : List Homes) (mark
         out (ap (λ (q : Chunk). q.0) at) (omega (arith, chunk, low)) (omega (arith, chunk, high, is))
 
     -- what stands where a chunk has none
-    blank_home : (o : Option (List Homes)) (c : ℕ) → get_or (get_or (unwrap_or o (replicate 256 absent)) (j % 256) []) c None ≡ get_or (get_or (unwrap_or o []) (j % 256) []) c None
+    blank_home : (o : Option (List Homes)) (c : ℕ) → get_or (get_or (unwrap_or o (replicate 256 absent_homes)) (j % 256) []) c None ≡ get_or (get_or (unwrap_or o []) (j % 256) []) c None
     blank_home (Some w) c = refl
     blank_home None c = no_home (j % 256) c
 
@@ -372,9 +372,9 @@ module _ (t : Tables) (are : AreTables t) (f n : ℕ) (homes : List Homes) (mark
       let chunk : j / 256 ≡ n = ap (λ (q : Chunk). q.1) at in
       let lt : j < first_new t f n = before (ap (λ (q : Chunk). q.0) at) in
       at_rest count base homes [] homes_fit (j % 256) (λ low high. omega (arith, chunk, lt, low)) ∙ by (chunk_at t.extents (f, n)) refl (omega (arith, chunk, lt))) where
-        none_there : count_in (replicate 256 absent) ≡ 0
+        none_there : count_in (replicate 256 absent_homes) ≡ 0
         none_there = refl
 
-        by : (o : Option (List Homes)) → chunk_at t.extents (f, n) ≡ o → j % 256 < count_in (unwrap_or o (replicate 256 absent)) → get_or (unwrap_or o (replicate 256 absent)) (j % 256) [] ≡ get_or (unwrap_or o []) (j % 256) []
+        by : (o : Option (List Homes)) → chunk_at t.extents (f, n) ≡ o → j % 256 < count_in (unwrap_or o (replicate 256 absent_homes)) → get_or (unwrap_or o (replicate 256 absent_homes)) (j % 256) [] ≡ get_or (unwrap_or o []) (j % 256) []
         by (Some w) e lt = refl
         by None e lt = absurd (omega (arith, none_there, lt))

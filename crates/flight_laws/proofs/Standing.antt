@@ -7,7 +7,7 @@ use Rattle.asm_formats.specs.Items.{Home, Homes, Item}
 use Rattle.asm_formats.specs.Status as status
 use Rattle.asm_base.specs.Chunks.{Chunk, chunk_cmp}
 use Rattle.asm_placement.specs.Naming.{is_birth}
-use Rattle.asm_images.specs.Describing.{AreRegular, has_info}
+use Rattle.asm_images.specs.Describing.{AreRegular, has_info_in_items}
 use Rattle.extent_map.specs.Extents.{Chunked, chunk_at}
 use Rattle.extent_map.proofs.Laws.{chunk_total, same_chunk}
 use Rattle.extent_map.proofs.Numbering.{size_of}
@@ -20,10 +20,10 @@ use Rattle.group_of.proofs.Extents.{home_by}
 use Rattle.group_of.proofs.Says.{infos_are}
 
 -- each entry has its disk record, by the tables as by their items
-pub none_unknown : (t : Tables) (items : List Item) → AreItemsOf t items → (es : List status.Entry) → list_all (has_info items) es ≡ true → first_unknown t es ≡ None
+pub none_unknown : (t : Tables) (items : List Item) → AreItemsOf t items → (es : List status.Entry) → list_all (has_info_in_items items) es ≡ true → first_unknown t es ≡ None
 none_unknown t items is [] all = refl
 none_unknown t items is (e ∷ es) all =
-    let p = and_parts (has_info items e) (list_all (has_info items) es) all in
+    let p = and_parts (has_info_in_items items e) (list_all (has_info_in_items items) es) all in
     let here : rules.has_info t e ≡ true = ap (is_birth e.birth) (sym (infos_are t items is e.number)) ∙ p.0 in
     rw here (none_unknown t items is es p.1)
 

@@ -9,11 +9,11 @@ use Rattle.asm_formats.specs.Items.{FileHead, Home, Homes, Key}
 use Rattle.asm_formats.specs.Sets.{has_bit}
 use Rattle.asm_formats.specs.Status as status
 use Rattle.asm_formats.specs.Status.{Status}
-use Rattle.asm_base.specs.Records.{Entry}
+use Rattle.asm_base.specs.Records.{DirectoryRecord}
 use Rattle.asm_images.specs.Describing.{LiesIn}
 use Rattle.catalog.specs.ExtentPlans.{MayAppend, first_new, with_appended}
 use Rattle.catalog.specs.Plans.{IsPlan}
-use Rattle.catalog_tables.specs.Rules.{are_on_regular, is_due}
+use Rattle.catalog_tables.specs.Rules.{are_on_regular, head_has_extent}
 use Rattle.catalog_tables.specs.Tables.{AreTables, Catalogued}
 use Rattle.file_directory.specs.Files.{head_at}
 use Rattle.group_engine.specs.Becoming.{HoldsIn}
@@ -49,11 +49,11 @@ FilledIsHeld =
 
 -- The file, where it has a head, has by its size none of the new extents.
 abbrev pub AreBehindSize : Catalogued → (f n : ℕ) → Type 0
-AreBehindSize c f n = (i : ℕ) (head : FileHead) → head_at c.tables.files f ≡ Some head → is_due c.shape head i ≡ true → i < first_new c.tables f n
+AreBehindSize c f n = (i : ℕ) (head : FileHead) → head_at c.tables.files f ≡ Some head → head_has_extent c.shape head i ≡ true → i < first_new c.tables f n
 
 -- A plan of new extents that the file hasn't by its size, on regular disks, changes nothing that the group is.
 abbrev pub AppendIsSurplus : Type 0
 AppendIsSurplus =
-    (entries : List status.Entry) (c : Catalogued) (put : List Entry) (gone : List Key) (f n : ℕ) (homes : List Homes) (marks : List ℕ) → AreTables c.tables
+    (entries : List status.Entry) (c : Catalogued) (put : List DirectoryRecord) (gone : List Key) (f n : ℕ) (homes : List Homes) (marks : List ℕ) → AreTables c.tables
     → MayAppend c f n homes marks → AreBehindSize c f n → IsTrue (list_all (are_on_regular entries) homes) → IsPlan c put gone (with_appended c.tables f n homes marks)
     → IsSurplus entries c put gone (with_appended c.tables f n homes marks)

@@ -5,7 +5,7 @@ use Rattle.bay.specs.Moments.{Ends, NowOnly}
 use Rattle.bay.specs.State.{BayState}
 use Rattle.asm_group.specs.Group.{Group}
 use Rattle.asm_formats.specs.Items.{Home, Key}
-use Rattle.asm_base.specs.Records.{Entry}
+use Rattle.asm_base.specs.Records.{DirectoryRecord}
 use Rattle.asm_images.specs.Describing.{extent_size}
 use Rattle.asm_images.specs.Kept.{Kept}
 use Rattle.asm_images.specs.Spans.{Span}
@@ -59,7 +59,7 @@ CopyingGoesOn s t =
 -- Once the whole extent was copied, the commit of the move leads from the group to the group itself.
 abbrev pub FlightLeadsOn : BayState → Type 0
 FlightLeadsOn s =
-    (n : ℕ) (m : MountedGroup) (put : List Entry) (gone : List Key) (g : Group) (kept : Kept) (f : Flight) → Mounts n m s g kept
+    (n : ℕ) (m : MountedGroup) (put : List DirectoryRecord) (gone : List Key) (g : Group) (kept : Kept) (f : Flight) → Mounts n m s g kept
     → NowOnly s (CopiedAgree m g f) → extent_size g.shape f.x.index ≤ f.copied
     → IsPlan m.catalog put gone (with_move m.catalog.tables f.x.file f.x.index f.copy f.to) → IsTrue (is_on_regular m.register.value.entries (Some f.to))
     → m.register.turn + 1 < 2 ^ 64 → LeadsTo n m put gone s g g kept
@@ -67,7 +67,7 @@ FlightLeadsOn s =
 -- So does the commit that clears its mark, where the copy is brought up at the home that it has.
 abbrev pub FlightClearsOn : BayState → Type 0
 FlightClearsOn s =
-    (n : ℕ) (m : MountedGroup) (put : List Entry) (gone : List Key) (g : Group) (kept : Kept) (f : Flight) → Mounts n m s g kept
+    (n : ℕ) (m : MountedGroup) (put : List DirectoryRecord) (gone : List Key) (g : Group) (kept : Kept) (f : Flight) → Mounts n m s g kept
     → NowOnly s (CopiedAgree m g f) → extent_size g.shape f.x.index ≤ f.copied
     → IsPlan m.catalog put gone (with_marks_changed m.catalog.tables f.x.file f.x.index 0 (2 ^ f.copy))
     → home_at m.catalog.tables f.x.file f.x.index f.copy ≡ Some f.to → m.register.turn + 1 < 2 ^ 64 → LeadsTo n m put gone s g g kept

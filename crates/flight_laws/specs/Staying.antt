@@ -8,7 +8,7 @@ use Rattle.asm_group.specs.Group.{Group}
 use Rattle.asm_group.specs.Shape.{Shape, is_shape}
 use Rattle.asm_formats.specs.Items.{Key}
 use Rattle.asm_formats.specs.Status.{Status, entry_of}
-use Rattle.asm_base.specs.Records.{Entry}
+use Rattle.asm_base.specs.Records.{DirectoryRecord}
 use Rattle.asm_placement.specs.Layout.{units_of}
 use Rattle.asm_images.specs.Kept.{Kept}
 use Rattle.asm_images.specs.WriteLaws.{AreApart}
@@ -35,7 +35,7 @@ MountedDescribe s = (n : ℕ) (m : MountedGroup) (g : Group) (kept : Kept) → M
 
 abbrev pub LedDescribe : BayState → Type 0
 LedDescribe s =
-    (n : ℕ) (m : MountedGroup) (put : List Entry) (gone : List Key) (g h : Group) (kept : Kept) (to : LeadsTo n m put gone s g h kept) → DescribeSome m.register.value to.tables m.catalog.shape
+    (n : ℕ) (m : MountedGroup) (put : List DirectoryRecord) (gone : List Key) (g h : Group) (kept : Kept) (to : LeadsTo n m put gone s g h kept) → DescribeSome m.register.value to.tables m.catalog.shape
 
 -- A group of the shape of a mounted one, which the disks hold by its tables.
 pub record HeldBeside (n : ℕ) (m : MountedGroup) (s : BayState) (g k : Group) (kept : Kept) : Type 0 where

@@ -7,10 +7,10 @@ use Rattle.std.proofs.lemmas.Option.{same_Some}
 use Rattle.bay.proofs.Calls.{stops, as_held}
 use Rattle.bay.specs.State.{BayState, IsSound, IsSlot}
 use Rattle.bay.specs.Moments.{Runs, Ends, Durable, Within}
-use Rattle.bay.specs.Calls.{Cost, Call, Done, Tells}
+use Rattle.bay.specs.Calls.{Cost, Call, ChangesEachImage, Tells}
 use Rattle.bay.proofs.OneCall.{Follows, reworded}
 use Rattle.gate_slot.specs.declared.place.Place.{Place}
-use Rattle.gate_slot.specs.Slot.{IsUsable, IsGateSettled, GateOf, PlaceOf, is_open_in, body_in, shown, SetsGate, FoundGate, Closes, MayClose, Opens, MayOpen, HasPut, MayFillShut, MayPut, FromHeld, WaitsFor}
+use Rattle.gate_slot.specs.Slot.{IsUsablePlace, IsGateSettled, GateOf, PlaceOf, is_open_in, body_in, shown, SetsGate, FoundGate, Closes, MayClose, Opens, MayOpen, HasPut, MayFillShut, MayPut, FromHeld, WaitsFor}
 
 -- where the gate is and what the body is says what is shown
 shown-open : (place : Place) (slot : ℕ) (image : Image) → is_open_in place slot image ≡ true → shown place slot image ≡ Some (body_in place slot image)
@@ -58,10 +58,10 @@ pub may_put-same : (place : Place) (slot : ℕ) (body : List ℕ) (x y : Image) 
 may_put-same place slot body x y same = record { shows = inl (still_shown place slot x y same); elsewhere = changes-same (PlaceOf place slot) x y same }
 
 -- a sector has bytes
-pub has_sector : {state : BayState} {slot : ℕ} {place : Place} → IsUsable state slot place → 0 < place.sector
+pub has_sector : {state : BayState} {slot : ℕ} {place : Place} → IsUsablePlace state slot place → 0 < place.sector
 has_sector usable = ⊎_elim (λ is. omega (arith, is)) (λ is. omega (arith, is)) usable.sector
 
-module _ {state : BayState} {place : Place} {slot : ℕ} (usable : IsUsable state slot place) where
+module _ {state : BayState} {place : Place} {slot : ℕ} (usable : IsUsablePlace state slot place) where
   some : 0 < place.sector
   some = has_sector usable
 
@@ -264,5 +264,5 @@ module _ (state : BayState) (slot : ℕ) where
 
 -- a call, without what is known of the images that it came from
 pub plain : {T E : Type 0} {result : Result T E} {state : BayState} {slot : ℕ} {step done : Image → Image → Type 0} {most : Cost} {a b : BayState} → Within Same step
-    → Call result slot (WaitsFor state slot step) (Done (FromHeld state slot done)) most a b → Call result slot step (Done done) most a b
+    → Call result slot (WaitsFor state slot step) (ChangesEachImage (FromHeld state slot done)) most a b → Call result slot step (ChangesEachImage done) most a b
 plain still call = reworded (λ x y waits. ⊎_elim (still x y) (λ from. from.steps) waits) (λ x y from. from.steps) (record { calls = omega arith; bytes = λ s. omega arith }) call

@@ -5,7 +5,7 @@ use Rattle.bay.specs.State.{BayState, size_of}
 use Rattle.gate_slot.specs.declared.place.Place.{Place}
 
 -- the gate and the body of a place are whole sectors of an attached disk, and don't meet
-pub record IsUsable (state : BayState) (slot : ℕ) (place : Place) : Type 0 where
+pub record IsUsablePlace (state : BayState) (slot : ℕ) (place : Place) : Type 0 where
   pub attached : IsSome (state.attached slot)
   pub sector : (place.sector ≡ 512) ⊎ (place.sector ≡ 4096)
   pub gate_inside : place.gate + place.sector ≤ size_of state slot
@@ -24,8 +24,8 @@ abbrev pub PlaceOf : Place → ℕ → ℕ → ℕ → Type 0
 PlaceOf place slot s k = GateOf place slot s k ⊎ Range slot place.body place.len s k
 
 -- no byte belongs to both places
-abbrev pub AreApart : Place → ℕ → Place → ℕ → Type 0
-AreApart place slot other other_slot = (s k : ℕ) → PlaceOf place slot s k → PlaceOf other other_slot s k → ⊥
+abbrev pub ArePlacesApart : Place → ℕ → Place → ℕ → Type 0
+ArePlacesApart place slot other other_slot = (s k : ℕ) → PlaceOf place slot s k → PlaceOf other other_slot s k → ⊥
 
 -- a gate is open where its first byte is A5
 abbrev pub is_open_in : Place → ℕ → Image → Bool

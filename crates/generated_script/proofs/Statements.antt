@@ -8,7 +8,7 @@ use Rattle.std.proofs.lemmas.Grind.{flat_map-append}
 use Rattle.asm_group.specs.Names.{Bytes}
 use Rattle.asm_world.specs.Generator.{create_group, create_image, quoted, with_commas}
 use Rattle.asm_world.specs.Text.{ended}
-use Rattle.generated_script.specs.Statements.{group_line, image_line}
+use Rattle.generated_script.specs.Statements.{create_group_line, image_line}
 
 -- three texts that were put one after another
 framed : (t front middle back : Bytes) {t₁ t₂ t₃ : Bytes} → t₁ ≡ t ++ front → t₂ ≡ t₁ ++ middle → t₃ ≡ t₂ ++ (back ++ 10 ∷ []) → t₃ ≡ t ++ (((front ++ middle) ++ back) ++ 10 ∷ [])
@@ -18,8 +18,8 @@ pub image_put : (t path : Bytes) {t₁ t₂ t₃ : Bytes} → t₁ ≡ t ++ code
 unfolding image_line
 image_put t path e₁ e₂ e₃ = framed t (codes "CREATE DISK ") (quoted path) (codes " SIZE 64M;") e₁ e₂ e₃
 
-pub group_put : (t : Bytes) (paths : List Bytes) {t₁ t₂ t₃ : Bytes} → t₁ ≡ t ++ codes "CREATE DISKGROUP DATA DISK " → t₂ ≡ t₁ ++ with_commas (map quoted paths) → t₃ ≡ t₂ ++ codes ";\n" → t₃ ≡ t ++ group_line paths
-unfolding group_line
+pub group_put : (t : Bytes) (paths : List Bytes) {t₁ t₂ t₃ : Bytes} → t₁ ≡ t ++ codes "CREATE DISKGROUP DATA DISK " → t₂ ≡ t₁ ++ with_commas (map quoted paths) → t₃ ≡ t₂ ++ codes ";\n" → t₃ ≡ t ++ create_group_line paths
+unfolding create_group_line
 group_put t paths e₁ e₂ e₃ = framed t (codes "CREATE DISKGROUP DATA DISK ") (with_commas (map quoted paths)) (codes ";") e₁ e₂ e₃
 
 -- the first text, and the others each behind a comma
@@ -38,8 +38,8 @@ paths_put t t₁ longer (path ∷ paths) first some is e f =
     ∙ (ap (λ (b : Bytes). b ++ flat_map (λ other. 44 ∷ 32 ∷ quoted other) paths) (e ∙ ap (λ (p : Bytes). t ++ quoted p) is)
     ∙ (append_assoc t (quoted path) (flat_map (λ other. 44 ∷ 32 ∷ quoted other) paths) ∙ ap (λ (b : Bytes). t ++ b) (sym all))))
 
-pub creations_are : (paths : List Bytes) → flat_map image_line paths ++ group_line paths ≡ ended (map create_image paths ++ create_group paths ∷ [])
-unfolding image_line group_line
+pub creations_are : (paths : List Bytes) → flat_map image_line paths ++ create_group_line paths ≡ ended (map create_image paths ++ create_group paths ∷ [])
+unfolding image_line create_group_line
 creations_are paths =
     sym (flat_map-append (λ line. line ++ 10 ∷ []) (map create_image paths) (create_group paths ∷ [])
     ∙ (ap (λ (front : Bytes). front ++ ((create_group paths ++ 10 ∷ []) ++ [])) (flat_map-map (λ line. line ++ 10 ∷ []) create_image paths)

@@ -1,7 +1,7 @@
 -- The commands behind the creations, from one of them on.
 use Rattle.std.specs.Prelude.{ℕ, zero, suc, ◌-◌, Bool, true, false, List, [], ◌∷◌, ◌++◌, codes}
 use Rattle.asm_group.specs.Names.{Bytes}
-use Rattle.asm_world.specs.Generator.{after_choices, create_file, fill, fills, next_choice}
+use Rattle.asm_world.specs.Generator.{after_choices, create_file, fill_command, fills, next_choice}
 use Rattle.generated_script.specs.declared.lines.Lines.{Lines}
 use Rattle.generated_script.specs.declared.lines.Next.{Next}
 use Rattle.generated_script.specs.declared.lines.Next.TheVariants.{File, EarlyFill, DropDisk, LateFill, ListGroups, Nothing}
@@ -45,9 +45,9 @@ lines_left lines = lines_of lines.next lines.choice
 -- the next of them
 abbrev pub line_now : Next → ℕ → Bytes
 line_now (File more) x = create_file (15 - more)
-line_now (EarlyFill more) x = fill x
+line_now (EarlyFill more) x = fill_command x
 line_now DropDisk x = drop_disk
-line_now (LateFill more) x = fill x
+line_now (LateFill more) x = fill_command x
 line_now ListGroups x = list_groups
 line_now Nothing x = []
 

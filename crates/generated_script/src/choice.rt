@@ -1,7 +1,7 @@
 //! The numbers by which bytes and places are chosen, and the fill that each says.
 
 ghost use Rattle.std.specs.Prelude.{◌≡◌, ◌≤◌, ◌<◌, ◌+◌, [], length};
-ghost use Rattle.asm_world.specs.Generator.{create_file, fill, megabytes, next_choice};
+ghost use Rattle.asm_world.specs.Generator.{create_file, fill_command, megabytes, next_choice};
 ghost use Rattle.asm_world.specs.Text.{hex, hex_digit};
 
 use line_buffer::LineBuffer;
@@ -53,7 +53,7 @@ pub fn put_file(line: &mut LineBuffer, k: u64)
 /// Puts the command that fills one sector of one file with one byte, as the number says.
 pub fn put_fill(line: &mut LineBuffer, x: u64)
     requires { line.old ≡ [] }
-    ensures text { line.new ≡ fill x }
+    ensures text { line.new ≡ fill_command x }
     ensures len { length line.new ≤ 799 }
 {
     let k = x / (1 << 33) % 16;

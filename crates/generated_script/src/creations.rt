@@ -3,7 +3,7 @@
 ghost use Rattle.std.specs.List.{flat_map};
 ghost use Rattle.std.specs.Prelude.{◌≡◌, ◌++◌, ◌∷◌, [], map, IfOk};
 ghost use Rattle.asm_world.specs.Generator.{create_group, create_image, quoted, with_commas};
-ghost use Rattle.generated_script.specs.Statements.{group_line, image_line};
+ghost use Rattle.generated_script.specs.Statements.{create_group_line, image_line};
 ghost use Rattle.asm_world.specs.Text.{ended};
 
 use asm_base::{NoMemory, Text};
@@ -64,7 +64,7 @@ fn with_paths(text: Vec<u8>, paths: &[Text]) -> Result<Vec<u8>, NoMemory>
 }
 
 fn with_group(text: Vec<u8>, paths: &[Text]) -> Result<Vec<u8>, NoMemory>
-    ensures { IfOk result (λ longer. longer.items ≡ text.items ++ group_line paths.now) }
+    ensures { IfOk result (λ longer. longer.items ≡ text.items ++ create_group_line paths.now) }
 {
     let text = with(text, b"CREATE DISKGROUP DATA DISK ")?;
     with(with_paths(text, paths)?, b";\n")

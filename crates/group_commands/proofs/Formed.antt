@@ -19,7 +19,7 @@ use Rattle.session.specs.declared.answer.Answer.{Answer}
 use Rattle.session.specs.declared.desk.Desk.{Desk}
 use Rattle.session.specs.declared.reply.Reply.TheVariants.{Refused}
 use Rattle.session.specs.Desks.{IsAnswered, paths_on}
-use Rattle.session.specs.Sessions.{AreReady, Knows, groups_of, held_by}
+use Rattle.session.specs.Sessions.{AreReady, Knows, new_group_if_any, held_by}
 use Rattle.session.specs.Views.{found_view, reply_view}
 use Rattle.group_commands.proofs.Named.{Answered}
 use Rattle.session.proofs.Ready.{held_covers, joined_ready, spared_ready}
@@ -33,7 +33,7 @@ module _ (groups : List MountedGroup) (held : List ℕ) (n : ℕ) (s t : BayStat
   still_ready after same = subst (λ (l : List MountedGroup). AreReady l t) (sym same) others_ready
 
   -- and so does the new one
-  pub formed_ready : (after : List MountedGroup) (name : Bytes) (made : Option ℕ) (m : MountedGroup) → IsNewlyMounted held name made m t → after ≡ groups ++ groups_of made m → AreReady after t
+  pub formed_ready : (after : List MountedGroup) (name : Bytes) (made : Option ℕ) (m : MountedGroup) → IsNewlyMounted held name made m t → after ≡ groups ++ new_group_if_any made m → AreReady after t
   formed_ready after name made m new same =
       rw (same, new.id_is) (joined_ready groups m held (held_covers groups held is ready) others_ready (λ on. (new.whole, new.ready)) new.own)
 

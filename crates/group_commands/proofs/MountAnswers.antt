@@ -13,7 +13,7 @@ use Rattle.asm_world.specs.Causes.{HasCause, is_mounted_as, mounted_count}
 use Rattle.asm_world.specs.Command.{Command, Said}
 use Rattle.asm_world.specs.Reply.{Reply, Done, Refused}
 use Rattle.asm_world.specs.Statement.{Alter, Mount}
-use Rattle.asm_world.specs.Step.{Mounts, Step}
+use Rattle.asm_world.specs.Step.{MountsGroup, Step}
 use Rattle.asm_world.specs.Waits.{HasLines}
 use Rattle.asm_world.specs.World.{SessionEntry, World, entry_among, entry_in, groups_of, has_mounted, is_mounted, mounted_entry, with_group, without_entry}
 use Rattle.asm_world.proofs.Memory.{stays}
@@ -193,7 +193,7 @@ module _ (paths : List Bytes) (text name : Bytes) (force : Bool) (says : meaning
         session_is = ap (λ (es : List SessionEntry). es ++ mounted_entry m.name id ∷ []) (without_same w.session m.name name mounted.named)
             ∙ ap (λ (k : Bytes). without_entry w.session name ++ mounted_entry k id ∷ []) (sym is_on.mounts.represents.name)
 
-        mounts_it : Mounts w name after
+        mounts_it : MountsGroup w name after
         mounts_it = record {
           id = id;
           g = it;

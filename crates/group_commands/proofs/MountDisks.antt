@@ -8,7 +8,7 @@ use Rattle.asm_group.specs.Group.{Group}
 use Rattle.asm_group.specs.Names.{Bytes}
 use Rattle.asm_world.specs.Command.{Command}
 use Rattle.asm_world.specs.World.{World, groups_of, has_mounted}
-use Rattle.session.specs.group_disks.Leaving.{IsMountedOn, LeavesClaimed, LeavesLost, LeavesRefused, MountsOne, WasMounted, before_record, behind_record, claimed, looked}
+use Rattle.session.specs.group_disks.Leaving.{IsMountedOn, LeavesClaimed, LeavesLost, LeavesRefused, MountsOne, WasMounted, before_record, behind_record, claimed_group, looked}
 use Rattle.session.specs.group_disks.Mounting.{WasQuorate}
 use Rattle.session.proofs.group_disks.ReadNames.{reads_named}
 use Rattle.session.specs.group_engine.Commits.{StandsIn}
@@ -103,7 +103,7 @@ module _ {B : Type 0} (state : B → BayState) (name : Bytes) (n : ℕ) (held : 
 
     claims : LeavesClaimed state name n held option s t → StaysSo
     claims (looked runs) = looks runs
-    claims (claimed was left) =
+    claims (claimed_group was left) =
         under was.quorum.id (unmounted was) (record { moments = left.moments (groups_of w was.quorum.id) (stood was); members = left.members; attached = attached })
 
     lost : LeavesLost state name n held option s t → StaysSo

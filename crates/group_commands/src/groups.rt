@@ -7,7 +7,7 @@ ghost use Rattle.asm_world.specs.World.{World, entry_among};
 ghost use Rattle.asm_world.specs.Command.{Said};
 ghost use Rattle.asm_world.specs.Language.{command_of};
 ghost use Rattle.asm_world.specs.Statement.{CreateGroup, DropGroup, Alter, Mount, Dismount};
-ghost use Rattle.session.specs.Desks.{IsAnswered, copies};
+ghost use Rattle.session.specs.Desks.{IsAnswered, is_copy_command};
 ghost use Rattle.session.specs.Families.{is_proved_on_disks};
 ghost use Rattle.session.specs.Sessions.{AreReady, held_by};
 ghost use Rattle.session.specs.Groups.{only, plain_path, path_in_group, external_path, creation_of};
@@ -141,7 +141,7 @@ fn form_any<B: Bay, H: Host>(
     known: &Known,
 ) -> Answer
     requires none { is_proved_on_disks (command_of text.now) ≡ false }
-    requires still { copies (command_of text.now) ≡ false }
+    requires still { is_copy_command (command_of text.now) ≡ false }
     requires absent { is_some (entry_among desk.old.session.entries asked.name) ≡ false }
     requires floor { desk.old.session.given ≤ known.now.floor }
     requires held { known.now.held.items ≡ held_by desk.old.session.groups }

@@ -1,7 +1,7 @@
 // A group is mounted into the session.
 ghost use Rattle.std.specs.Prelude.{◌≡◌, [], IfOk, get_or, map};
 ghost use Rattle.std.specs.String.{string_bytes};
-ghost use Rattle.asm_base.specs.Refusals.{disk_name, said};
+ghost use Rattle.asm_base.specs.Refusals.{referred_disk_name, said};
 ghost use Rattle.group_commands.specs.Mounting.{MountsInto, mount_said, option_of};
 ghost use Rattle.session.specs.Sessions.{AreReady};
 
@@ -34,7 +34,7 @@ fn path_of(alloc: Global, paths: &[String], slot: u32) -> Result<Text, NoMemory>
 
 /// A disk by its name.
 fn spelt(alloc: Global, name: &Name) -> Result<DiskRef, NoMemory>
-    ensures { IfOk result (λ disk. disk_name (λ _. []) disk ≡ name.now) }
+    ensures { IfOk result (λ disk. referred_disk_name (λ _. []) disk ≡ name.now) }
 {
     Ok(DiskRef::Spelt(Text::from_slice(alloc, name.as_bytes())?))
 }

@@ -6,14 +6,14 @@ use Rattle.asm_group.specs.Names.{Path}
 use Rattle.asm_group.specs.TreeEdits as e
 use Rattle.asm_group.specs.declared.PendingKind.TheVariants.{Create, Grow}
 use Rattle.asm_group.specs.declared.Stripe.{Stripe}
-use Rattle.asm_base.specs.Records.{Entry}
+use Rattle.asm_base.specs.Records.{DirectoryRecord}
 use Rattle.asm_base.specs.declared.refusal.DiskRef.{DiskRef}
 use Rattle.asm_base.specs.declared.refusal.DiskRef.TheVariants.{Number, Spelt}
 use Rattle.asm_base.specs.declared.refusal.Refusal.{Refusal}
 use Rattle.asm_base.specs.declared.refusal.Refusal.TheVariants as cause
 use Rattle.asm_formats.specs.Items.{Key}
 use Rattle.file_extents.specs.catalog_tables.Changing.{IsAfter}
-use Rattle.file_extents.specs.catalog.FilePlans.{IsRemovalPlan, IsSizePlan, is_on_file, removed, sized}
+use Rattle.file_extents.specs.catalog.FilePlans.{IsRemovalPlan, IsSizePlan, is_on_file, with_removal_pending, sized}
 use Rattle.file_extents.specs.catalog.NamePlans.{IsNamePlan, made_file}
 use Rattle.file_extents.specs.catalog.Plans.{IsPlan}
 use Rattle.file_extents.specs.catalog_tables.Tables.{Catalogued, Tables}
@@ -76,16 +76,16 @@ status_write a b s t r = on_err (StatusCause a b s t) (WriteCause a b s t) r (st
 -- ---- what was committed
 
 -- where no operation is pending a removal is a plan
-pub removal_plan : (k : Catalogued) (f : ℕ) (put : List Entry) (gone : List Key) → IsRemovalPlan k f put gone → k.tables.operations.pending ≡ None
+pub removal_plan : (k : Catalogued) (f : ℕ) (put : List DirectoryRecord) (gone : List Key) → IsRemovalPlan k f put gone → k.tables.operations.pending ≡ None
     → (u : Tables) × IsPlan k put gone u
-removal_plan k f put gone p none = (removed k.tables f p.head, p.plan (p.owned (ap (is_on_file k.tables.files) none)))
+removal_plan k f put gone p none = (with_removal_pending k.tables f p.head, p.plan (p.owned (ap (is_on_file k.tables.files) none)))
 
 -- where the pending operation is on a file another size is one
-pub size_plan : (k : Catalogued) (f size : ℕ) (put : List Entry) (gone : List Key) → IsSizePlan k f size put gone
+pub size_plan : (k : Catalogued) (f size : ℕ) (put : List DirectoryRecord) (gone : List Key) → IsSizePlan k f size put gone
     → is_on_file k.tables.files k.tables.operations.pending ≡ true → (u : Tables) × IsPlan k put gone u
 size_plan k f size put gone p on = (sized k.tables f p.head size p.pending, p.plan (p.owned on))
 
-pub removes : (a : MountedGroup) (k : Catalogued) (f : ℕ) (put : List Entry) (gone : List Key) (r : Result (Unit {0}) Refusal) (b : MountedGroup)
+pub removes : (a : MountedGroup) (k : Catalogued) (f : ℕ) (put : List DirectoryRecord) (gone : List Key) (r : Result (Unit {0}) Refusal) (b : MountedGroup)
     → k ≡ a.catalog → IsRemovalPlan k f put gone → OnOk r (IsAfter k.tables put gone b.catalog.tables) → OnOk r (RemovesFile a f b)
 removes a k f put gone r b same p applied = on_ok r
     (λ (is : IsAfter k.tables put gone b.catalog.tables). record {
@@ -96,7 +96,7 @@ removes a k f put gone r b same p applied = on_ok r
     })
     applied
 
-pub sizes : (a : MountedGroup) (k : Catalogued) (f size : ℕ) (put : List Entry) (gone : List Key) (r : Result (Unit {0}) Refusal) (b : MountedGroup)
+pub sizes : (a : MountedGroup) (k : Catalogued) (f size : ℕ) (put : List DirectoryRecord) (gone : List Key) (r : Result (Unit {0}) Refusal) (b : MountedGroup)
     → k ≡ a.catalog → IsSizePlan k f size put gone → OnOk r (IsAfter k.tables put gone b.catalog.tables) → OnOk r (SetsSize a f size b)
 sizes a k f size put gone r b same p applied = on_ok r
     (λ (is : IsAfter k.tables put gone b.catalog.tables). record {
@@ -107,13 +107,13 @@ sizes a k f size put gone r b same p applied = on_ok r
     })
     applied
 
-pub drops : (a : MountedGroup) (path : Path) (put : List Entry) (gone : List Key) (r : Result (Unit {0}) Refusal) (b : MountedGroup)
+pub drops : (a : MountedGroup) (path : Path) (put : List DirectoryRecord) (gone : List Key) (r : Result (Unit {0}) Refusal) (b : MountedGroup)
     → IsTreePlan a.catalog (e.DropDir path) put gone → OnOk r (IsAfter a.catalog.tables put gone b.catalog.tables) → OnOk r (DropsDirectory a path b)
 drops a path put gone r b p applied = on_ok r
     (λ (after : IsAfter a.catalog.tables put gone b.catalog.tables). record { put = put; gone = gone; plan = p; applied = after })
     applied
 
-pub names : (a : MountedGroup) (k : Catalogued) (new : NewFile) (file copies : ℕ) (stripe : Stripe) (put : List Entry) (gone : List Key) (r : Result (Unit {0}) Refusal)
+pub names : (a : MountedGroup) (k : Catalogued) (new : NewFile) (file copies : ℕ) (stripe : Stripe) (put : List DirectoryRecord) (gone : List Key) (r : Result (Unit {0}) Refusal)
     (b : MountedGroup) → k ≡ a.catalog → made_file a.catalog.tables ≡ file → IsNamePlan k new.path.parts new.size copies stripe put gone
     → OnOk r (IsAfter k.tables put gone b.catalog.tables) → OnOk r (NamesFile a new file b)
 names a k new file copies stripe put gone r b same number p applied = on_ok r

@@ -6,9 +6,9 @@ use Rattle.asm_base.specs.declared.refusal.Refusal.TheVariants as cause
 use Rattle.asm_group.specs.Group.{Template}
 use Rattle.asm_group.specs.Names.{Bytes, Path}
 use Rattle.asm_group.specs.declared.Stripe.{Stripe}
-use Rattle.asm_base.specs.Records.{Entry}
+use Rattle.asm_base.specs.Records.{DirectoryRecord}
 use Rattle.asm_formats.specs.Items.{Key}
-use Rattle.asm_placement.specs.Layout.{has_extent}
+use Rattle.asm_placement.specs.Layout.{has_extent_by_size}
 use Rattle.asm_world.specs.Files.{copies_for}
 use Rattle.file_extents.specs.catalog_tables.Changing.{IsAfter}
 use Rattle.file_extents.specs.catalog.NameChecks.{IsCheckRefusal}
@@ -43,12 +43,12 @@ template_in t said (db ∷ type_name ∷ tag ∷ []) = template_by t.templates.t
 template_in t said _ = None
 
 -- the template of a file at a path
-abbrev pub template_at : Tables → FileBy → Path → Option Template
-template_at t file_by path = template_in t (template_said file_by) path
+abbrev pub template_of_new_file : Tables → FileBy → Path → Option Template
+template_of_new_file t file_by path = template_in t (template_said file_by) path
 
 -- there is no template for the file
 abbrev pub IsTemplateCause : Tables → NewFile → Refusal → Type 0
-IsTemplateCause t new cause.NoTemplate = template_at t new.by new.path.parts ≡ None
+IsTemplateCause t new cause.NoTemplate = template_of_new_file t new.by new.path.parts ≡ None
 IsTemplateCause t new _ = ⊥
 
 -- more blocks are needed than are free
@@ -65,14 +65,14 @@ IsBy m found copies stripe = (t : Template) × (found ≡ Some t)
 -- The file gets so many copies and this stripe: those that are given, or by its template and the failure groups that serve.
 abbrev pub IsChosen : MountedGroup → NewFile → FileBy → ℕ → Stripe → Type 0
 IsChosen m new (by.Given said given) copies stripe = (copies ≡ said) × (stripe ≡ given)
-IsChosen m new file_by copies stripe = IsBy m (template_at m.catalog.tables new.by new.path.parts) copies stripe
+IsChosen m new file_by copies stripe = IsBy m (template_of_new_file m.catalog.tables new.by new.path.parts) copies stripe
 
 -- The extents of the next file, with this size.
 pub record AreNext (c : Catalogued) (copies : ℕ) (stripe : Stripe) (size : ℕ) (extents : NewExtents) : Type 0 where
   pub file : IsNextFile c.tables extents.file
   pub copies_are : extents.copies ≡ copies
   pub first : extents.first ≡ 0
-  pub count : (i : ℕ) → (i < extents.count) ↔ IsTrue (has_extent stripe c.shape.au c.shape.step size i)
+  pub count : (i : ℕ) → (i < extents.count) ↔ IsTrue (has_extent_by_size stripe c.shape.au c.shape.step size i)
 
 -- The extents that a new file gets: by what is asked of it, and with its size.
 pub record AreOfNew (m : MountedGroup) (new : NewFile) (extents : NewExtents) : Type 0 where
@@ -121,14 +121,14 @@ pub record IsCreationPending (t : Tables) (file : ℕ) : Type 0 where
 
 -- each extent that the size asks for is there with all its copies
 abbrev pub HasAskedExtents : Catalogued → Stripe → ℕ → ℕ → ℕ → Type 0
-HasAskedExtents c stripe size file copies = (i : ℕ) → has_extent stripe c.shape.au c.shape.step size i ≡ true → has_copies copies (extent_at c.tables.extents file i) ≡ true
+HasAskedExtents c stripe size file copies = (i : ℕ) → has_extent_by_size stripe c.shape.au c.shape.step size i ≡ true → has_copies copies (extent_at c.tables.extents file i) ≡ true
 
 -- The head and the names of a new file of this number were committed, with its size.
 pub record NamesFile (before : MountedGroup) (new : NewFile) (file : ℕ) (after : MountedGroup) : Type 0 where
   pub number : made_file before.catalog.tables ≡ file
   pub copies : ℕ
   pub stripe : Stripe
-  pub put : List Entry
+  pub put : List DirectoryRecord
   pub gone : List Key
   pub plan : IsNamePlan before.catalog new.path.parts new.size copies stripe put gone
   pub applied : IsAfter before.catalog.tables put gone after.catalog.tables

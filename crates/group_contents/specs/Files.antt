@@ -8,33 +8,33 @@ use Rattle.asm_base.specs.declared.kinds.ExtentId.{ExtentId}
 use Rattle.asm_base.specs.declared.refusal.Refusal.{Refusal}
 use Rattle.asm_base.specs.declared.refusal.Refusal.TheVariants as cause
 use Rattle.asm_formats.specs.Items.{FileHead, Node}
-use Rattle.asm_placement.specs.Naming.{is_directory}
+use Rattle.asm_placement.specs.Naming.{is_kind_directory}
 use Rattle.file_extents.specs.alias_tree.Nodes.{node_at, number_of}
 use Rattle.file_extents.specs.file_directory.Files.{head_at}
 use Rattle.file_extents.specs.catalog_tables.Tables.{Tables}
 use Rattle.file_extents.specs.group_engine.Commits.{DismountCause}
 use Rattle.file_extents.specs.group_engine.Mounts.{MountedGroup}
-use Rattle.file_extents.specs.group_pieces.Usable.{IsLost}
+use Rattle.file_extents.specs.group_pieces.Usable.{HasNoUsableCopy}
 use Rattle.file_extents.specs.Filling.{FaultOn}
 use Rattle.group_contents.specs.declared.opening.OpenFile.{OpenFile}
 
 -- ---- files by their paths
 
 -- the file that a node names
-abbrev pub file_of_node : Node → Option ℕ
-file_of_node node = if is_directory node.kind then None else Some node.file
+abbrev pub file_named_by_node : Node → Option ℕ
+file_named_by_node node = if is_kind_directory node.kind then None else Some node.file
 
 -- the number of the file at a path, by its system name or its alias
-abbrev pub named_file : Tables → Path → Option ℕ
-named_file t path = option_and_then (λ n. option_and_then file_of_node (node_at t.nodes n)) (number_of t.nodes path)
+abbrev pub named_file_number : Tables → Path → Option ℕ
+named_file_number t path = option_and_then (λ n. option_and_then file_named_by_node (node_at t.nodes n)) (number_of t.nodes path)
 
 -- the head of the file at a path
 abbrev pub head_named : Tables → Path → Option FileHead
-head_named t path = option_and_then (λ f. head_at t.files f) (named_file t path)
+head_named t path = option_and_then (λ f. head_at t.files f) (named_file_number t path)
 
 -- The file at a path is open: what its head says.
 pub record IsOpened (t : Tables) (path : Path) (file : OpenFile) : Type 0 where
-  pub number : named_file t path ≡ Some file.file
+  pub number : named_file_number t path ≡ Some file.file
   pub head : FileHead
   pub at : head_at t.files file.file ≡ Some head
   pub size : file.size ≡ head.size
@@ -54,7 +54,7 @@ OpenCause m path _ = ⊥
 
 -- an extent of the file has no usable copy
 abbrev pub LostIn : MountedGroup → OpenFile → ExtentId → Type 0
-LostIn m file x = IsLost m x × (x.file ≡ file.file)
+LostIn m file x = HasNoUsableCopy m x × (x.file ≡ file.file)
 
 -- why a file can't be copied
 abbrev pub LostFileCause : MountedGroup → OpenFile → Refusal → Type 0

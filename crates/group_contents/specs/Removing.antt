@@ -3,10 +3,10 @@ use Rattle.std.specs.Prelude.{◌≡◌, ◌⊎◌, ℕ, Bool, true, false, List
 use Rattle.bay.specs.State.{BayState}
 use Rattle.asm_group.specs.Names.{Path}
 use Rattle.asm_group.specs.TreeEdits as e
-use Rattle.asm_base.specs.Records.{Entry}
+use Rattle.asm_base.specs.Records.{DirectoryRecord}
 use Rattle.asm_base.specs.declared.refusal.Refusal.{Refusal}
 use Rattle.asm_formats.specs.Items.{Key, Node}
-use Rattle.asm_placement.specs.Naming.{is_directory}
+use Rattle.asm_placement.specs.Naming.{is_kind_directory}
 use Rattle.file_extents.specs.alias_tree.Nodes.{node_at, number_of}
 use Rattle.file_extents.specs.catalog_tables.Changing.{IsAfter}
 use Rattle.file_extents.specs.catalog.FilePlans.{IsRemovalPlan}
@@ -14,11 +14,11 @@ use Rattle.file_extents.specs.catalog_tables.Tables.{Tables}
 use Rattle.file_extents.specs.catalog.TreePlans.{IsTreePlan, IsTreeRefusal}
 use Rattle.file_extents.specs.group_engine.Commits.{StatusCause}
 use Rattle.file_extents.specs.group_engine.Mounts.{MountedGroup}
-use Rattle.group_contents.specs.Files.{OpenCause, named_file}
+use Rattle.group_contents.specs.Files.{OpenCause, named_file_number}
 
 -- the head and the names of a file were taken away, and its removal is pending
 pub record RemovesFile (before : MountedGroup) (file : ℕ) (after : MountedGroup) : Type 0 where
-  pub put : List Entry
+  pub put : List DirectoryRecord
   pub gone : List Key
   pub plan : IsRemovalPlan before.catalog file put gone
   pub applied : IsAfter before.catalog.tables put gone after.catalog.tables
@@ -26,14 +26,14 @@ pub record RemovesFile (before : MountedGroup) (file : ℕ) (after : MountedGrou
 -- The file at a path was taken away, and the removal has ended.
 pub record IsRemoved (before : MountedGroup) (path : Path) (after : MountedGroup) : Type 0 where
   pub file : ℕ
-  pub named : named_file before.catalog.tables path ≡ Some file
+  pub named : named_file_number before.catalog.tables path ≡ Some file
   pub between : MountedGroup
   pub removed : RemovesFile before file between
   pub ended : after.catalog.tables.operations.pending ≡ None
 
 -- the empty directory at a path was taken away
 pub record DropsDirectory (before : MountedGroup) (path : Path) (after : MountedGroup) : Type 0 where
-  pub put : List Entry
+  pub put : List DirectoryRecord
   pub gone : List Key
   pub plan : IsTreePlan before.catalog (e.DropDir path) put gone
   pub applied : IsAfter before.catalog.tables put gone after.catalog.tables
@@ -41,7 +41,7 @@ pub record DropsDirectory (before : MountedGroup) (path : Path) (after : Mounted
 -- the root is a directory
 abbrev pub is_directory_or_root : Option Node → Bool
 is_directory_or_root None = true
-is_directory_or_root (Some node) = is_directory node.kind
+is_directory_or_root (Some node) = is_kind_directory node.kind
 
 abbrev pub directory_at : Tables → Option ℕ → Bool
 directory_at t None = false

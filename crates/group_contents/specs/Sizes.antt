@@ -3,12 +3,12 @@ use Rattle.std.specs.Prelude.{◌≡◌, ◌⊎◌, ◌↔◌, ℕ, ◌<◌, fal
 use Rattle.bay.specs.State.{BayState}
 use Rattle.asm_group.specs.Names.{Path}
 use Rattle.asm_group.specs.declared.PendingKind.TheVariants.{Grow}
-use Rattle.asm_base.specs.Records.{Entry}
+use Rattle.asm_base.specs.Records.{DirectoryRecord}
 use Rattle.asm_base.specs.declared.refusal.DiskRef.{DiskRef}
 use Rattle.asm_base.specs.declared.refusal.Refusal.{Refusal}
 use Rattle.asm_base.specs.declared.refusal.Refusal.TheVariants as cause
 use Rattle.asm_formats.specs.Items.{Key}
-use Rattle.asm_placement.specs.Layout.{has_extent}
+use Rattle.asm_placement.specs.Layout.{has_extent_by_size}
 use Rattle.file_extents.specs.catalog_tables.Changing.{IsAfter}
 use Rattle.file_extents.specs.catalog.FilePlans.{IsSizePlan}
 use Rattle.file_extents.specs.catalog_tables.Tables.{Catalogued}
@@ -26,7 +26,7 @@ use Rattle.group_contents.specs.declared.opening.OpenFile.{OpenFile}
 
 -- the file got this size by a commit
 pub record SetsSize (before : MountedGroup) (file size : ℕ) (after : MountedGroup) : Type 0 where
-  pub put : List Entry
+  pub put : List DirectoryRecord
   pub gone : List Key
   pub plan : IsSizePlan before.catalog file size put gone
   pub applied : IsAfter before.catalog.tables put gone after.catalog.tables
@@ -54,7 +54,7 @@ pub record ResizesFile (m : MountedGroup) (path : Path) (size : ℕ) (after : Mo
 pub record AreMore (c : Catalogued) (file : OpenFile) (extents : NewExtents) : Type 0 where
   pub number : extents.file ≡ file.file
   pub copies : extents.copies ≡ file.copies
-  pub first : (i : ℕ) → (i < extents.first) ↔ IsTrue (has_extent file.stripe c.shape.au c.shape.step file.size i)
+  pub first : (i : ℕ) → (i < extents.first) ↔ IsTrue (has_extent_by_size file.stripe c.shape.au c.shape.step file.size i)
 
 -- Why a file can't have a greater size, before anything is changed: one of its extents that has bytes behind its size has no usable
 -- copy, or for want of blocks.

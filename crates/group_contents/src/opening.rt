@@ -1,9 +1,9 @@
 // A file of a mounted group by its path, and which spans of it may be read and written.
 ghost use Rattle.std.specs.Prelude.{◌≡◌, IfErr, IfOk, IfSome, IsTrue, OnOk};
-ghost use Rattle.striping.specs.Pieces.{IsLayout};
-ghost use Rattle.file_extents.specs.group_pieces.Usable.{IsLost};
+ghost use Rattle.striping.specs.Pieces.{IsAllowedLayout};
+ghost use Rattle.file_extents.specs.group_pieces.Usable.{HasNoUsableCopy};
 ghost use Rattle.asm_group.specs.Shape.{is_shape};
-ghost use Rattle.group_contents.specs.Files.{AtFile, IsOpened, IsSpan, LostFileCause, LostIn, OpenCause, SpanCause, are_sectors, named_file};
+ghost use Rattle.group_contents.specs.Files.{AtFile, IsOpened, IsSpan, LostFileCause, LostIn, OpenCause, SpanCause, are_sectors, named_file_number};
 
 use asm_base::{ExtentId, NodeKind, Path, Refusal, Stripe};
 use file_extents::{Catalog, Mounted, first_piece, is_lost, layout_of};
@@ -31,7 +31,7 @@ impl OpenFile {
 
 /// The number of the file at a path, by its system name or its alias.
 fn number_at(catalog: &Catalog, path: &Path) -> Option<u32>
-    ensures { result ≡ named_file catalog.now.tables path.now.parts }
+    ensures { result ≡ named_file_number catalog.now.tables path.now.parts }
 {
     let number = catalog.find(path)?;
     let node = catalog.node(number)?;
@@ -84,9 +84,9 @@ pub(crate) fn first_lost(m: &Mounted, file: &OpenFile, at: u64, len: u64) -> Opt
 }
 
 fn lost_in(m: &Mounted, layout: Layout, file: u32, at: u64, len: u64) -> Option<ExtentId>
-    requires layout { IsLayout layout }
+    requires layout { IsAllowedLayout layout }
     requires shape { IsTrue (is_shape m.now.catalog.shape) }
-    ensures lost { IfSome result (IsLost m.now) }
+    ensures lost { IfSome result (HasNoUsableCopy m.now) }
     ensures file { IfSome result (λ x. x.file ≡ file) }
 {
     let shape = m.catalog().shape();

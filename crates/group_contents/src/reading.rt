@@ -2,7 +2,7 @@
 ghost use Rattle.std.specs.Prelude.{◌≡◌, ◌⊎◌, IfErr, OnOk, length};
 ghost use Rattle.bay.specs.Image.{Same};
 ghost use Rattle.bay.specs.Moments.{Runs};
-ghost use Rattle.striping.specs.Pieces.{IsLayout};
+ghost use Rattle.striping.specs.Pieces.{IsAllowedLayout};
 ghost use Rattle.piece_laws.specs.Targets.{AgreesIn};
 ghost use Rattle.file_extents.specs.group_engine.Mounts.{IsMounted, IsOwn, Takes};
 ghost use Rattle.file_extents.specs.group_engine.Own.{KeepsGroup};
@@ -56,7 +56,7 @@ fn read_pieces<B: Bay>(
 ) -> Result<(), Refusal>
     requires mounted { IsMounted m.now }
     requires takes { Takes m.now (B.state bay.old) }
-    requires layout { IsLayout layout }
+    requires layout { IsAllowedLayout layout }
     requires shape { IsOfShape layout m.now.catalog.shape }
     requires stripe { layout.stripe ≡ file.now.stripe }
     ensures keeps { KeepsGroup m.now m.now (B.state bay.old) (B.state bay.new) }

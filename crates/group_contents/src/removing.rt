@@ -1,7 +1,7 @@
 //! Files that go.
 ghost use Rattle.std.specs.Bool.{OnTrue};
 ghost use Rattle.std.specs.Prelude.{◌≡◌, ◌⊎◌, IfErr, IfOk, IsTrue, None, OnOk};
-ghost use Rattle.file_extents.specs.file_directory.Files.{is_file};
+ghost use Rattle.file_extents.specs.file_directory.Files.{is_file_number};
 ghost use Rattle.asm_group.specs.TreeEdits as e;
 ghost use Rattle.file_extents.specs.catalog.TreePlans.{IsTreePlan, IsTreeRefusal};
 ghost use Rattle.file_extents.specs.group_engine.Commits.{StatusCause};
@@ -20,7 +20,7 @@ use std::alloc::Global;
 /// Whether no operation is pending, and the file has a head.
 fn may_unname(m: &Mounted, file: u32) -> bool
     ensures rest { OnTrue result (m.now.catalog.tables.operations.pending ≡ None) }
-    ensures file { OnTrue result (IsTrue (is_file m.now.catalog.tables.files file)) }
+    ensures file { OnTrue result (IsTrue (is_file_number m.now.catalog.tables.files file)) }
 {
     is_at_rest(m) && m.catalog().file(file).is_some()
 }

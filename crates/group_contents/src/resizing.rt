@@ -1,7 +1,7 @@
 //! Another size of a file.
 ghost use Rattle.std.specs.Bool.{OnTrue};
 ghost use Rattle.std.specs.Prelude.{◌≡◌, IfErr, IfOk, IsTrue, OnOk};
-ghost use Rattle.file_extents.specs.file_directory.Files.{is_file};
+ghost use Rattle.file_extents.specs.file_directory.Files.{is_file_number};
 ghost use Rattle.file_extents.specs.catalog.FilePlans.{MayGrow, is_on_file};
 ghost use Rattle.file_extents.specs.group_engine.Commits.{StatusCause};
 ghost use Rattle.file_extents.specs.group_engine.Mounts.{IsMounted, Takes};
@@ -39,7 +39,7 @@ fn is_on_file(catalog: &Catalog) -> bool
 
 /// Whether the file has a head, and the extents of a size with all their copies where that is greater.
 fn may_grow(catalog: &Catalog, file: u32, size: u64) -> bool
-    ensures file { OnTrue result (IsTrue (is_file catalog.now.tables.files file)) }
+    ensures file { OnTrue result (IsTrue (is_file_number catalog.now.tables.files file)) }
     ensures grow { OnTrue result (MayGrow catalog.now.shape catalog.now.tables file size) }
 {
     let Some(head) = catalog.file(file) else {
@@ -56,7 +56,7 @@ fn may_grow(catalog: &Catalog, file: u32, size: u64) -> bool
 
 /// The same, where the pending operation is on a file that has a head, or none is.
 fn may_size(catalog: &Catalog, file: u32, size: u64) -> bool
-    ensures file { OnTrue result (IsTrue (is_file catalog.now.tables.files file)) }
+    ensures file { OnTrue result (IsTrue (is_file_number catalog.now.tables.files file)) }
     ensures grow { OnTrue result (MayGrow catalog.now.shape catalog.now.tables file size) }
     ensures on { OnTrue result (IsTrue (is_on_file catalog.now.tables.files catalog.now.tables.operations.pending)) }
 {

@@ -2,7 +2,7 @@
 ghost use Rattle.std.specs.Prelude.{◌≡◌, ◌⊎◌, ◌+◌, ◌<◌, ◌^◌, ℕ, IfErr, IfOk, IfSome, OnOk, length, replicate, true};
 ghost use Rattle.asm_formats.specs.Sets.{has_bit};
 ghost use Rattle.asm_base.specs.declared.refusal.Refusal.TheVariants.{WriteFault};
-ghost use Rattle.striping.specs.Pieces.{IsLayout};
+ghost use Rattle.striping.specs.Pieces.{IsAllowedLayout};
 ghost use Rattle.file_extents.specs.group_engine.Mounts.{IsMounted, Takes};
 ghost use Rattle.file_extents.specs.group_engine.Own.{KeepsGroup};
 ghost use Rattle.file_extents.specs.group_pieces.Held.{PieceHeld};
@@ -119,7 +119,7 @@ fn write_bytes<B: Bay>(
 ) -> Result<DiskSet, Refusal>
     requires mounted { IsMounted m.old }
     requires takes { Takes m.old (B.state bay.old) }
-    requires layout { IsLayout writing.layout }
+    requires layout { IsAllowedLayout writing.layout }
     ensures keeps { KeepsGroup m.old m.new (B.state bay.old) (B.state bay.new) }
     ensures mounted { OnOk result (IsMounted m.new) }
     ensures cause { IfErr result (PutCause m.old failed m.new (B.state bay.old) (B.state bay.new)) }
@@ -161,7 +161,7 @@ fn fill_bytes<B: Bay>(
 ) -> Result<(), Refusal>
     requires mounted { IsMounted m.old }
     requires takes { Takes m.old (B.state bay.old) }
-    requires layout { IsLayout writing.layout }
+    requires layout { IsAllowedLayout writing.layout }
     ensures keeps { KeepsGroup m.old m.new (B.state bay.old) (B.state bay.new) }
     ensures mounted { OnOk result (IsMounted m.new) }
     ensures cause { IfErr result (PutCause m.old 0 m.new (B.state bay.old) (B.state bay.new)) }

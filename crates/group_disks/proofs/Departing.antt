@@ -14,7 +14,7 @@ use Rattle.asm_formats.specs.Metadata.{Metadata, metadata, header_of}
 use Rattle.asm_formats.specs.Places.{SameElsewhere}
 use Rattle.asm_formats.specs.Status.{Status}
 use Rattle.asm_formats.specs.Among.{IsAmong}
-use Rattle.asm_images.specs.Members.{Image, Member, members, metadata_of, all_members, written, IsOutside}
+use Rattle.asm_images.specs.Members.{ImageBytes, Member, members, metadata_of, all_members, written, IsOutside}
 use Rattle.asm_images.specs.Bridge.{disk_bytes, disks_in, ChangesSlot}
 use Rattle.asm_images.specs.Sound.{SoundBy}
 use Rattle.asm_images.proofs.Members.{member_is, among_members}
@@ -41,7 +41,7 @@ NamesOther id bytes = (h : Header) → header_of bytes ≡ Some h → h.id ≢ i
 
 -- ---- the disk leaves first, and changes then
 
-module _ (id : ℕ) (old : Image) (groups : List Group) (slot : ℕ) (inside : slot < length old) where
+module _ (id : ℕ) (old : ImageBytes) (groups : List Group) (slot : ℕ) (inside : slot < length old) where
   abbrev before : List ℕ
   before = get_or old slot []
 
@@ -80,7 +80,7 @@ module _ (id : ℕ) (old : Image) (groups : List Group) (slot : ℕ) (inside : s
       }) in
       let after : SoundBy id (written (written old slot shut) slot bytes) groups completed begun =
       outside_keeps id (written old slot shut) groups completed begun left slot bytes (other_header_is_elsewhere id (written old slot shut) slot bytes outside_then other) in
-      subst (λ (image : Image). SoundBy id image groups completed begun) (set_twice old slot shut bytes) after
+      subst (λ (image : ImageBytes). SoundBy id image groups completed begun) (set_twice old slot shut bytes) after
 
   -- a member elsewhere was one before
   pub stays_member : (bytes : List ℕ) (m : Member) → m.slot ≢ slot → IsAmong (all_members id (written old slot bytes)) m → (n : Member) × IsAmong (all_members id old) n
@@ -124,7 +124,7 @@ module _ (id slot : ℕ) (old new : bay.Image) (changes : ChangesSlot slot old n
   in_list slots lt = omega (arith, lt, (disks_are_listed slots slot old lt).0)
 
   -- by the slots that are looked at
-  module _ (P : Image → Type 0) (slots : ℕ) (seen : slot < slots → P (written (disks_in slots old) slot now)) (unseen : P (disks_in slots old)) where
+  module _ (P : ImageBytes → Type 0) (slots : ℕ) (seen : slot < slots → P (written (disks_in slots old) slot now)) (unseen : P (disks_in slots old)) where
     pub looked_at : P (disks_in slots new)
     looked_at = ⊎_elim
         (λ (lt : slot < slots). subst P (sym (slot_change slots slot old new changes)) (seen lt))

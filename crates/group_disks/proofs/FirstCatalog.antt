@@ -9,8 +9,8 @@ use Rattle.std.proofs.lemmas.Option.{none-some}
 use Rattle.asm_group.specs.Shape.{Shape}
 use Rattle.asm_group.specs.declared.GroupKind.TheVariants.{External}
 use Rattle.asm_group.specs.NewGroup.{system_templates, usual_attributes}
-use Rattle.asm_base.specs.Records.{Ascend, Entry, is_key, key_cmp, keys_of, record_at}
-use Rattle.asm_formats.specs.Items.{Item, Key, is_item, key}
+use Rattle.asm_base.specs.Records.{Ascend, DirectoryRecord, is_key, key_cmp, keys_of, record_at}
+use Rattle.asm_formats.specs.Items.{Item, Key, is_item, item_key}
 use Rattle.asm_formats.specs.Values.{value}
 use Rattle.asm_formats.specs.Status as status
 use Rattle.asm_formats.proofs.Bodies.{item_codec}
@@ -33,7 +33,7 @@ use Rattle.group_disks.proofs.FirstBodies.{disk_ok, settings_ok, templates_ok}
 
 -- ---- records in order are one list
 
-up_of : (es : List Entry) → IsStrictlySortedBy key_cmp (keys_of es) → Ascend (λ a b. is_lt (key_cmp a b)) es
+up_of : (es : List DirectoryRecord) → IsStrictlySortedBy key_cmp (keys_of es) → Ascend (λ a b. is_lt (key_cmp a b)) es
 unfolding IsStrictlySortedBy
 up_of [] sorted = tt
 up_of (x ∷ []) sorted = tt
@@ -49,7 +49,7 @@ module _ (plan : Plan) where
   abbrev disk : Item
   disk = disk_of_plan plan
 
-  abbrev first : List Entry
+  abbrev first : List DirectoryRecord
   first = first_entries plan
 
   first_up : Ascend (λ a b. is_lt (key_cmp a b)) first
@@ -57,20 +57,20 @@ module _ (plan : Plan) where
 
   -- what was put last is what is found
   abbrev put : Key → Option (List ℕ)
-  put q = cond (is_key (key first_settings) q) (Some (value first_settings)) (cond (is_key (key first_templates) q) (Some (value first_templates)) (cond (is_key (key disk) q) (Some (value disk)) None))
+  put q = cond (is_key (item_key first_settings) q) (Some (value first_settings)) (cond (is_key (item_key first_templates) q) (Some (value first_templates)) (cond (is_key (item_key disk) q) (Some (value disk)) None))
 
   put_at : (k : Key) → put k ≡ record_at first k → (q : Key) → k ≡ q → put q ≡ record_at first q
   put_at k same q is = subst (λ (j : Key). put j ≡ record_at first j) is same
 
   put_is : (q : Key) → put q ≡ record_at first q
-  put_is q = ⊎_elim (λ yes. put_at (key first_settings) refl q (same_key (key first_settings) q yes))
-      (λ a. ⊎_elim (λ yes. put_at (key first_templates) refl q (same_key (key first_templates) q yes))
-      (λ b. ⊎_elim (λ yes. put_at (key disk) refl q (same_key (key disk) q yes))
-      (λ c. none a b c) (cases_Bool (is_key (key disk) q))) (cases_Bool (is_key (key first_templates) q))) (cases_Bool (is_key (key first_settings) q))
+  put_is q = ⊎_elim (λ yes. put_at (item_key first_settings) refl q (same_key (item_key first_settings) q yes))
+      (λ a. ⊎_elim (λ yes. put_at (item_key first_templates) refl q (same_key (item_key first_templates) q yes))
+      (λ b. ⊎_elim (λ yes. put_at (item_key disk) refl q (same_key (item_key disk) q yes))
+      (λ c. none a b c) (cases_Bool (is_key (item_key disk) q))) (cases_Bool (is_key (item_key first_templates) q))) (cases_Bool (is_key (item_key first_settings) q))
     where
-      none : is_key (key first_settings) q ≡ false → is_key (key first_templates) q ≡ false → is_key (key disk) q ≡ false → put q ≡ record_at first q
+      none : is_key (item_key first_settings) q ≡ false → is_key (item_key first_templates) q ≡ false → is_key (item_key disk) q ≡ false → put q ≡ record_at first q
       none a b c = (λ i. cond (a i) (Some (value first_settings)) (cond (b i) (Some (value first_templates)) (cond (c i) (Some (value disk)) None)))
-          ∙ sym (λ i. cond (other_key (key disk) q c i) (Some (value disk)) (cond (other_key (key first_templates) q b i) (Some (value first_templates)) (cond (other_key (key first_settings) q a i) (Some (value first_settings)) None)))
+          ∙ sym (λ i. cond (other_key (item_key disk) q c i) (Some (value disk)) (cond (other_key (item_key first_templates) q b i) (Some (value first_templates)) (cond (other_key (item_key first_settings) q a i) (Some (value first_settings)) None)))
 
   -- the records in the order of their keys are those of the first change
   pub content_is : (table : PageTable) → AreFirst first [] table → IsStrictlySortedBy key_cmp (keys_of table.records) → table.records ≡ first
@@ -90,17 +90,17 @@ module _ (plan : Plan) where
   }
 
   module _ (is : IsGroupPlan plan) where
-    readable : (i : Item) → is_item i ≡ true → is_record (key i, value i) ≡ true
+    readable : (i : Item) → is_item i ≡ true → is_record (item_key i, value i) ≡ true
     readable i ok = ap is_some (item_codec.again i ok)
 
-    passed : (e : Entry) (es : List Entry) → is_record e ≡ true → find (λ x. not (is_record x)) (e ∷ es) ≡ find (λ x. not (is_record x)) es
+    passed : (e : DirectoryRecord) (es : List DirectoryRecord) → is_record e ≡ true → find (λ x. not (is_record x)) (e ∷ es) ≡ find (λ x. not (is_record x)) es
     passed e es ok = ap (λ (b : Bool). cond (not b) (Some e) (find (λ x. not (is_record x)) es)) ok
 
     all_readable : first_unreadable first ≡ None
-    all_readable = ap (option_map (λ (e : Entry). e.0))
-        (passed (key disk, value disk) ((key first_templates, value first_templates) ∷ (key first_settings, value first_settings) ∷ []) (readable disk (disk_ok plan is))
-        ∙ (passed (key first_templates, value first_templates) ((key first_settings, value first_settings) ∷ []) (readable first_templates templates_ok)
-        ∙ passed (key first_settings, value first_settings) [] (readable first_settings settings_ok)))
+    all_readable = ap (option_map (λ (e : DirectoryRecord). e.0))
+        (passed (item_key disk, value disk) ((item_key first_templates, value first_templates) ∷ (item_key first_settings, value first_settings) ∷ []) (readable disk (disk_ok plan is))
+        ∙ (passed (item_key first_templates, value first_templates) ((item_key first_settings, value first_settings) ∷ []) (readable first_templates templates_ok)
+        ∙ passed (item_key first_settings, value first_settings) [] (readable first_settings settings_ok)))
 
     has_records : HasRecords first tables
     has_records = record { all = all_readable; files = refl; extents = refl; nodes = refl; templates = refl; stale = refl; operations = refl; disks = refl }
@@ -149,17 +149,17 @@ module _ (plan : Plan) where
     is_catalog = record { records = has_records; rules = rules; infos = refl; regular = refl; units = units }
 
     -- so none is at fault
-    no_fault : (content : List Entry) (entries : List status.Entry) (shape : Shape) (k : Key) → content ≡ first → entries ≡ (record_of_plan plan).entries → shape ≡ usual_shape
+    no_fault : (content : List DirectoryRecord) (entries : List status.Entry) (shape : Shape) (k : Key) → content ≡ first → entries ≡ (record_of_plan plan).entries → shape ≡ usual_shape
         → IsAtFault content shape entries k → ⊥
     no_fault content entries shape k is_first are usual fault =
         fault_refuses first (record_of_plan plan).entries catalog k
         (subst (λ (s : Shape). IsAtFault first s (record_of_plan plan).entries k) usual
         (subst (λ (es : List status.Entry). IsAtFault first shape es k) are
-        (subst (λ (c : List Entry). IsAtFault c shape entries k) is_first fault))) is_catalog
+        (subst (λ (c : List DirectoryRecord). IsAtFault c shape entries k) is_first fault))) is_catalog
 
-    pub no_damage : (table : PageTable) (content : List Entry) (entries : List status.Entry) (shape : Shape) (e : CatalogError) (k : Key) → AreFirst first [] table → content ≡ table.records
+    pub no_damage : (table : PageTable) (content : List DirectoryRecord) (entries : List status.Entry) (shape : Shape) (e : CatalogError) (k : Key) → AreFirst first [] table → content ≡ table.records
         → IsStrictlySortedBy key_cmp (keys_of content) → entries ≡ (record_of_plan plan).entries → shape ≡ usual_shape → e ≡ answer.Damaged k → NamesFault (IsAtFault content shape entries) e → ⊥
     no_damage table content entries shape e k are_first same sorted are usual damaged fault =
         no_fault content entries shape k
-        (same ∙ content_is table are_first (subst (λ (l : List Entry). IsStrictlySortedBy key_cmp (keys_of l)) same sorted)) are usual
+        (same ∙ content_is table are_first (subst (λ (l : List DirectoryRecord). IsStrictlySortedBy key_cmp (keys_of l)) same sorted)) are usual
         (subst (NamesFault (IsAtFault content shape entries)) damaged fault)

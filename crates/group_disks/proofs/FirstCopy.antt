@@ -12,7 +12,7 @@ use Rattle.asm_formats.specs.Regions.{region_end}
 use Rattle.asm_formats.specs.Pages.{home_page}
 use Rattle.change_directory.specs.declared.copy.DirCopy.{DirCopy}
 use Rattle.change_directory.specs.Places.{IsCopy}
-use Rattle.change_directory.specs.Changes.{disk, content_in}
+use Rattle.change_directory.specs.Changes.{copy_disk_bytes, content_in}
 use Rattle.change_directory.specs.Formatting.{AreShut}
 use Rattle.change_directory.specs.StoreLaws.{IsShaped, HasRegion, IsUnopened}
 use Rattle.change_directory.proofs.Copies as copies
@@ -33,8 +33,8 @@ sized_now {s} {copy} sound is = record { now = λ x left. go x left (s.attached 
     go x left None at inside some = absurd (true≢false (sym some))
 
 -- a shut copy has no content, decodes, and stands at home
-pub shut_is : (copy : DirCopy) (x : Image) → IsShaped copy → HasRegion copy x → AreShut copy x → IsUnopened copy (home_page (disk copy x)) x
-shut_is copy x shape sized shut = copies.unopened copy shape x sized shut (home_page (disk copy x)) (λ p lt. refl)
+pub shut_is : (copy : DirCopy) (x : Image) → IsShaped copy → HasRegion copy x → AreShut copy x → IsUnopened copy (home_page (copy_disk_bytes copy x)) x
+shut_is copy x shape sized shut = copies.unopened copy shape x sized shut (home_page (copy_disk_bytes copy x)) (λ p lt. refl)
 
 pub none_now : (copy : DirCopy) (shape : IsShaped copy) {a : BayState} → NowOnly a (HasRegion copy) → NowOnly a (AreShut copy) → NowOnly a (λ x. content_in copy x ≡ None)
 none_now copy shape {a} sized shut = record { now = λ x left. (shut_is copy x shape (sized.now x left) (shut.now x left)).none }

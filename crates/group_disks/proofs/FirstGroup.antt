@@ -23,8 +23,8 @@ use Rattle.asm_formats.specs.Content.{Content}
 use Rattle.asm_images.specs.Tables.{node_of, templates_of, settings_of, info_of}
 use Rattle.asm_formats.specs.Nodes.{entry_of_node}
 use Rattle.asm_images.specs.Tree.{node_at_path}
-use Rattle.asm_images.specs.Members.{Image, Member, within, statuses, all_members}
-use Rattle.asm_images.specs.Register.{Fits, HoldsOne, greatest, is_enough, status, status_by}
+use Rattle.asm_images.specs.Members.{ImageBytes, Member, within, statuses, all_members}
+use Rattle.asm_images.specs.Register.{Fits, HoldsOne, greatest, is_enough, status, status_if_enough}
 use Rattle.asm_images.specs.Directories.{newest, directories, copies}
 use Rattle.asm_images.specs.Stands.{Describes, IsDiskOf, Standing}
 use Rattle.asm_images.specs.Describing.{DescribesGroup, SameFile}
@@ -179,7 +179,7 @@ module _ (slot size : ℕ) (plan : Plan) where
       units = λ e found birth. subst (λ (x : Entry). x.units ≤ min (size / 1048576) most_units) (same_Some (entry_of_plan plan) e found) enough_units;
     })
 
-    describes_all : (image : Image) → Describes image (only ∷ []) (only ∷ []) first (content_of_plan plan) group
+    describes_all : (image : ImageBytes) → Describes image (only ∷ []) (only ∷ []) first (content_of_plan plan) group
     describes_all image = record {
       distinct = fits.distinct;
       disks = disk_is;
@@ -197,7 +197,7 @@ module _ (slot size : ℕ) (plan : Plan) where
     unfolding copies entry_of elements has_bit
     nothing_readable = refl
 
-    cover : (image : Image) → IsCovered plan.id image (only ∷ []) (group ∷ []) first
+    cover : (image : ImageBytes) → IsCovered plan.id image (only ∷ []) (group ∷ []) first
     cover image = record {
       one_content = λ m n c d hm hn named_m named_n is_c is_d e.
           let content : (x : Member) (k : Content) → IsAmong (only ∷ []) x → x.disk.content ≡ Some k → k ≡ content_of_plan plan =
@@ -217,7 +217,7 @@ module _ (slot size : ℕ) (plan : Plan) where
     }
 
     -- the disk is the only member
-    pub only_is_sound : (image : Image) → all_members plan.id image ≡ only ∷ [] → SoundBy plan.id image (group ∷ []) (Some first) []
+    pub only_is_sound : (image : ImageBytes) → all_members plan.id image ≡ only ∷ [] → SoundBy plan.id image (group ∷ []) (Some first) []
     only_is_sound image same = record {
       fits = subst (λ (l : List Member). Fits plan.id l (Some first) []) (sym same) fits;
       covered = λ r counts not_gone. ⊎_elim
@@ -226,7 +226,7 @@ module _ (slot size : ℕ) (plan : Plan) where
           (λ none. absurd none) counts;
     }
 
-    none_cover : (image : Image) → IsCovered plan.id image [] (group ∷ []) first
+    none_cover : (image : ImageBytes) → IsCovered plan.id image [] (group ∷ []) first
     unfolding within
     none_cover image = record {
       one_content = λ m n c d hm. absurd hm;
@@ -236,7 +236,7 @@ module _ (slot size : ℕ) (plan : Plan) where
     }
 
     -- the disk is not among those that are looked at
-    pub none_is_sound : (image : Image) → all_members plan.id image ≡ [] → SoundBy plan.id image (group ∷ []) (Some first) []
+    pub none_is_sound : (image : ImageBytes) → all_members plan.id image ≡ [] → SoundBy plan.id image (group ∷ []) (Some first) []
     none_is_sound image same = record {
       fits = subst (λ (l : List Member). Fits plan.id l (Some first) []) (sym same) none_fits;
       covered = λ r counts not_gone. ⊎_elim
@@ -245,15 +245,15 @@ module _ (slot size : ℕ) (plan : Plan) where
           (λ none. absurd none) counts;
     }
 
-    by_one : status_by (only ∷ []) (greatest (first ∷ [])) ≡ Some first
+    by_one : status_if_enough (only ∷ []) (greatest (first ∷ [])) ≡ Some first
     unfolding is_enough sets_of disks_of entry_of elements has_bit
     by_one = refl
 
     status_is : status plan.id (only ∷ []) ≡ Some first
     unfolding status
-    status_is = ap (λ (l : List Status). status_by (only ∷ []) (greatest l)) status_there ∙ by_one
+    status_is = ap (λ (l : List Status). status_if_enough (only ∷ []) (greatest l)) status_there ∙ by_one
 
-    pub only_is_standing : (image : Image) (slots : ℕ → Bool) → all_members plan.id image ≡ only ∷ [] → slots slot ≡ true → Standing plan.id image slots
+    pub only_is_standing : (image : ImageBytes) (slots : ℕ → Bool) → all_members plan.id image ≡ only ∷ [] → slots slot ≡ true → Standing plan.id image slots
     unfolding within
     only_is_standing image slots members has =
         let same : within slots (all_members plan.id image) ≡ only ∷ [] =

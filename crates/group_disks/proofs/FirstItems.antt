@@ -4,7 +4,7 @@ use Rattle.std.proofs.lemmas.Bool.{cond_both}
 use Rattle.std.proofs.lemmas.Option.{none-some, same_Some}
 use Rattle.asm_base.specs.Records.{is_key, record_at}
 use Rattle.asm_formats.specs.Among.{IsAmong}
-use Rattle.asm_formats.specs.Items.{Item, Key, key}
+use Rattle.asm_formats.specs.Items.{Item, Key, item_key}
 use Rattle.asm_formats.specs.Values.{value}
 use Rattle.group_mount.specs.catalog_tables.Items.{AreItemsOf}
 use Rattle.page_map.specs.Contents.{IsItemOf}
@@ -28,22 +28,22 @@ module _ (plan : Plan) (is : IsGroupPlan plan) (table : PageTable) (first : AreF
       let a : Item = disk_of_plan plan in
       let b : Item = first_templates in
       let d : Item = first_settings in
-      cond_both (is_key (key d) k) (Some (value d)) (cond (is_key (key b) k) (Some (value b)) (cond (is_key (key a) k) (Some (value a)) None))
+      cond_both (is_key (item_key d) k) (Some (value d)) (cond (is_key (item_key b) k) (Some (value b)) (cond (is_key (item_key a) k) (Some (value a)) None))
       (λ (o : Option (List ℕ)). o ≡ Some v → IsOneOf k v)
-      (λ yes e. (d, inr (inr (inl refl)), record { is = settings_ok; key = same_key (key d) k yes; value = same_Some (value d) v e }))
-      (λ no. cond_both (is_key (key b) k) (Some (value b)) (cond (is_key (key a) k) (Some (value a)) None) (λ (o : Option (List ℕ)). o ≡ Some v → IsOneOf k v)
-      (λ yes e. (b, inr (inl refl), record { is = templates_ok; key = same_key (key b) k yes; value = same_Some (value b) v e }))
-      (λ other. cond_both (is_key (key a) k) (Some (value a)) None (λ (o : Option (List ℕ)). o ≡ Some v → IsOneOf k v)
-      (λ yes e. (a, inl refl, record { is = disk_ok plan is; key = same_key (key a) k yes; value = same_Some (value a) v e }))
+      (λ yes e. (d, inr (inr (inl refl)), record { is = settings_ok; key = same_key (item_key d) k yes; value = same_Some (value d) v e }))
+      (λ no. cond_both (is_key (item_key b) k) (Some (value b)) (cond (is_key (item_key a) k) (Some (value a)) None) (λ (o : Option (List ℕ)). o ≡ Some v → IsOneOf k v)
+      (λ yes e. (b, inr (inl refl), record { is = templates_ok; key = same_key (item_key b) k yes; value = same_Some (value b) v e }))
+      (λ other. cond_both (is_key (item_key a) k) (Some (value a)) None (λ (o : Option (List ℕ)). o ≡ Some v → IsOneOf k v)
+      (λ yes e. (a, inl refl, record { is = disk_ok plan is; key = same_key (item_key a) k yes; value = same_Some (value a) v e }))
       (λ last e. absurd (none-some v e))))
       (sym (first k) ∙ at)
 
-  to_record : (i : Item) → IsAmong (items_of_plan plan) i → record_at table.records (key i) ≡ Some (value i)
-  to_record i among = ⊎_elim (λ same. back same (first (key (disk_of_plan plan))))
-      (⊎_elim (λ same. back same (first (key first_templates))) (⊎_elim (λ same. back same (first (key first_settings))) (λ none. absurd none))) among
+  to_record : (i : Item) → IsAmong (items_of_plan plan) i → record_at table.records (item_key i) ≡ Some (value i)
+  to_record i among = ⊎_elim (λ same. back same (first (item_key (disk_of_plan plan))))
+      (⊎_elim (λ same. back same (first (item_key first_templates))) (⊎_elim (λ same. back same (first (item_key first_settings))) (λ none. absurd none))) among
     where
-      back : {x : Item} → i ≡ x → record_at table.records (key x) ≡ Some (value x) → record_at table.records (key i) ≡ Some (value i)
-      back same at = subst (λ (y : Item). record_at table.records (key y) ≡ Some (value y)) (sym same) at
+      back : {x : Item} → i ≡ x → record_at table.records (item_key x) ≡ Some (value x) → record_at table.records (item_key i) ≡ Some (value i)
+      back same at = subst (λ (y : Item). record_at table.records (item_key y) ≡ Some (value y)) (sym same) at
 
   -- tables of these records have these items
   pub first_items : (t : Tables) → AreTables t → HasRecords table.records t → (items : List Item) → AreItemsOf t items → items ≡ items_of_plan plan

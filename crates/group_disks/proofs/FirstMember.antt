@@ -10,7 +10,7 @@ use Rattle.asm_formats.specs.Header.{Header}
 use Rattle.asm_formats.specs.Status.{Status}
 use Rattle.asm_formats.specs.Metadata.{Metadata, metadata}
 use Rattle.asm_formats.specs.Among.{IsAmong}
-use Rattle.asm_images.specs.Members.{Image, Member, with_member, members_from, members, metadata_of, all_members, within, of_group, statuses}
+use Rattle.asm_images.specs.Members.{ImageBytes, Member, with_member, members_from, members, metadata_of, all_members, within, of_group, statuses}
 use Rattle.asm_images.specs.Bridge.{disk_bytes, disks_in, ChangesSlot}
 use Rattle.asm_images.specs.Sound.{Sound}
 use Rattle.asm_images.specs.Stands.{Standing}
@@ -57,7 +57,7 @@ one_from id slot (suc k) n (disk ∷ disks) e h is lt there group other =
 -- ---- before the record stands
 
 -- where the members are one disk at most, and none holds a record, any groups may stand
-no_record_is_sound : (id : ℕ) (image : Image) (groups : List Group) → ((m n : Member) → IsAmong (all_members id image) m → IsAmong (all_members id image) n → m.slot ≡ n.slot)
+no_record_is_sound : (id : ℕ) (image : ImageBytes) (groups : List Group) → ((m n : Member) → IsAmong (all_members id image) m → IsAmong (all_members id image) n → m.slot ≡ n.slot)
     → ((r : Status) → IsAmong (statuses id (all_members id image)) r → ⊥) → Sound id image groups
 no_record_is_sound id image groups one none = record {
   completed = None;
@@ -110,7 +110,7 @@ module _ (slot : ℕ) (plan : Plan) (old new : bay.Image) (changes : ChangesSlot
   pub only_member : (slots : ℕ) → slot < slots → all_members plan.id (disks_in slots new) ≡ the_only ∷ []
   unfolding members metadata
   only_member slots lt =
-      let image : Image = disks_in slots new in
+      let image : ImageBytes = disks_in slots new in
       let here : get_or (metadata_of image) slot (metadata []) ≡ metadata_of_plan plan (new.size slot) =
       get_or-map metadata image slot [] (metadata []) (omega (arith, lt, count slots new)) ∙ ap metadata (disks_are_listed slots slot new lt).1 ∙ all in
       let other : (j : ℕ) → j < length (metadata_of image) → j ≢ slot → (x : Header) → (get_or (metadata_of image) j (metadata [])).header ≡ Some x → x.id ≢ plan.id =
@@ -130,7 +130,7 @@ module _ (slot : ℕ) (plan : Plan) (old new : bay.Image) (changes : ChangesSlot
   has_member : (s : ℕ) → IsMemberIn plan.id new s → (m : Member) × (m.slot ≡ s) × IsAmong (all_members plan.id (disks_in (suc s) new)) m
   unfolding members metadata
   has_member s (h, found, named) =
-      let image : Image = disks_in (suc s) new in
+      let image : ImageBytes = disks_in (suc s) new in
       let lt : s < suc s = omega arith in
       let here : (get_or (metadata_of image) s (metadata [])).header ≡ Some h =
       ap (λ (d : Metadata). d.header) (get_or-map metadata image s [] (metadata []) (omega (arith, lt, count (suc s) new)) ∙ ap metadata (disks_are_listed (suc s) s new lt).1) ∙ found in (
@@ -153,7 +153,7 @@ module _ (slot : ℕ) (plan : Plan) (old new : bay.Image) (changes : ChangesSlot
     pub recorded_allows : Allows plan.id (made_group plan.name ∷ []) new
     recorded_allows = λ slots. ⊎_elim
         (λ (lt : slot < slots). sound slots lt)
-        (λ (le : slots ≤ slot). subst (λ (image : Image). Sound plan.id image (made_group plan.name ∷ [])) (sym (beyond_is_unseen slots slot old new le changes)) (before slots))
+        (λ (le : slots ≤ slot). subst (λ (image : ImageBytes). Sound plan.id image (made_group plan.name ∷ [])) (sym (beyond_is_unseen slots slot old new le changes)) (before slots))
         (cases_lt slot slots)
       where
         sound : (slots : ℕ) → slot < slots → Sound plan.id (disks_in slots new) (made_group plan.name ∷ [])

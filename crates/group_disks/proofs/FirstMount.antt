@@ -24,7 +24,7 @@ use Rattle.status_register.specs.Keeping as registers
 use Rattle.status_register.specs.Places.{HasSlots}
 use Rattle.status_register.specs.Reaching.{Reaches}
 use Rattle.status_register.specs.Registered.{AreNumbered, Registered, all_placed}
-use Rattle.status_register.specs.Rows.{AreApart}
+use Rattle.status_register.specs.Rows.{HaveOwnSlots}
 use Rattle.status_register.specs.Surveys.{missing, seen_of}
 use Rattle.status_register.specs.Tallies.{HaveSlots}
 use Rattle.status_register.specs.Writes.{first_register}
@@ -56,7 +56,7 @@ module _ (slot : ℕ) where
 
   -- ---- the conditions of the register
 
-  pub first_apart : AreApart (first_member slot ∷ [])
+  pub first_apart : HaveOwnSlots (first_member slot ∷ [])
   first_apart i j d low too same = omega (arith, low, too)
 
   pub first_numbered : AreNumbered (first_member slot ∷ [])
@@ -165,7 +165,7 @@ module _ (slot : ℕ) where
             subst (λ (l : List (Option Attached)). IsWhole (made name cat store r l)) (sym are)
             (subst (λ (q : Registered). IsWhole (made name cat store q disks)) (sym same) (whole_at (subst (λ (q : Registered). Reaches q.members q.value) same reached)))
 
-        pub first_mounted : (m : MountedGroup) → m ≡ made name cat store r ds → name ≡ plan.name → state.attached slot ≡ Some size → registers.IsReady r state → registers.KeepsStanding r state → IsMountedOnSlot slot plan m state
+        pub first_mounted : (m : MountedGroup) → m ≡ made name cat store r ds → name ≡ plan.name → state.attached slot ≡ Some size → registers.IsRegisterReady r state → registers.KeepsStanding r state → IsMountedOnSlot slot plan m state
         first_mounted m is_made named attached ready history =
             let same : r ≡ register = is_first ∙ register_is in
             let all : m ≡ made name cat store register disks = is_made ∙ (λ i. made name cat store (same i) (are i)) in
@@ -179,7 +179,7 @@ module _ (slot : ℕ) where
               own = own_at;
               has = (0, first_member slot, refl, refl);
               whole = whole_at (subst (λ (q : Registered). Reaches q.members q.value) same reached);
-              ready = record { store = first.keeps; register = subst (λ (q : Registered). registers.IsReady q state) same ready; sizes = sizes attached };
+              ready = record { store = first.keeps; register = subst (λ (q : Registered). registers.IsRegisterReady q state) same ready; sizes = sizes attached };
               register = refl;
               copies = first.copies;
               items = first_items plan is store.table first.records cat.tables catalog.rules.tables catalog.records;

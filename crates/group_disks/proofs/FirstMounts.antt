@@ -23,7 +23,7 @@ use Rattle.status_register.specs.SurveyLaws.{IsMemberOn}
 use Rattle.status_register.specs.Surveys.{disk_in}
 use Rattle.status_register.specs.declared.member.Member.{Member}
 use Rattle.group_disks.specs.Creating.{Founds, HasMember, made_group}
-use Rattle.group_disks.specs.FirstParts.{IsAlone, IsMountedOnSlot, MountsNew, SaysAll, first_member, first_register}
+use Rattle.group_disks.specs.FirstParts.{IsAlone, IsMountedOnSlot, MountsNew, SaysAll, first_member, new_group_register}
 use Rattle.group_disks.specs.Planned.{Plan, IsGroupPlan, claim_of_plan, header_of_plan, kept_of_plan, record_of_plan}
 use Rattle.group_disks.specs.Stages.{HasFormed}
 use Rattle.group_disks.proofs.FirstDisk.{all_there}
@@ -84,7 +84,7 @@ module _ (slot n : ℕ) (plan : Plan) (m : MountedGroup) (state : BayState) (ins
       enough = first_enough slot plan;
     }
 
-    history : HasHistory n (first_register slot plan) (Some (record_of_plan plan)) [] image
+    history : HasHistory n (new_group_register slot plan) (Some (record_of_plan plan)) [] image
     history = record {
       fits = (held.sound n).fits;
       members = λ i x at. subst (λ (y : Member). IsMemberOn n plan.id image y) (sym (place_at slot i x at).1) member;
@@ -94,7 +94,7 @@ module _ (slot n : ℕ) (plan : Plan) (m : MountedGroup) (state : BayState) (ins
   -- ---- of all images
 
   module _ (held : NowOnly state (IsHeld n plan.id (made_group plan.name ∷ []) kept)) (says : NowOnly state (SaysAll slot plan)) where
-    keeps : registers.Keeps n m.register (Some m.register.value) [] state
+    keeps : registers.FitsRegister n m.register (Some m.register.value) [] state
     keeps = mounted.history n (subst (λ (q : Registered). NowOnly state (HasHistory n q (Some q.value) [])) (sym mounted.register)
         (record { now = λ image left. history image (held.now image left) (says.now image left) }))
 

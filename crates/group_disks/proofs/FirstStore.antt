@@ -9,10 +9,10 @@ use Rattle.bay.specs.Counts.{Rose}
 use Rattle.bay.specs.Moments.{Runs, NowOnly, LeavesOnly}
 use Rattle.bay.proofs.Calls.{on_more, widened, leaves_less}
 use Rattle.bay.proofs.Images.{changes-within}
-use Rattle.asm_base.specs.Records.{Entry, is_key, record_at}
+use Rattle.asm_base.specs.Records.{DirectoryRecord, is_key, record_at}
 use Rattle.asm_formats.specs.Among.{IsAmong}
 use Rattle.asm_formats.specs.Status.{ascends_from}
-use Rattle.asm_formats.specs.Items.{Item, Key, key, key_rank, is_item}
+use Rattle.asm_formats.specs.Items.{Item, Key, item_key, key_rank, is_item}
 use Rattle.asm_formats.specs.Values.{value}
 use Rattle.asm_formats.specs.Records.{Frame, frame_of, frame_spelling, decoded_record}
 use Rattle.asm_formats.proofs.RecordReading.{record_again}
@@ -40,27 +40,27 @@ use Rattle.group_disks.specs.Stages.{first_copy, HasFirst, HasNoneOrFirst}
 use Rattle.group_disks.proofs.FirstBodies.{disk_ok, templates_ok, settings_ok}
 
 abbrev rank : Item → ℕ
-rank i = key_rank (key i)
+rank i = key_rank (item_key i)
 
-above : (xs : List Item) (least : ℕ) → ascends_from least (map (λ (i : Item). key_rank (key i)) xs) ≡ true → (i : Item) → IsAmong xs i → least ≤ rank i
+above : (xs : List Item) (least : ℕ) → ascends_from least (map (λ (i : Item). key_rank (item_key i)) xs) ≡ true → (i : Item) → IsAmong xs i → least ≤ rank i
 above [] least ok i h = absurd h
-above (x ∷ xs) least ok i (inl e) = omega (arith, ap rank e, leb-true least (rank x) (and_parts (nat_le least (rank x)) (ascends_from (rank x + 1) (map (λ (i : Item). key_rank (key i)) xs)) ok).0)
+above (x ∷ xs) least ok i (inl e) = omega (arith, ap rank e, leb-true least (rank x) (and_parts (nat_le least (rank x)) (ascends_from (rank x + 1) (map (λ (i : Item). key_rank (item_key i)) xs)) ok).0)
 above (x ∷ xs) least ok i (inr h) =
-    let p = and_parts (nat_le least (rank x)) (ascends_from (rank x + 1) (map (λ (i : Item). key_rank (key i)) xs)) ok in
+    let p = and_parts (nat_le least (rank x)) (ascends_from (rank x + 1) (map (λ (i : Item). key_rank (item_key i)) xs)) ok in
     omega (arith, above xs (rank x + 1) p.1 i h, leb-true least (rank x) p.0)
 
 -- items in order of one key are one
-one_of : (xs : List Item) (least : ℕ) → ascends_from least (map (λ (i : Item). key_rank (key i)) xs) ≡ true → (i j : Item) → IsAmong xs i → IsAmong xs j → rank i ≡ rank j → i ≡ j
+one_of : (xs : List Item) (least : ℕ) → ascends_from least (map (λ (i : Item). key_rank (item_key i)) xs) ≡ true → (i j : Item) → IsAmong xs i → IsAmong xs j → rank i ≡ rank j → i ≡ j
 one_of [] least ok i j a b same = absurd a
 one_of (x ∷ xs) least ok i j a b same =
-    let rest = (and_parts (nat_le least (rank x)) (ascends_from (rank x + 1) (map (λ (i : Item). key_rank (key i)) xs)) ok).1 in
+    let rest = (and_parts (nat_le least (rank x)) (ascends_from (rank x + 1) (map (λ (i : Item). key_rank (item_key i)) xs)) ok).1 in
     ⊎_elim
     (λ (here : i ≡ x). ⊎_elim (λ (there : j ≡ x). here ∙ sym there) (λ (behind : IsAmong xs j). absurd (omega (arith, above xs (rank x + 1) rest j behind, ap rank here, same))) b)
     (λ (mine : IsAmong xs i). ⊎_elim (λ (there : j ≡ x). absurd (omega (arith, above xs (rank x + 1) rest i mine, ap rank there, same))) (λ (behind : IsAmong xs j). one_of xs (rank x + 1) rest i j mine behind same) b)
     a
 
 -- items of one key and one value are one
-same_item : (i j : Item) → is_item i ≡ true → is_item j ≡ true → key i ≡ key j → value i ≡ value j → i ≡ j
+same_item : (i j : Item) → is_item i ≡ true → is_item j ≡ true → item_key i ≡ item_key j → value i ≡ value j → i ≡ j
 same_item i j ok_i ok_j same_keys same_values =
     same_Some i j (sym (record_again i ok_i) ∙ ap (λ (f : Frame). decoded_record (frame_spelling f)) frames ∙ record_again j ok_j)
   where
@@ -73,41 +73,41 @@ module _ (plan : Plan) (is : IsGroupPlan plan) where
   put_items e among = ⊎_elim (of (disk_of_plan plan) (disk_ok plan is) e)
       (⊎_elim (of first_templates templates_ok e) (⊎_elim (of first_settings settings_ok e) (λ none. absurd none))) among
     where
-      of : (i : Item) → is_item i ≡ true → (e : Entry) → e ≡ (key i, value i) → (j : Item) × IsItemOf e.0 e.1 j
-      of i ok e same = (i, record { is = ok; key = sym (ap (λ (x : Entry). x.0) same); value = sym (ap (λ (x : Entry). x.1) same) })
+      of : (i : Item) → is_item i ≡ true → (e : DirectoryRecord) → e ≡ (item_key i, value i) → (j : Item) × IsItemOf e.0 e.1 j
+      of i ok e same = (i, record { is = ok; key = sym (ap (λ (x : DirectoryRecord). x.0) same); value = sym (ap (λ (x : DirectoryRecord). x.1) same) })
 
   module _ (table : PageTable) (first : AreFirst (first_entries plan) [] table) (items : List Item) (are : AreRecords table items) where
     item_ok : (i : Item) → IsAmong items i → is_item i ≡ true
     item_ok i among =
-        let j = are.from_record (key i) (value i) (are.to_record i among) in
+        let j = are.from_record (item_key i) (value i) (are.to_record i among) in
         subst (λ (x : Item). is_item x ≡ true) (one_of items 0 are.in_order j.0 i j.1 among (ap key_rank j.2.key)) j.2.is
 
     to_plan : (i : Item) → IsAmong items i → IsAmong (items_of_plan plan) i
     to_plan i among =
-        let k : Key = key i in
+        let k : Key = item_key i in
         let ok = item_ok i among in
         let a : Item = disk_of_plan plan in
         let b : Item = first_templates in
         let d : Item = first_settings in
-        cond_both (is_key (key d) k) (Some (value d)) (cond (is_key (key b) k) (Some (value b)) (cond (is_key (key a) k) (Some (value a)) None))
+        cond_both (is_key (item_key d) k) (Some (value d)) (cond (is_key (item_key b) k) (Some (value b)) (cond (is_key (item_key a) k) (Some (value a)) None))
         (λ (o : Option (List ℕ)). o ≡ Some (value i) → IsAmong (items_of_plan plan) i)
-        (λ yes e. inr (inr (inl (same_item i d ok settings_ok (sym (same_key (key d) k yes)) (sym (same_Some (value d) (value i) e))))))
-        (λ no. cond_both (is_key (key b) k) (Some (value b)) (cond (is_key (key a) k) (Some (value a)) None) (λ (o : Option (List ℕ)). o ≡ Some (value i) → IsAmong (items_of_plan plan) i)
-        (λ yes e. inr (inl (same_item i b ok templates_ok (sym (same_key (key b) k yes)) (sym (same_Some (value b) (value i) e)))))
-        (λ other. cond_both (is_key (key a) k) (Some (value a)) None (λ (o : Option (List ℕ)). o ≡ Some (value i) → IsAmong (items_of_plan plan) i)
-        (λ yes e. inl (same_item i a ok (disk_ok plan is) (sym (same_key (key a) k yes)) (sym (same_Some (value a) (value i) e))))
+        (λ yes e. inr (inr (inl (same_item i d ok settings_ok (sym (same_key (item_key d) k yes)) (sym (same_Some (value d) (value i) e))))))
+        (λ no. cond_both (is_key (item_key b) k) (Some (value b)) (cond (is_key (item_key a) k) (Some (value a)) None) (λ (o : Option (List ℕ)). o ≡ Some (value i) → IsAmong (items_of_plan plan) i)
+        (λ yes e. inr (inl (same_item i b ok templates_ok (sym (same_key (item_key b) k yes)) (sym (same_Some (value b) (value i) e)))))
+        (λ other. cond_both (is_key (item_key a) k) (Some (value a)) None (λ (o : Option (List ℕ)). o ≡ Some (value i) → IsAmong (items_of_plan plan) i)
+        (λ yes e. inl (same_item i a ok (disk_ok plan is) (sym (same_key (item_key a) k yes)) (sym (same_Some (value a) (value i) e))))
         (λ last e. absurd (none-some (value i) e))))
         (sym (first k) ∙ are.to_record i among)
 
-    there : (x : Item) → is_item x ≡ true → record_at table.records (key x) ≡ Some (value x) → IsAmong items x
+    there : (x : Item) → is_item x ≡ true → record_at table.records (item_key x) ≡ Some (value x) → IsAmong items x
     there x ok at =
-        let j = are.from_record (key x) (value x) at in
+        let j = are.from_record (item_key x) (value x) at in
         subst (λ (y : Item). IsAmong items y) (same_item j.0 x j.2.is ok j.2.key j.2.value) j.1
 
     from_plan : (i : Item) → IsAmong (items_of_plan plan) i → IsAmong items i
-    from_plan i among = ⊎_elim (λ same. back same (there (disk_of_plan plan) (disk_ok plan is) (first (key (disk_of_plan plan)))))
-        (⊎_elim (λ same. back same (there first_templates templates_ok (first (key first_templates))))
-        (⊎_elim (λ same. back same (there first_settings settings_ok (first (key first_settings)))) (λ none. absurd none))) among
+    from_plan i among = ⊎_elim (λ same. back same (there (disk_of_plan plan) (disk_ok plan is) (first (item_key (disk_of_plan plan)))))
+        (⊎_elim (λ same. back same (there first_templates templates_ok (first (item_key first_templates))))
+        (⊎_elim (λ same. back same (there first_settings settings_ok (first (item_key first_settings)))) (λ none. absurd none))) among
       where
         back : {x : Item} → i ≡ x → IsAmong items x → IsAmong items i
         back {x} same h = subst (λ (y : Item). IsAmong items y) (sym same) h
@@ -135,7 +135,7 @@ one_at_most : (b : Bool) → one_if b ≤ 1
 one_at_most true = omega arith
 one_at_most false = omega arith
 
-few_new : (table : PageTable) (put : List Entry) → new_in table put ≤ length put
+few_new : (table : PageTable) (put : List DirectoryRecord) → new_in table put ≤ length put
 few_new table [] = omega arith
 few_new table (p ∷ ps) = omega (arith, few_new table ps, one_at_most (is_new table p.0 && not (is_put ps p.0)))
 
@@ -174,13 +174,13 @@ module _ (slot : ℕ) where
   only_failed : (s t : BayState) (k : ℕ) → IsFailedSlot only s t k → Rose (s.faults slot) (t.faults slot)
   only_failed s t k failed = subst (λ (n : ℕ). Rose (s.faults n) (t.faults n)) (failed.0.2 ∙ ap (λ (x : DirCopy). x.slot) (is_only failed.0.0 failed.0.1)) failed.1
 
-  pub gone_cause : (s t : BayState) (put : List Entry) (e : StoreError) (k : ℕ) → e ≡ Gone k → IsFirstRefusal only 1024 put s t e → Rose (s.faults slot) (t.faults slot)
+  pub gone_cause : (s t : BayState) (put : List DirectoryRecord) (e : StoreError) (k : ℕ) → e ≡ Gone k → IsFirstRefusal only 1024 put s t e → Rose (s.faults slot) (t.faults slot)
   gone_cause s t put e k same why = only_failed s t k (subst (λ (x : StoreError). IsFirstRefusal only 1024 put s t x) same why)
 
-  pub never_full : (plan : Plan) (s t : BayState) (put : List Entry) (e : StoreError) (need free : ℕ) → e ≡ Full need free → put ≡ first_entries plan → IsFirstRefusal only 1024 put s t e → ⊥
+  pub never_full : (plan : Plan) (s t : BayState) (put : List DirectoryRecord) (e : StoreError) (need free : ℕ) → e ≡ Full need free → put ≡ first_entries plan → IsFirstRefusal only 1024 put s t e → ⊥
   never_full plan s t put e need free same first why =
       let full = (subst (λ (x : StoreError). IsFirstRefusal only 1024 put s t x) same why).0 in
-      has_room_for plan full.0 need free full.1 (full.2 ∙ ap (λ (l : List Entry). new_in full.0 l) first) full.3 full.4
+      has_room_for plan full.0 need free full.1 (full.2 ∙ ap (λ (l : List DirectoryRecord). new_in full.0 l) first) full.3 full.4
 
   module _ (plan : Plan) (is : IsGroupPlan plan) where
     pub first_moments : {a b : BayState} → LeavesOnly a b (HaveNoneOrFirst only (first_entries plan) []) → LeavesOnly a b (HasNoneOrFirst slot plan)

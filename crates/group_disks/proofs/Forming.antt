@@ -7,7 +7,7 @@ use Rattle.bay.specs.Image.{Image, ChangesOnly}
 use Rattle.bay.proofs.Images.{window-same}
 use Rattle.gate_slot.specs.Slot.{is_open_in, shown, MayClose}
 use Rattle.gate_slot.proofs.Steps.{shown-closed, shown-shut}
-use Rattle.disk_forming.specs.Places.{slot_at}
+use Rattle.disk_forming.specs.Places.{gated_slot_at}
 use Rattle.disk_forming.specs.Gates.{MayCloseAll}
 use Rattle.disk_forming.specs.Forming.{MetaOf}
 use Rattle.asm_formats.specs.Bytes.{block_size, is_open, block}
@@ -23,7 +23,7 @@ use Rattle.asm_images.proofs.Bridges.{range_change}
 use Rattle.group_disks.specs.Creating.{HasMember, CreatesGroupOn, Founds, made_group}
 use Rattle.group_mount.specs.Mounting.{Allows}
 use Rattle.group_disks.specs.Planned.{Plan, IsGroupPlan, header_of_plan, header_body, kept_of_plan}
-use Rattle.group_disks.specs.Stages.{IsForming, bare, headed, claimed, whole, HasAllParts}
+use Rattle.group_disks.specs.Stages.{IsForming, not_yet_formed, formed_to_header, formed_to_claim, fully_formed, HasAllParts}
 use Rattle.group_disks.specs.CreateLaws.{FormingCreates, FormedIsHeld}
 use Rattle.group_disks.proofs.Outsiders.{no_member_allows}
 use Rattle.group_disks.proofs.Departing.{shut_header, NamesOther, other_sound, other_member, same_sound, same_member}
@@ -90,15 +90,15 @@ module _ (slot : ℕ) (plan : Plan) (old new : Image) (is : IsGroupPlan plan) (l
     room : 26214400 ≤ new.size slot
     room = omega (arith, long, is.least, step.elsewhere.size slot)
 
-    shut_creates : is_open_in (slot_at 0 1 512) slot new ≡ false → CreatesGroupOn slot plan.id (made_group plan.name) old new
+    shut_creates : is_open_in (gated_slot_at 0 1 512) slot new ≡ false → CreatesGroupOn slot plan.id (made_group plan.name) old new
     shut_creates closed = headless_creates gates_change (shut_header now (same_gate slot new 0 (omega (arith, room)) ∙ closed))
 
     -- the header's gate sector was written, and shows what it did
-    module _ (may : MayClose (slot_at 0 1 512) slot old new) (same : shown (slot_at 0 1 512) slot new ≡ shown (slot_at 0 1 512) slot old) (opened : is_open_in (slot_at 0 1 512) slot new ≡ true) where
-      was_open : is_open_in (slot_at 0 1 512) slot old ≡ true
+    module _ (may : MayClose (gated_slot_at 0 1 512) slot old new) (same : shown (gated_slot_at 0 1 512) slot new ≡ shown (gated_slot_at 0 1 512) slot old) (opened : is_open_in (gated_slot_at 0 1 512) slot new ≡ true) where
+      was_open : is_open_in (gated_slot_at 0 1 512) slot old ≡ true
       was_open = ⊎_elim (λ yes. yes)
-          (λ no. absurd (false≢true (sym (shown-shut (slot_at 0 1 512) slot new (same ∙ shown-closed (slot_at 0 1 512) slot old no)) ∙ opened)))
-          (cases_Bool (is_open_in (slot_at 0 1 512) slot old))
+          (λ no. absurd (false≢true (sym (shown-shut (gated_slot_at 0 1 512) slot new (same ∙ shown-closed (gated_slot_at 0 1 512) slot old no)) ∙ opened)))
+          (cases_Bool (is_open_in (gated_slot_at 0 1 512) slot old))
 
       says_the_same : metadata now ≡ metadata (disk_bytes old slot)
       says_the_same =
@@ -124,8 +124,8 @@ module _ (slot : ℕ) (plan : Plan) (old new : Image) (is : IsGroupPlan plan) (l
     closing_creates : CreatesGroupOn slot plan.id (made_group plan.name) old new
     closing_creates = ⊎_elim
         (λ may. ⊎_elim
-        (λ same. ⊎_elim (λ yes. kept_creates may same yes) (λ no. shut_creates no) (cases_Bool (is_open_in (slot_at 0 1 512) slot new)))
-        (λ none. shut_creates (shown-shut (slot_at 0 1 512) slot new none))
+        (λ same. ⊎_elim (λ yes. kept_creates may same yes) (λ no. shut_creates no) (cases_Bool (is_open_in (gated_slot_at 0 1 512) slot new)))
+        (λ none. shut_creates (shown-shut (gated_slot_at 0 1 512) slot new none))
         may.shows)
         (λ closed. shut_creates closed)
         step.order
@@ -143,16 +143,16 @@ module _ (slot : ℕ) (plan : Plan) (old new : Image) (is : IsGroupPlan plan) (l
     units_there = omega (arith, long, elsewhere.size slot)
 
     -- with a header and no record
-    unrecorded_creates : shown (slot_at 0 1 512) slot new ≡ Some (header_body plan) → shown (slot_at 6 1 512) slot new ≡ None → shown (slot_at 8 1 512) slot new ≡ None
+    unrecorded_creates : shown (gated_slot_at 0 1 512) slot new ≡ Some (header_body plan) → shown (gated_slot_at 6 1 512) slot new ≡ None → shown (gated_slot_at 8 1 512) slot new ≡ None
         → CreatesGroupOn slot plan.id (made_group plan.name) old new
     unrecorded_creates header first second = headed_creates parts_change (header_there slot plan is new space header)
         (λ no. unrecorded_allows plan.id slot old new parts_change no (made_group plan.name ∷ []) (no_statuses slot plan is new space first second))
 
     stage_creates : IsForming slot plan new → CreatesGroupOn slot plan.id (made_group plan.name) old new
-    stage_creates (bare shows) = headless_creates parts_change (shut_header now (is_shut slot new 0 (omega (arith, space)) shows.header_slot))
-    stage_creates (headed shows content) = unrecorded_creates shows.header_slot shows.status_slot shows.second_status
-    stage_creates (claimed shows content) = unrecorded_creates shows.header_slot shows.status_slot shows.second_status
-    stage_creates (whole shows content) = headed_creates parts_change (header_there slot plan is new space shows.header_slot)
+    stage_creates (not_yet_formed shows) = headless_creates parts_change (shut_header now (is_shut slot new 0 (omega (arith, space)) shows.header_slot))
+    stage_creates (formed_to_header shows content) = unrecorded_creates shows.header_slot shows.status_slot shows.second_status
+    stage_creates (formed_to_claim shows content) = unrecorded_creates shows.header_slot shows.status_slot shows.second_status
+    stage_creates (fully_formed shows content) = headed_creates parts_change (header_there slot plan is new space shows.header_slot)
         (λ no. recorded_allows slot plan old new parts_change no (all_there slot plan is new space (record { shows = shows; content = content })) is units_there)
 
     whole_founds : HasAllParts slot plan new → (slots : ℕ) → slot < slots → Founds slots plan.id (made_group plan.name) (kept_of_plan slot plan) old new

@@ -6,7 +6,7 @@ use Rattle.std.proofs.lemmas.Option.{none-some, same_Some}
 use Rattle.bay.specs.State.{BayState}
 use Rattle.asm_group.specs.Names.{Bytes, is_same_name}
 use Rattle.asm_formats.specs.Among.{IsAmong}
-use Rattle.group_mount.specs.Founds.{taken, undamaged}
+use Rattle.group_mount.specs.Founds.{id_of_choice, undamaged}
 use Rattle.group_mount.specs.Verdicts.{AreJudged, Chooses, choice_of, ids_named, with_id, with_verdict}
 use Rattle.group_mount.specs.declared.choosing.Choice.{Choice}
 use Rattle.group_mount.specs.declared.choosing.ShortId.{ShortId}
@@ -52,7 +52,7 @@ whole_id id None k is = same_ok id k is
 whole_id id (Some place) k is = absurd cc
 
 -- it is whole
-taken_whole : (whole : Option WholeId) (two : Bool) (short : Option ShortId) (id : ℕ) → taken (record { whole = whole; are_two = two; short = short }) ≡ Ok id → (w : WholeId) × (whole ≡ Some w) × (w.id ≡ id)
+taken_whole : (whole : Option WholeId) (two : Bool) (short : Option ShortId) (id : ℕ) → id_of_choice (record { whole = whole; are_two = two; short = short }) ≡ Ok id → (w : WholeId) × (whole ≡ Some w) × (w.id ≡ id)
 taken_whole whole true short id is = absurd cc
 taken_whole None false short id is = absurd cc
 taken_whole (Some w) false short id is = (w, refl, whole_id w.id w.damage id is)
@@ -67,7 +67,7 @@ whole_among hs [] verdicts unread s t w are is = absurd (none-some w (sym (ap (�
 whole_among hs (id ∷ ids) verdicts unread s t w (verdict, own, others, later, makes, reads, judged, rest) is =
     whole_by id ids verdict (choice_of others) w (λ e. whole_among hs ids others later s t w rest e) (sym (ap (λ (vs : List (ℕ × Verdict)). (choice_of vs).whole) makes) ∙ is)
 
-pub taken_is_named : (name : Bytes) (hs : List Headed) (choice : Choice) (unread : List ℕ) (s t : BayState) (id : ℕ) → Chooses hs (ids_named name hs) choice unread s t → taken choice ≡ Ok id → IsNamedIn id name hs
+pub taken_is_named : (name : Bytes) (hs : List Headed) (choice : Choice) (unread : List ℕ) (s t : BayState) (id : ℕ) → Chooses hs (ids_named name hs) choice unread s t → id_of_choice choice ≡ Ok id → IsNamedIn id name hs
 taken_is_named name hs choice unread s t id (verdicts, are, chooses) is =
     let w = taken_whole choice.whole choice.are_two choice.short id is in
     has_name name hs id (subst (λ (k : ℕ). IsAmong (ids_named name hs) k) w.2

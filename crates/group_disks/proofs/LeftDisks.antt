@@ -25,7 +25,7 @@ use Rattle.change_directory.specs.Changes.{content_in}
 use Rattle.group_mount.specs.directory_store.Copies.{AreCopiesApart}
 use Rattle.group_mount.specs.directory_store.Stores.{Stored}
 use Rattle.group_mount.proofs.directory_store.Storing.{kept_have_records}
-use Rattle.group_engine.specs.CommitSteps.{content_of}
+use Rattle.group_engine.specs.CommitSteps.{content_of_items}
 use Rattle.group_engine.specs.Mounts.{AreOwn, MountedGroup, Mounts, Represents}
 use Rattle.group_engine.proofs.Items.{content_is}
 use Rattle.group_engine.specs.Frames.{SparesOtherIds}
@@ -143,7 +143,7 @@ module _ (q : Quorate) (now : ℕ) (parts : Parts) (t : BayState) (are : ArePart
 
   -- the tables say what the copies have
   has_items : (items : List Item) → AreItemsOf parts.catalog.tables items → (y : Image) → t.leaves t.calls y → (c : DirCopy) → IsAmong parts.store.copies c
-      → content_in c y ≡ Some (content_of parts.store.number items)
+      → content_in c y ≡ Some (content_of_items parts.store.number items)
   has_items items is y left c among =
       content_is parts.store.table parts.store.number parts.catalog.tables items c y are.catalog.catalog.rules.tables
       (records_told parts.store.table.records parts.catalog.tables are.catalog.catalog.rules.tables are.catalog.catalog.records) is
@@ -155,7 +155,7 @@ module _ (q : Quorate) (now : ℕ) (parts : Parts) (t : BayState) (are : ArePart
     described items is =
         let copy = some_copy q.store.copies quorum.some in
         let has = has_items items is y left copy.0 (subst (λ (k : Stored). IsAmong k.copies copy.0) (sym are.store) copy.1) in
-        let d = (one.still g among meant).now y left q.slots copy.0 (content_of parts.store.number items) (omega arith) copy.1 has in
+        let d = (one.still g among meant).now y left q.slots copy.0 (content_of_items parts.store.number items) (omega arith) copy.1 has in
         subst (λ (l : List Item). DescribesGroup parts.register.value l g) (same_Some d.items items (sym d.decodes)) d.describes
 
     represents : Represents m g

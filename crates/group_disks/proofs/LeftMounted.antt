@@ -23,7 +23,7 @@ use Rattle.group_mount.specs.declared.quorum.MountOption.{MountOption}
 use Rattle.group_mount.specs.declared.quorum.Quorate.{Quorate}
 use Rattle.group_mount.specs.declared.recovering.Parts.{Parts}
 use Rattle.group_disks.specs.Clearing.{IsRefusalOf}
-use Rattle.group_disks.specs.Leaving.{ClaimsGroup, IsMountedOn, LeavesClaimed, LeavesMounted, LeavesRefused, MountsOne, before_record, behind_record, claimed, looked}
+use Rattle.group_disks.specs.Leaving.{ClaimsGroup, IsMountedOn, LeavesClaimed, LeavesMounted, LeavesRefused, MountsOne, before_record, behind_record, claimed_group, looked}
 use Rattle.group_disks.specs.Mounting.{free_disks, mounted_of}
 use Rattle.group_disks.proofs.LeftDisks.{claims, parts_on, stood_on}
 use Rattle.group_disks.proofs.Takeovers.{in_left, is_inside, quorate_left}
@@ -98,7 +98,7 @@ module _ (name : Bytes) (n : ℕ) (held : List ℕ) (option : MountOption) (foun
     claim = claims n q s (state later) t looks_two (on_more inside members) (λ groups may. (leaves groups may).moments)
 
     pub not_renewed_leaves : LeavesClaimed state name n held option s t
-    not_renewed_leaves = claimed
+    not_renewed_leaves = claimed_group
         (record { found = found; between = between; is = was; searched = first; quorum = q; later = later; quorate = quorate_left name n held option found f is slots q (state later) quorate }) claim
 
   module _ (q : Quorate) (was : IsFound name n found s (state between)) (quorate : IsQuorate option f q (state later)) (now : ℕ) (parts : Parts) (are : ArePartsOf q now parts t)

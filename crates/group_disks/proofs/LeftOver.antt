@@ -8,7 +8,7 @@ use Rattle.std.proofs.lemmas.Bool.{cases_lt, eq-eqb, eqb-true, ne_eqb, true≢fa
 use Rattle.std.proofs.lemmas.Cmp.{nat_cmp_total}
 use Rattle.std.proofs.lemmas.Option.{none-some}
 use Rattle.bay.specs.State.{BayState}
-use Rattle.asm_base.specs.Records.{Entry}
+use Rattle.asm_base.specs.Records.{DirectoryRecord}
 use Rattle.asm_base.specs.declared.refusal.Refusal.{Refusal}
 use Rattle.asm_formats.specs.Items.{DiskInfo, Key}
 use Rattle.asm_formats.specs.Status as status
@@ -76,7 +76,7 @@ infos_stay entries t d left none = by (info_at t.disks d) refl left where
   by None at lacks = absurd cc
   by (Some info) at lacks = still_known t d info at entries lacks none
 
-pub drop_surplus : (entries : List status.Entry) (c : Catalogued) (put : List Entry) (gone : List Key) (d : ℕ) → is_left_over entries c.tables.disks d ≡ true → IsPlan c put gone (without_record c.tables d)
+pub drop_surplus : (entries : List status.Entry) (c : Catalogued) (put : List DirectoryRecord) (gone : List Key) (d : ℕ) → is_left_over entries c.tables.disks d ≡ true → IsPlan c put gone (without_record c.tables d)
     → IsSurplus entries c put gone (without_record c.tables d)
 drop_surplus entries c put gone d left plan = record {
   plan = plan;
@@ -94,7 +94,7 @@ left_none es t d isnt = rw isnt refl
 pub left_gone : (es : List status.Entry) (t : Tables) (d : ℕ) → is_left_over es t.disks d ≡ true → without_record t d ≡ without_left_over es t d
 left_gone es t d went = rw went refl
 
-pub dropped_if : (r : Result (Unit {0}) Refusal) (t new u : Tables) (put : List Entry) (gone : List Key) (v : Tables) → OnOk r (IsAfter t put gone new) → IsAfter t put gone u → u ≡ v → OnOk r (new ≡ v)
+pub dropped_if : (r : Result (Unit {0}) Refusal) (t new u : Tables) (put : List DirectoryRecord) (gone : List Key) (v : Tables) → OnOk r (IsAfter t put gone new) → IsAfter t put gone u → u ≡ v → OnOk r (new ≡ v)
 dropped_if (Ok done) t new u put gone v applied after is = one_after t new u put gone applied after ∙ is
 dropped_if (Err e) t new u put gone v applied after is = tt
 

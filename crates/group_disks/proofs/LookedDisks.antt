@@ -17,7 +17,7 @@ use Rattle.status_register.proofs.Losing.{took_or_failed}
 use Rattle.status_register.proofs.Taking.{kept_among}
 use Rattle.group_mount.specs.Finding.{AreAllHeaded, AreThere, IsFoundIn}
 use Rattle.group_mount.specs.Founds.{is_held, not_held}
-use Rattle.group_mount.specs.NamedCopies.{copy_of, is_named_copy, named_copies}
+use Rattle.group_mount.specs.NamedCopies.{directory_copy_of, is_named_copy, named_copies}
 use Rattle.group_mount.specs.Recovering.{is_own, own_members}
 use Rattle.group_mount.specs.Verdicts.{member_of, members_with}
 use Rattle.group_mount.specs.declared.finding.Headed.{Headed}
@@ -39,9 +39,9 @@ pub own_picked : (id : ℕ) (entries : List Entry) (hs : List Headed) → own_me
 own_picked id entries [] = refl
 own_picked id entries (h ∷ hs) = ap (λ (l : List Member). if is_own id entries h then member_of h ∷ l else l) (own_picked id entries hs)
 
-pub copies_picked : (id : ℕ) (read : List Member) (r : Status) (hs : List Headed) → named_copies id read r hs ≡ picked (is_named_copy id read r) copy_of hs
+pub copies_picked : (id : ℕ) (read : List Member) (r : Status) (hs : List Headed) → named_copies id read r hs ≡ picked (is_named_copy id read r) directory_copy_of hs
 copies_picked id read r [] = refl
-copies_picked id read r (h ∷ hs) = ap (λ (l : List DirCopy). if is_named_copy id read r h then copy_of h ∷ l else l) (copies_picked id read r hs)
+copies_picked id read r (h ∷ hs) = ap (λ (l : List DirCopy). if is_named_copy id read r h then directory_copy_of h ∷ l else l) (copies_picked id read r hs)
 
 -- each was taken of such a disk
 pub picked_from : {A : Type 0} (test : Headed → Bool) (of : Headed → A) (hs : List Headed) (a : A) → IsAmong (picked test of hs) a → (h : Headed) × IsAmong hs h × (test h ≡ true) × (a ≡ of h)

@@ -7,8 +7,8 @@ use Rattle.std.proofs.lemmas.Option.{none-some, same_Some}
 use Rattle.bay.specs.State.{BayState}
 use Rattle.asm_group.specs.Names.{Bytes, is_same_name}
 use Rattle.asm_formats.specs.Among.{IsAmong}
-use Rattle.group_mount.specs.Founds.{HasTwo, both, later, is_whole, taken, undamaged}
-use Rattle.group_mount.specs.Verdicts.{AreJudged, IsJudged, choice_of, greater_of, ids_named, members_with, with_id}
+use Rattle.group_mount.specs.Founds.{HasTwo, first_of_two, later, is_whole, id_of_choice, undamaged}
+use Rattle.group_mount.specs.Verdicts.{AreJudged, IsJudged, choice_of, greater_short_id, ids_named, members_with, with_id}
 use Rattle.group_mount.specs.declared.choosing.Choice.{Choice}
 use Rattle.group_mount.specs.declared.choosing.ShortId.{ShortId}
 use Rattle.group_mount.specs.declared.choosing.Verdict.{Verdict}
@@ -127,12 +127,12 @@ two_by : (hs : List Headed) (ids : List ℕ) (verdicts : Verdicts) (unread : Lis
 two_by hs [] verdicts unread s t once are two = absurd (none verdicts are.0 two)
   where
     none : (vs : Verdicts) → vs ≡ [] → HasTwo vs → ⊥
-    none vs empty (both v w rest vw among ww) = absurd cc
+    none vs empty (first_of_two v w rest vw among ww) = absurd cc
     none vs empty (later v rest more) = absurd cc
 two_by hs (id ∷ ids) verdicts unread s t once (verdict, own, others, more, is, makes, judged, rest) two = go (subst HasTwo is two) (two_by hs ids others more s t once.1 rest)
   where
     go : HasTwo ((id, verdict) ∷ others) → (HasTwo others → AreTwo hs ids s t) → AreTwo hs (id ∷ ids) s t
-    go (both v w vs whole among other_whole) behind =
+    go (first_of_two v w vs whole among other_whole) behind =
         let second = was_judged hs ids others more s t rest w among in
         record {
           one = (id, verdict);
@@ -160,7 +160,7 @@ two_judged name hs verdicts unread s t are two = two_by hs (ids_named name hs) v
 
 -- ---- the choice
 
-short_one : (a : ShortId) (o : Option ShortId) (b : ShortId) → Some (greater_of a o) ≡ Some b → (b ≡ a) ⊎ (o ≡ Some b)
+short_one : (a : ShortId) (o : Option ShortId) (b : ShortId) → Some (greater_short_id a o) ≡ Some b → (b ≡ a) ⊎ (o ≡ Some b)
 short_one a None b is = inl (sym (same_Some a b is))
 short_one a (Some c) b is =
     cond_both (nat_lt a.id c.id) c a (λ (k : ShortId). Some k ≡ Some b → (b ≡ a) ⊎ (Some c ≡ Some b))
@@ -198,7 +198,7 @@ NotTaken choice other = ⊥
 same_err : (a b : MountError) → (let x : Result ℕ MountError = Err a in x ≡ Err b) → a ≡ b
 same_err a b e = cc
 
-pub not_taken : (choice : Choice) (e : MountError) → taken choice ≡ Err e → NotTaken choice e
+pub not_taken : (choice : Choice) (e : MountError) → id_of_choice choice ≡ Err e → NotTaken choice e
 not_taken choice e is = go choice.whole choice.are_two choice.short is
   where
     damaged : (id : ℕ) (damage : Option (ℕ × ℕ)) (short : Option ShortId) → undamaged (record { id = id; damage = damage }) ≡ Err e
@@ -208,7 +208,7 @@ not_taken choice e is = go choice.whole choice.are_two choice.short is
         subst (λ (k : MountError). NotTaken (record { whole = Some (record { id = id; damage = Some place }); are_two = false; short = short }) k) (same_err (error.Damaged place.0 place.1) e refused)
         (record { id = id; damage = Some place }, refl, refl)
 
-    go : (whole : Option WholeId) (two : Bool) (short : Option ShortId) → taken (record { whole = whole; are_two = two; short = short }) ≡ Err e
+    go : (whole : Option WholeId) (two : Bool) (short : Option ShortId) → id_of_choice (record { whole = whole; are_two = two; short = short }) ≡ Err e
         → NotTaken (record { whole = whole; are_two = two; short = short }) e
     go whole true short refused = subst (λ (k : MountError). NotTaken (record { whole = whole; are_two = true; short = short }) k) (same_err error.TwoGroups e refused) refl
     go None false None refused = subst (λ (k : MountError). NotTaken (record { whole = None; are_two = false; short = None }) k) (same_err error.NoGroup e refused) (refl, refl)

@@ -11,7 +11,7 @@ use Rattle.bay.specs.Counts.{Rose}
 use Rattle.bay.specs.Moments.{Runs}
 use Rattle.asm_formats.specs.Header.{Header}
 use Rattle.asm_images.specs.Kept.{header_in}
-use Rattle.group_disks.specs.Found.{counts_of, Told, AreIdsRead, AreAllRead}
+use Rattle.group_disks.specs.Found.{counts_of, ToldByCounts, AreIdsRead, AreAllRead}
 use Rattle.group_disks.specs.Probes.{id_in, IsShown, IsUsableProbe, ids_of, size_shown}
 use Rattle.group_disks.specs.declared.find.Probe.{Probe}
 use Rattle.group_disks.specs.declared.find.Probe.TheVariants as probe
@@ -57,7 +57,7 @@ all_more_ids s t n ids more are = record {
 }
 
 ids_and_one : (s t : BayState) (ids : List ℕ) (id : ℕ) → AreIdsRead ids (counts_of s) (counts_of t)
-    → Told (counts_of s) (counts_of t) (λ image. (slot : ℕ) × (h : Header) × (header_in image slot ≡ Some h) × (h.id ≡ id)) → AreIdsRead (ids ++ id ∷ []) (counts_of s) (counts_of t)
+    → ToldByCounts (counts_of s) (counts_of t) (λ image. (slot : ℕ) × (h : Header) × (header_in image slot ≡ Some h) × (h.id ≡ id)) → AreIdsRead (ids ++ id ∷ []) (counts_of s) (counts_of t)
 ids_and_one s t ids id are told = record {
   each = λ i below now holds image was. ⊎_elim
       (λ (early : i < length ids).
@@ -83,7 +83,7 @@ module _ (s m t : BayState) {early : ℕ → Type 0} (n : ℕ) (ids : List ℕ) 
       (λ now holds image was. let found = some_header (header_in image n) id (shown.1 now holds image was) in (n, found.0, found.1, found.2))
 
   has_one : (p : Probe) → IsShown n p (counts_of s) (counts_of t) → (Rose (s.faults n) (t.faults n) → ⊥)
-      → Told (counts_of s) (counts_of t) (λ image. ForSome (header_in image n) (λ h. Contains (ids ++ ids_of p) h.id))
+      → ToldByCounts (counts_of s) (counts_of t) (λ image. ForSome (header_in image n) (λ h. Contains (ids ++ ids_of p) h.id))
   has_one probe.Absent is still = absurd (still is)
   has_one (probe.Unread size) is still = absurd (still is.1)
   has_one (probe.Read size None) is still = λ now holds image was h there.
@@ -101,7 +101,7 @@ module _ (s m t : BayState) {early : ℕ → Type 0} (n : ℕ) (ids : List ℕ) 
         (all_more_ids s t n ids (ids_of p) (all_later s m t next n ids (λ k lt. others.others k (λ e. absurd (omega (arith, e, lt)))) are)).each slot size before attached still)
         (λ (late : n ≤ slot).
         let last : n ≡ slot = omega (arith, below, late) in
-        subst (λ (k : ℕ). (Rose (s.faults k) (t.faults k) → ⊥) → Told (counts_of s) (counts_of t) (λ image. ForSome (header_in image k) (λ h. Contains (ids ++ ids_of p) h.id)))
+        subst (λ (k : ℕ). (Rose (s.faults k) (t.faults k) → ⊥) → ToldByCounts (counts_of s) (counts_of t) (λ image. ForSome (header_in image k) (λ h. Contains (ids ++ ids_of p) h.id)))
         last (has_one p (shown_before s m t first n p next is)) still)
         (cases_lt slot n);
   }
@@ -115,7 +115,7 @@ no_header None is = refl
 no_header (Some h) is = absurd (none-some h.id (sym is))
 
 -- a disk that can be given to a new group had no open header
-pub usable_free : (s t : BayState) (slot units : ℕ) (p : Probe) → IsUsableProbe p units → IsShown slot p (counts_of s) (counts_of t) → Told (counts_of s) (counts_of t) (λ image. header_in image slot ≡ None)
+pub usable_free : (s t : BayState) (slot units : ℕ) (p : Probe) → IsUsableProbe p units → IsShown slot p (counts_of s) (counts_of t) → ToldByCounts (counts_of s) (counts_of t) (λ image. header_in image slot ≡ None)
 usable_free s t slot units p usable shown =
     let there = subst (λ (q : Probe). IsShown slot q (counts_of s) (counts_of t)) usable.free shown in
     λ now holds image was. no_header (header_in image slot) (there.1 now holds image was)

@@ -17,7 +17,7 @@ use Rattle.group_mount.specs.disk_images.declared.looking.Looked.{Looked}
 use Rattle.group_mount.specs.disk_images.declared.looking.Looked.TheVariants as look
 use Rattle.group_engine.specs.Frames.{SameDisk}
 use Rattle.group_disks.specs.FirstParts.{SameBut, SparesAllBut}
-use Rattle.group_disks.specs.Found.{Counts, IsSlotOfPath, Told, counts_of}
+use Rattle.group_disks.specs.Found.{Counts, IsSlotOfPath, ToldByCounts, counts_of}
 use Rattle.group_disks.specs.Making.{IsLookFree, IsImageMade, IsNotFree, MakeCause, StaysBut}
 use Rattle.group_disks.specs.Holding.{IsHeldSlot, SameHeld, SparesHeld}
 use Rattle.group_disks.proofs.FirstSpares.{but_trans, looks_spare}
@@ -85,7 +85,7 @@ module _ (paths : List Bytes) (path : Bytes) (held : List ℕ) (slot : ℕ) (is_
 
   -- the image that was looked at was absent, or bore no open header
   pub was_free : (s m t : BayState) (looked : Looked) {slots : ℕ → Type 0} {step : Image → Image → Type 0} → IsSound m → Looks (IsSlot slot) 4 s m → IsLooked slot looked s m → IsLookFree looked
-      → Runs slots step m t → Rose (s.faults slot) (t.faults slot) ⊎ Told (counts_of s) (counts_of t) (λ image. header_in image slot ≡ None)
+      → Runs slots step m t → Rose (s.faults slot) (t.faults slot) ⊎ ToldByCounts (counts_of s) (counts_of t) (λ image. header_in image slot ≡ None)
   was_free s m t look.Absent sound looks is free makes = inl (rose_later (s.faults slot) (m.faults slot) (t.faults slot) (makes.faults slot) is.1)
   was_free s m t (look.Read size None) sound looks is free makes =
       inr (told_before s m t looks.runs makes (λ x y same none. sym (same_header slot x y same) ∙ none) (λ now holds image was. is.now.now image (sound.held image was)))
@@ -136,7 +136,7 @@ module _ (paths : List Bytes) (path : Bytes) (held : List ℕ) (slot : ℕ) (is_
           let first = looks_held held n (on_more (inside n below) looks.runs) in
           goes_on (held_trans held) first (stops first) (on_more (inside n below) (widened make_held makes))
 
-  pub is_made : (size : ℕ) {s m t : BayState} → (IsHeldSlot held slot → ⊥) → Rose (s.faults slot) (t.faults slot) ⊎ Told (counts_of s) (counts_of t) (λ image. header_in image slot ≡ None)
+  pub is_made : (size : ℕ) {s m t : BayState} → (IsHeldSlot held slot → ⊥) → Rose (s.faults slot) (t.faults slot) ⊎ ToldByCounts (counts_of s) (counts_of t) (λ image. header_in image slot ≡ None)
       → Looks (IsSlot slot) 4 s m → t.attached slot ≡ Some size → Ends (Makes slot size) m t → IsImageMade paths path held size s t
   is_made size {s} {m} {t} apart free looks attached ends = record {
     slot = slot;

@@ -17,7 +17,7 @@ use Rattle.asm_formats.specs.Among.{IsAmong}
 use Rattle.asm_images.proofs.Bridges.{same_is_same, same_disk}
 use Rattle.group_disks.specs.Creating.{HasMember, CreatesGroupOn, HasNoOpenHeader, MayCreate, Founds, HasCreated, made_group}
 use Rattle.asm_images.specs.Kept.{header_in}
-use Rattle.group_disks.specs.Found.{counts_of, Told, AreAllRead, IsAboveAll}
+use Rattle.group_disks.specs.Found.{counts_of, ToldByCounts, AreAllRead, IsAboveAll}
 use Rattle.group_disks.specs.Planned.{Plan, IsGroupPlan, kept_of_plan}
 use Rattle.group_disks.specs.Stages.{MayForm, HasFormed}
 use Rattle.group_disks.proofs.Forming.{forming_creates, formed_is_held}
@@ -44,12 +44,12 @@ forms_creates {m} {t} slot size plan sound attached is room run =
     (λ x y sized step. forming_creates slot plan x y is (omega (arith, room, sized)) step) run
 
 pub has_before : (id : ℕ) (x y : Image) → Same x y → HasMember id y → HasMember id x
-has_before id x y same has = record { slots = has.slots; member = has.member; is = subst (λ (i : lists.Image). IsAmong (all_members id i) has.member) (same_is_same has.slots x y same) has.is }
+has_before id x y same has = record { slots = has.slots; member = has.member; is = subst (λ (i : lists.ImageBytes). IsAmong (all_members id i) has.member) (same_is_same has.slots x y same) has.is }
 
 -- a creation from disks that are as they were
 same_creates : (slot id : ℕ) (g : Group) (x y z : Image) → Same x y → CreatesGroupOn slot id g y z → CreatesGroupOn slot id g x z
 same_creates slot id g x y z same creates = record {
-  others = λ other slots groups completed begun apart sound. creates.others other slots groups completed begun apart (subst (λ (i : lists.Image). SoundBy other i groups completed begun) (sym (same_is_same slots x y same)) sound);
+  others = λ other slots groups completed begun apart sound. creates.others other slots groups completed begun apart (subst (λ (i : lists.ImageBytes). SoundBy other i groups completed begun) (sym (same_is_same slots x y same)) sound);
   members = λ other apart has. has_before other x y same (creates.members other apart has);
   own = λ none. creates.own (λ has. none (has_before id x y same has));
   elsewhere = record { size = λ s differ. creates.elsewhere.size s differ ∙ same.size s; byte = λ s k differ. creates.elsewhere.byte s k differ ∙ same.byte s k };
@@ -59,7 +59,7 @@ same_creates slot id g x y z same creates = record {
 }
 
 -- what comes before the first write, and the writing on a disk that had no open header
-all_creates : {s m t : BayState} {slots : ℕ → Type 0} (slot id : ℕ) (g : Group) → slots slot → IsSound m → Told (counts_of s) (counts_of m) (λ image. header_in image slot ≡ None)
+all_creates : {s m t : BayState} {slots : ℕ → Type 0} (slot id : ℕ) (g : Group) → slots slot → IsSound m → ToldByCounts (counts_of s) (counts_of m) (λ image. header_in image slot ≡ None)
     → Runs slots Same s m → Runs (IsSlot slot) (CreatesGroupOn slot id g) m t → Runs slots (MayCreate s.holds slot id g) s t
 all_creates {s} {m} {t} {slots} slot id g inside sound free first next =
     let writes : Runs (IsSlot slot) (λ x y. CreatesGroupOn slot id g x y × HasNoOpenHeader s.holds slot) m t =
@@ -99,7 +99,7 @@ when_ok (Err e) p is = absurd cc
 
 -- the whole creation, by a plan that is seen as another
 pub has_created : {s m t : BayState} {A E : Type 0} (n slot : ℕ) (p q : Plan) (name : Bytes) (result : Result A E) → p ≡ q → q.name ≡ name → slot < n → IsSound m
-    → Told (counts_of s) (counts_of m) (λ image. header_in image slot ≡ None) → Runs (λ k. k < n) Same s m → Runs (IsSlot slot) (CreatesGroupOn slot q.id (made_group q.name)) m t
+    → ToldByCounts (counts_of s) (counts_of m) (λ image. header_in image slot ≡ None) → Runs (λ k. k < n) Same s m → Runs (IsSlot slot) (CreatesGroupOn slot q.id (made_group q.name)) m t
     → OnOk result (Ends (Founds n q.id (made_group q.name) (kept_of_plan slot q)) m t) → HasCreated n p.id (made_group name) (is_ok result) s t
 has_created {s} {m} {t} n slot p q name result same named inside sound free first next done =
     subst (λ (r : Plan). HasCreated n r.id (made_group name) (is_ok result) s t) (sym same)

@@ -41,8 +41,8 @@ use Rattle.group_mount.specs.Alike.{clashes, first_stranger, shape_in}
 use Rattle.group_mount.specs.Finding.{AreAllHeaded, AreInOwnSlots, AreThere}
 use Rattle.group_mount.specs.Founds.{FindCause, FindsNone, FoundDisks, IsFound, is_whole, not_held}
 use Rattle.group_mount.specs.Loads.{refusal_of_load}
-use Rattle.group_mount.specs.Missing.{first_missing, has_disk, is_disk_of, is_missing}
-use Rattle.group_mount.specs.NamedCopies.{copy_of, is_named_copy, named_copies}
+use Rattle.group_mount.specs.Missing.{first_missing, has_disk_of_entry, is_disk_of, is_missing}
+use Rattle.group_mount.specs.NamedCopies.{directory_copy_of, is_named_copy, named_copies}
 use Rattle.group_mount.specs.Quorum.{CatalogRefusal, IsCatalogIn, IsDamagedRefusal, IsForceRefusal, IsLastEpochRefusal, IsMissingRefusal, IsStrangerRefusal, IsRefusedAfter}
 use Rattle.group_mount.specs.Recovering.{RecoverCause, is_named, is_own, name_in, own_members}
 use Rattle.group_mount.specs.Surveying.{IsGoneOn, IsSurveyedNow, MembersCause}
@@ -398,9 +398,9 @@ module _ (name : Bytes) (option : MountOption) (n : ℕ) (s t : BayState) (x : I
       abbrev Named : Headed → Bool
       Named = is_named_copy id survey.read survey.value
 
-      named_from : (copies : List DirCopy) → copies ≡ named_copies id survey.read survey.value hs → (c : DirCopy) → IsAmong copies c → (d : Headed) × IsHeadedDisk at d × (Named d ≡ true) × (c ≡ copy_of d)
+      named_from : (copies : List DirCopy) → copies ≡ named_copies id survey.read survey.value hs → (c : DirCopy) → IsAmong copies c → (d : Headed) × IsHeadedDisk at d × (Named d ≡ true) × (c ≡ directory_copy_of d)
       named_from copies are c among =
-          let k = picked_from Named copy_of hs c (subst (λ (l : List DirCopy). IsAmong l c) (are ∙ copies_picked id survey.read survey.value hs) among) in
+          let k = picked_from Named directory_copy_of hs c (subst (λ (l : List DirCopy). IsAmong l c) (are ∙ copies_picked id survey.read survey.value hs) among) in
           (k.0, every.are k.0 k.1, k.2, k.3)
 
       directories : (store : Stored) → ArePartOf store.copies (named_copies id survey.read survey.value hs) → Keeps store u → AreDirectories at id survey.value value store
@@ -432,8 +432,8 @@ module _ (name : Bytes) (option : MountOption) (n : ℕ) (s t : BayState) (x : I
         record_ = value;
         shut = λ d there is.
             let own : d.header.id ≡ id = eqb-true d.header.id id (and_parts (d.header.id == id) _ is).0 in
-            let among = subst (λ (l : List DirCopy). IsAmong l (copy_of d)) (sym (copies_picked id survey.read survey.value hs)) (picked_all Named copy_of hs d (every.all d there own) is) in
-            ⊎_elim (λ rose. absurd (there.fine (failed d.slot rose))) (λ (told : Told from t (AreShut (copy_of d))). told x last x from_holds) (unread (copy_of d) among);
+            let among = subst (λ (l : List DirCopy). IsAmong l (directory_copy_of d)) (sym (copies_picked id survey.read survey.value hs)) (picked_all Named directory_copy_of hs d (every.all d there own) is) in
+            ⊎_elim (λ rose. absurd (there.fine (failed d.slot rose))) (λ (told : Told from t (AreShut (directory_copy_of d))). told x last x from_holds) (unread (directory_copy_of d) among);
       }
 
       load_cause : (from : BayState) → from.holds ≡ Some x → ((slot : ℕ) → Rose (from.faults slot) (t.faults slot) → SlotFailed at slot) → t.holds ≡ Some x → (l : LoadError)
@@ -465,7 +465,7 @@ module _ (name : Bytes) (option : MountOption) (n : ℕ) (s t : BayState) (x : I
       fault_cause store shape are (error.Dead slot disk) cause = absurd cause
 
       -- a disk is missing
-      none_is : (entry : Entry) → has_disk id hs entry ≡ false → (d : Headed) → IsDiskThere at d → is_disk_of id entry d ≡ false
+      none_is : (entry : Entry) → has_disk_of_entry id hs entry ≡ false → (d : Headed) → IsDiskThere at d → is_disk_of id entry d ≡ false
       none_is entry none d there = ⊎_elim
           (λ (yes : is_disk_of id entry d ≡ true).
           let own : d.header.id ≡ id = eqb-true d.header.id id (and_parts (d.header.id == id) _ yes).0 in
@@ -477,7 +477,7 @@ module _ (name : Bytes) (option : MountOption) (n : ℕ) (s t : BayState) (x : I
           → IsMissingRefusal option catalog.tables (first_missing id hs survey.value.entries) e → ErrorCause name option e at
       missing_cause store shape catalog are catalogued (error.MissingDisk number disk) (unforced, entry, missing_is, (number_is, name_is)) =
           let k = entry_by (is_missing id hs) survey.value.entries entry missing_is in
-          let parts = and_parts (serves entry.mode) (not (has_disk id hs entry)) k.1 in (
+          let parts = and_parts (serves entry.mode) (not (has_disk_of_entry id hs entry)) k.1 in (
             unforced,
             (
               id,
@@ -487,7 +487,7 @@ module _ (name : Bytes) (option : MountOption) (n : ℕ) (s t : BayState) (x : I
                 entry = entry;
                 among = k.0;
                 serving = parts.0;
-                absent = none_is entry (not_false (has_disk id hs entry) parts.1);
+                absent = none_is entry (not_false (has_disk_of_entry id hs entry) parts.1);
                 named = record {
                   record_ = value;
                   store = store;

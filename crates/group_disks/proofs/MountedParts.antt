@@ -15,7 +15,7 @@ use Rattle.group_mount.specs.declared.quorum.MountOption.{MountOption}
 use Rattle.group_mount.specs.declared.quorum.Quorate.{Quorate}
 use Rattle.group_mount.specs.declared.recovering.Parts.{Parts}
 use Rattle.group_disks.specs.Holding.{IsHeldSlot}
-use Rattle.group_disks.specs.Mounting.{HaveDiskNumbers, IsMountedBy, free_disks, has_name, mounted_of}
+use Rattle.group_disks.specs.Mounting.{HaveDiskNumbers, IsMountedBy, free_disks, has_group_name, mounted_of}
 use Rattle.group_disks.proofs.Held.{left_is, member_found, name_is}
 use Rattle.group_disks.proofs.Births.{birth_of}
 use Rattle.group_disks.proofs.Disks.{sizes_are, slots_are}
@@ -70,7 +70,7 @@ module _ (q : Quorate) (now : ℕ) (parts : Parts) (t : BayState) (are : ArePart
 
   -- it has the name, and none of the disks of others
   module _ (option : MountOption) (found : FoundDisks) (held : List ℕ) (m : BayState) (quorate : IsQuorate option (free_disks held found) q m) where
-    pub parts_mounted : (name : Bytes) → has_name (free_disks held found) name ≡ true → IsMountedBy name held (mounted_of parts) t
+    pub parts_mounted : (name : Bytes) → has_group_name (free_disks held found) name ≡ true → IsMountedBy name held (mounted_of parts) t
     parts_mounted name has = record {
       mounted = refl;
       named =

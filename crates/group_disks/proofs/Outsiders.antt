@@ -18,7 +18,7 @@ nothing_among [] none = refl
 nothing_among (x ∷ xs) none = absurd (none x (inl refl))
 
 -- what stands for some groups stands for more
-pub widened : (id : ℕ) (image : lists.Image) (groups more : List Group) → Sound id image groups → ((g : Group) → IsAmong groups g → IsAmong more g) → Sound id image more
+pub widened : (id : ℕ) (image : lists.ImageBytes) (groups more : List Group) → Sound id image groups → ((g : Group) → IsAmong groups g → IsAmong more g) → Sound id image more
 widened id image groups more sound wider = record {
   completed = sound.completed;
   begun = sound.begun;

@@ -15,13 +15,13 @@ use Rattle.change_directory.specs.Changes.{content_in}
 use Rattle.change_directory.specs.Formatting.{AreShut}
 use Rattle.change_directory.specs.StoreLaws.{IsShaped, RegionOf}
 use Rattle.change_directory.proofs.Elsewhere.{region_is_same}
-use Rattle.disk_forming.specs.Places.{slot_at}
+use Rattle.disk_forming.specs.Places.{gated_slot_at}
 use Rattle.disk_forming.specs.Gates as gates
 use Rattle.disk_forming.specs.Forming as parts
-use Rattle.disk_forming.specs.Forming.{Shows, LogsAreShut, MetaOf, MayGiveHeader, HasHeader, RecordsOf, MayGiveRecord, HasRecord, IsRecording}
+use Rattle.disk_forming.specs.Forming.{ShowsBodies, LogsAreShut, MetaOf, MayGiveHeader, HasHeader, RecordsOf, MayGiveRecord, HasRecord, IsRecording}
 use Rattle.group_disks.specs.Planned.{Plan, header_body, claim_body, status_body}
 use Rattle.group_disks.specs.Ready.{HasRoom}
-use Rattle.group_disks.specs.Stages.{first_copy, HasFirst, HasNoneOrFirst, IsForming, bare, headed, claimed, whole, HasAllParts, MayForm, HasFormed, IsHeaded}
+use Rattle.group_disks.specs.Stages.{first_copy, HasFirst, HasNoneOrFirst, IsForming, not_yet_formed, formed_to_header, formed_to_claim, fully_formed, HasAllParts, MayForm, HasFormed, IsHeaded}
 use Rattle.group_disks.proofs.FirstCopy.{shut_is}
 
 -- ---- runs, and what is known of their moments
@@ -54,7 +54,7 @@ module _ (slot units : ℕ) (some : 25 ≤ units) {s : BayState} (room : HasRoom
   long : 26214400 ≤ size_of s slot
   long = subst (λ (o : Option ℕ). 26214400 ≤ unwrap_or o 0) (sym room.attached) (omega (arith, room.inside, some))
 
-  pub has_region : gates.HasRegion s slot 512 1024
+  pub has_region : gates.HasAttachedRegion s slot 512 1024
   has_region = record { attached = attached_some; sector_size = inl refl; long = lit≤ tt; region = omega (arith, long) }
 
   pub is_copy : IsCopy s (first_copy slot)
@@ -86,7 +86,7 @@ module _ (slot : ℕ) (plan : Plan) where
   header_forms x y room step = ⊎_elim (λ closing. inl closing)
       (λ heads.
       let none = no_content y (omega (arith, room, heads.elsewhere.size slot)) (are_shut y heads.logs) in
-      inr (record { is_forming = ⊎_elim (λ shows. bare shows) (λ shows. headed shows (inl none)) heads.shows; elsewhere = heads.elsewhere }))
+      inr (record { is_forming = ⊎_elim (λ shows. not_yet_formed shows) (λ shows. formed_to_header shows (inl none)) heads.shows; elsewhere = heads.elsewhere }))
       step
 
   pub header_now : {a b : BayState} → NowOnly a (λ x. 26214400 ≤ x.size slot) → Ends (HasHeader slot 512 1024 (header_body plan)) a b → NowOnly b (IsHeaded slot plan)
@@ -95,13 +95,13 @@ module _ (slot : ℕ) (plan : Plan) where
 
   -- ---- the directory copy
 
-  slot_stays : (other : ℕ) → other + 2 ≤ 10 → (x y : Image) → ChangesOnly (RegionOf copy) x y → shown (slot_at other 1 512) slot y ≡ shown (slot_at other 1 512) slot x
-  slot_stays other low x y step = shown-elsewhere (slot_at other 1 512) slot (lit≤ tt) (RegionOf copy) x y meet step
+  slot_stays : (other : ℕ) → other + 2 ≤ 10 → (x y : Image) → ChangesOnly (RegionOf copy) x y → shown (gated_slot_at other 1 512) slot y ≡ shown (gated_slot_at other 1 512) slot x
+  slot_stays other low x y step = shown-elsewhere (gated_slot_at other 1 512) slot (lit≤ tt) (RegionOf copy) x y meet step
     where
-      meet : (k : ℕ) → PlaceOf (slot_at other 1 512) slot slot k → RegionOf copy slot k → ⊥
+      meet : (k : ℕ) → PlaceOf (gated_slot_at other 1 512) slot slot k → RegionOf copy slot k → ⊥
       meet k here there = ⊎_elim (λ gate. absurd (omega (arith, gate.2, there.1, low))) (λ body. absurd (omega (arith, body.2, there.1, low))) here
 
-  still_shows : (x y : Image) → ChangesOnly (RegionOf copy) x y → Shows slot 512 (Some (header_body plan)) None None x → Shows slot 512 (Some (header_body plan)) None None y
+  still_shows : (x y : Image) → ChangesOnly (RegionOf copy) x y → ShowsBodies slot 512 (Some (header_body plan)) None None x → ShowsBodies slot 512 (Some (header_body plan)) None None y
   still_shows x y step before = record {
     header_slot = slot_stays 0 (lit≤ tt) x y step ∙ before.header_slot;
     claim_slot = slot_stays 2 (lit≤ tt) x y step ∙ before.claim_slot;
@@ -112,7 +112,7 @@ module _ (slot : ℕ) (plan : Plan) where
 
   -- the disk has its header and its directory copy
   pub record IsFilled (image : Image) : Type 0 where
-    pub shows : Shows slot 512 (Some (header_body plan)) None None image
+    pub shows : ShowsBodies slot 512 (Some (header_body plan)) None None image
     pub content : HasFirst slot plan image
     pub room : 26214400 ≤ image.size slot
 
@@ -123,7 +123,7 @@ module _ (slot : ℕ) (plan : Plan) where
       ended = run.ended;
       each = λ m image low high left.
           let from = run.moments m image low high left in
-          headed (still_shows from.0 image from.2 (now.now from.0 from.1).shows) (only.each m image low high left);
+          formed_to_header (still_shows from.0 image from.2 (now.now from.0 from.1).shows) (only.each m image low high left);
     }
 
     pub filled_now : NowOnly b (HasFirst slot plan) → NowOnly b (IsFilled)
@@ -147,9 +147,9 @@ module _ (slot : ℕ) (plan : Plan) where
       (region_is_same copy shape x y (omega (arith, before.room)) (record { size = step.size slot; bytes = λ k low high. step.byte slot k (λ inside. absurd (omega (arith, inside.2, low))) })).content ∙ before.content
 
   of_stage : (y : Image) → HasFirst slot plan y → IsRecording slot 512 (header_body plan) (claim_body plan) (status_body plan) y → IsForming slot plan y
-  of_stage y content (parts.headed shows) = headed shows (inr content)
-  of_stage y content (parts.claimed shows) = claimed shows content
-  of_stage y content (parts.recorded shows) = whole shows content
+  of_stage y content (parts.headed shows) = formed_to_header shows (inr content)
+  of_stage y content (parts.claimed shows) = formed_to_claim shows content
+  of_stage y content (parts.recorded shows) = fully_formed shows content
 
   pub record_moments : {slots : ℕ → Type 0} {a b : BayState} → NowOnly a IsFilled → Runs slots (MayGiveRecord slot 512 (claim_body plan) (status_body plan)) a b → LeavesOnly a b (IsForming slot plan)
   record_moments {slots} {a} {b} now run = leaves_only {P = IsFilled} {Q = IsForming slot plan}

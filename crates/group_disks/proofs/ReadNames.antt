@@ -24,7 +24,7 @@ use Rattle.status_register.specs.Surveys.{disk_in, records_on}
 use Rattle.status_register.specs.declared.member.Member.{Member}
 use Rattle.status_register.proofs.Meeting.{surveyed_record_counts}
 use Rattle.group_mount.specs.Mounting.{Allows, NamesCopy}
-use Rattle.group_mount.specs.NamedCopies.{copy_of}
+use Rattle.group_mount.specs.NamedCopies.{directory_copy_of}
 use Rattle.group_mount.specs.Quorum.{IsQuorum}
 use Rattle.group_mount.specs.Syncing.{IsSurveyOn}
 use Rattle.group_mount.specs.Verdicts.{member_of}
@@ -48,7 +48,7 @@ content_here : (x : Image) (slot : ℕ) (h : Header) → header_in x slot ≡ So
 unfolding metadata
 content_here x slot h is = ap (λ (o : Option Header). said_content o (disk_bytes x slot)) is
 
-copy_here : (x : Image) (k : Headed) (c : DirCopy) → c ≡ copy_of k → header_in x k.slot ≡ Some k.header → (disk_in x k.slot).content ≡ content_in c x
+copy_here : (x : Image) (k : Headed) (c : DirCopy) → c ≡ directory_copy_of k → header_in x k.slot ≡ Some k.header → (disk_in x k.slot).content ≡ content_in c x
 copy_here x k c copy is = content_here x k.slot k.header is ∙ (λ i. copy_content (sym copy i).dir_blocks (disk_bytes x (sym copy i).slot))
 
 module _ (n : ℕ) (s : BayState) (x : Image) (holds : s.holds ≡ Some x) (u : BayState) (sound : IsSound u) (looks : Runs (λ slot. slot < n) Same s u)

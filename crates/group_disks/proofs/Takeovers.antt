@@ -23,7 +23,7 @@ use Rattle.status_register.specs.declared.member.Member.{Member}
 use Rattle.status_register.specs.Registered.{AreNumbered}
 use Rattle.group_disks.specs.Bringing.{AreBrought, HasNamedCopies, IsBrought}
 use Rattle.group_disks.specs.Holding.{IsHeldSlot, SameHeld, SparesHeld}
-use Rattle.group_disks.specs.Mounting.{IsMountCause, IsMountedBy, IsRecovered, IsTakenOver, WasQuorate, free_disks, has_name, mounted_of, not_quorate, not_renewed, of_others}
+use Rattle.group_disks.specs.Mounting.{IsMountCause, IsMountedBy, IsRecovered, IsTakenOver, WasQuorate, free_disks, has_group_name, mounted_of, not_quorate, not_renewed, of_others}
 use Rattle.group_disks.proofs.Brought.{brought_since}
 use Rattle.group_disks.proofs.Held.{member_found, slots_free, slots_inside, there_left}
 use Rattle.group_disks.proofs.Spared.{change_held, same_held, spares_on, spares_some}
@@ -34,7 +34,7 @@ found_stays {s} {t} stays = record { stays = stays }
 module _ (name : Bytes) (n : ℕ) (held : List ℕ) (option : MountOption) (found f : FoundDisks) (is : f ≡ free_disks held found) (slots : found.slots ≡ n) where
   -- ---- the disks that are left
 
-  pub was_named : (b c : Bool) → b ≡ is_named (name_in f.id f.headed) name → b ≡ c → has_name (free_disks held found) name ≡ c
+  pub was_named : (b c : Bool) → b ≡ is_named (name_in f.id f.headed) name → b ≡ c → has_group_name (free_disks held found) name ≡ c
   was_named b c tested answer = subst (λ (d : FoundDisks). is_named (name_in d.id d.headed) name ≡ c) is (sym tested ∙ answer)
 
   pub quorate_left : (q : Quorate) (t : BayState) → IsQuorate option f q t → IsQuorate option (free_disks held found) q t
@@ -83,7 +83,7 @@ module _ (name : Bytes) (n : ℕ) (held : List ℕ) (option : MountOption) (foun
   -- ---- causes
 
   module _ {B : Type 0} (state : B → BayState) (s : BayState) where
-    pub others_cause : (t : BayState) → Runs (λ slot. slot < n) Same s t → IsFound name n found s t → has_name (free_disks held found) name ≡ false → IsMountCause state name n held option s t error.NoGroup
+    pub others_cause : (t : BayState) → Runs (λ slot. slot < n) Same s t → IsFound name n found s t → has_group_name (free_disks held found) name ≡ false → IsMountCause state name n held option s t error.NoGroup
     others_cause t looks was none = of_others refl looks (record { found = found; is = was; none = none })
 
     pub quorum_cause : (between : B) (t : BayState) (e : MountError) → IsFound name n found s (state between) → Runs (λ slot. slot < n) Same s (state between) → Runs (λ slot. slot < n) Same (state between) t

@@ -6,17 +6,17 @@ use Rattle.bay.specs.State.{BayState}
 use Rattle.asm_formats.specs.Header.{Header}
 use Rattle.asm_images.specs.Kept.{header_in}
 use Rattle.group_mount.proofs.Told.{same_header}
-use Rattle.group_disks.specs.Found.{counts_of, Told}
+use Rattle.group_disks.specs.Found.{counts_of, ToldByCounts}
 use Rattle.group_disks.specs.Probes.{id_in}
 
 pub same_id : (slot : ℕ) (id : Option ℕ) (x y : Image) → Same x y → id_in y slot ≡ id → id_in x slot ≡ id
 same_id slot id x y same is = sym (ap (λ (o : Option Header). option_map (λ (h : Header). h.id) o) (same_header slot x y same)) ∙ is
 
 -- what is told of a header is told of its id
-pub told_id : (s t : BayState) (slot : ℕ) (o : Option Header) (k h : Header) → o ≡ Some h → k ≡ h → Told (counts_of s) (counts_of t) (λ image. header_in image slot ≡ o)
-    → Told (counts_of s) (counts_of t) (λ image. id_in image slot ≡ Some k.id)
+pub told_id : (s t : BayState) (slot : ℕ) (o : Option Header) (k h : Header) → o ≡ Some h → k ≡ h → ToldByCounts (counts_of s) (counts_of t) (λ image. header_in image slot ≡ o)
+    → ToldByCounts (counts_of s) (counts_of t) (λ image. id_in image slot ≡ Some k.id)
 told_id s t slot o k h some same told = λ now holds image was.
     ap (λ (p : Option Header). option_map (λ (j : Header). j.id) p) (told now holds image was ∙ some) ∙ sym (ap (λ (j : Header). Some j.id) same)
 
-pub told_no_id : (s t : BayState) (slot : ℕ) (o : Option Header) → o ≡ None → Told (counts_of s) (counts_of t) (λ image. header_in image slot ≡ o) → Told (counts_of s) (counts_of t) (λ image. id_in image slot ≡ None)
+pub told_no_id : (s t : BayState) (slot : ℕ) (o : Option Header) → o ≡ None → ToldByCounts (counts_of s) (counts_of t) (λ image. header_in image slot ≡ o) → ToldByCounts (counts_of s) (counts_of t) (λ image. id_in image slot ≡ None)
 told_no_id s t slot o none told = λ now holds image was. ap (λ (p : Option Header). option_map (λ (j : Header). j.id) p) (told now holds image was ∙ none)

@@ -19,13 +19,13 @@ use Rattle.status_register.specs.Holders.{is_of}
 use Rattle.status_register.specs.declared.member.Member.{Member}
 
 -- the record names the directory copy of the disk
-abbrev pub is_named : Status → Member → Bool
-is_named r m = has_bit r.directories m.number && is_of r.entries m
+abbrev pub has_named_copy : Status → Member → Bool
+has_named_copy r m = has_bit r.directories m.number && is_of r.entries m
 
 -- it names the one of a disk of this number, which is among these
 abbrev pub is_named_in : Status → List Member → ℕ → Bool
 is_named_in r [] d = false
-is_named_in r (m ∷ ms) d = if is_named r m then (d == m.number || is_named_in r ms d) else is_named_in r ms d
+is_named_in r (m ∷ ms) d = if has_named_copy r m then (d == m.number || is_named_in r ms d) else is_named_in r ms d
 
 -- the set has the numbers of these disks whose copies the record names
 abbrev pub HasNamedCopies : Status → List Member → ℕ → Type 0

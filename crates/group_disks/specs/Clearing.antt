@@ -11,7 +11,7 @@ use Rattle.asm_formats.specs.Items.{DiskInfo}
 use Rattle.asm_formats.specs.Status.{Entry, entry_of}
 use Rattle.group_mount.specs.disk_directory.Disks.{Disk, info_at, without_disk}
 use Rattle.group_mount.specs.catalog_tables.Tables.{Tables}
-use Rattle.status_register.specs.Registered.{is_birth}
+use Rattle.status_register.specs.Registered.{is_same_birth}
 use Rattle.group_engine.specs.Mounts.{IsMounted, MountedGroup, slot_at}
 use Rattle.group_engine.specs.Own.{KeepsGroup}
 use Rattle.group_engine.specs.Pending.{EndsOn}
@@ -23,7 +23,7 @@ use Rattle.group_mount.specs.declared.error.MountError.TheVariants as error
 -- the entries have none of this number and of the birth that the record says
 abbrev pub lacks_entry : List Entry → ℕ → Option DiskInfo → Bool
 lacks_entry entries d None = false
-lacks_entry entries d (Some info) = not (is_birth (option_map (λ (e : Entry). e.birth) (entry_of entries d)) info.birth)
+lacks_entry entries d (Some info) = not (is_same_birth (option_map (λ (e : Entry). e.birth) (entry_of entries d)) info.birth)
 
 -- the disk of this number has a record, and no entry of its birth
 abbrev pub is_left_over : List Entry → List Disk → ℕ → Bool

@@ -8,7 +8,7 @@ use Rattle.asm_base.specs.declared.refusal.Refusal.{Refusal}
 use Rattle.asm_base.specs.declared.refusal.Refusal.TheVariants as refusal
 use Rattle.asm_images.specs.Kept.{header_in}
 use Rattle.group_mount.specs.disk_images.Headers.{HasHeaderSlot}
-use Rattle.group_engine.specs.file_directory.Files.{is_file}
+use Rattle.group_engine.specs.file_directory.Files.{is_file_number}
 use Rattle.group_engine.specs.Commits.{DismountCause}
 use Rattle.group_engine.specs.Mounts.{IsOwn, MountedGroup, slot_at}
 use Rattle.group_engine.specs.Own.{OnOwnDisks}
@@ -18,10 +18,10 @@ use Rattle.group_engine.specs.declared.access.Access.TheVariants as access
 
 -- the group has a file
 abbrev pub HasFile : MountedGroup → Type 0
-HasFile m = (f : ℕ) × IsTrue (is_file m.catalog.tables.files f)
+HasFile m = (f : ℕ) × IsTrue (is_file_number m.catalog.tables.files f)
 
 abbrev pub HasNoFile : MountedGroup → Type 0
-HasNoFile m = (f : ℕ) → is_file m.catalog.tables.files f ≡ false
+HasNoFile m = (f : ℕ) → is_file_number m.catalog.tables.files f ≡ false
 
 -- Why a group doesn't go: it has files, and its contents aren't to go with it; it is dismounted; or it was closed before.
 abbrev pub DropGroupCause : MountedGroup → Bool → MountedGroup → BayState → BayState → Refusal → Type 0

@@ -33,8 +33,8 @@ abbrev pub first_disks : Attached → List (Option Attached)
 first_disks disk = set (replicate 64 None) 0 (Some disk)
 
 -- the register of a new group, whose first record stands on the disk of this slot
-abbrev pub first_register : ℕ → Plan → Registered
-first_register slot plan = record { id = plan.id; members = Some (first_member slot) ∷ replicate 63 None; value = record_of_plan plan; epoch = 1; turn = 1; is_fresh = false }
+abbrev pub new_group_register : ℕ → Plan → Registered
+new_group_register slot plan = record { id = plan.id; members = Some (first_member slot) ∷ replicate 63 None; value = record_of_plan plan; epoch = 1; turn = 1; is_fresh = false }
 
 -- the disk in the slot says what one does that has all parts of the plan's group
 abbrev pub SaysAll : ℕ → Plan → Image → Type 0
@@ -59,7 +59,7 @@ pub record IsMountedOnSlot (slot : ℕ) (plan : Plan) (m : MountedGroup) (state 
   pub whole : IsWhole m
   pub ready : IsReady m state
   -- its parts are those that were written
-  pub register : m.register ≡ first_register slot plan
+  pub register : m.register ≡ new_group_register slot plan
   pub copies : m.store.copies ≡ first_copy slot ∷ []
   pub items : (items : List Item) → AreItemsOf m.catalog.tables items → items ≡ items_of_plan plan
   pub history : KeepsStanding m.register state

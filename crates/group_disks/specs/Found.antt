@@ -25,22 +25,22 @@ pub record IsSlotOfPath (paths : List Bytes) (path : Bytes) (slot : ℕ) : Type 
   pub is : get_or paths slot [] ≡ path
 
 -- what the disks held at first, where the bay tells at first and at last what they hold
-abbrev pub Told : Counts → Counts → (Image → Type 0) → Type 0
-Told s t P = ToldOf s.holds t.holds P
+abbrev pub ToldByCounts : Counts → Counts → (Image → Type 0) → Type 0
+ToldByCounts s t P = ToldOf s.holds t.holds P
 
 -- the ids that were read are those of headers
 pub record AreIdsRead (ids : List ℕ) (s t : Counts) : Type 0 where
-  pub each : (i : ℕ) → i < length ids → Told s t (λ image. (slot : ℕ) × (h : Header) × (header_in image slot ≡ Some h) × (h.id ≡ get_or ids i 0))
+  pub each : (i : ℕ) → i < length ids → ToldByCounts s t (λ image. (slot : ℕ) × (h : Header) × (header_in image slot ≡ Some h) × (h.id ≡ get_or ids i 0))
 
 -- each header that is told, of an image of the first n that could be attached and whose slot didn't fail, has one of these ids
 pub record AreAllRead (n : ℕ) (ids : List ℕ) (s t : Counts) : Type 0 where
   pub each : (slot size : ℕ) → slot < n → t.attached slot ≡ Some size → (Rose (s.faults slot) (t.faults slot) → ⊥)
-      → Told s t (λ image. ForSome (header_in image slot) (λ h. Contains ids h.id))
+      → ToldByCounts s t (λ image. ForSome (header_in image slot) (λ h. Contains ids h.id))
 
 -- each header that is told, of an image that could be attached and whose slot didn't fail, was read
 pub record IsAboveAll (paths : List Bytes) (id : ℕ) (s t : Counts) : Type 0 where
   pub each : (slot size : ℕ) → slot < length paths → t.attached slot ≡ Some size → (Rose (s.faults slot) (t.faults slot) → ⊥)
-      → Told s t (λ image. ForSome (header_in image slot) (λ h. h.id < id))
+      → ToldByCounts s t (λ image. ForSome (header_in image slot) (λ h. h.id < id))
 
 -- ---- the causes of refusals
 
@@ -52,7 +52,7 @@ NoDiskCause paths path s t = ((slot : ℕ) → IsSlotOfPath paths path slot → 
 pub record DiskTakenCause (paths : List Bytes) (path : Bytes) (s t : Counts) : Type 0 where
   pub slot : ℕ
   pub is_slot : IsSlotOfPath paths path slot
-  pub header : Told s t (λ image. header_in image slot ≢ None)
+  pub header : ToldByCounts s t (λ image. header_in image slot ≢ None)
 
 -- TooSmall: the disk has fewer units of 1 MB than are needed.
 pub record TooSmallCause (paths : List Bytes) (need : ℕ) (s t : Counts) : Type 0 where

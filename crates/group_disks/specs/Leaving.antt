@@ -33,7 +33,7 @@ pub record ClaimsGroup (n : ℕ) (q : Quorate) (s t : BayState) : Type 0 where
 -- What calls of a mount leave that was refused: nothing was written, or the group was read and claimed.
 pub data LeavesClaimed {B : Type 0} (state : B → BayState) (name : Bytes) (n : ℕ) (held : List ℕ) (option : MountOption) (s t : BayState) : Type 0 where
   looked : Runs (λ slot. slot < n) Same s t → LeavesClaimed state name n held option s t
-  claimed : (was : WasQuorate state name n held option s) → ClaimsGroup n was.quorum s t → LeavesClaimed state name n held option s t
+  claimed_group : (was : WasQuorate state name n held option s) → ClaimsGroup n was.quorum s t → LeavesClaimed state name n held option s t
 
 -- ---- once the record is written
 

@@ -10,13 +10,13 @@ use Rattle.bay.specs.declared.fault.BayError.TheVariants.{Fault}
 use Rattle.asm_formats.specs.Header.{Header, decoded_header}
 use Rattle.asm_images.specs.Kept.{header_in}
 use Rattle.group_engine.specs.Frames.{StaysAttached}
-use Rattle.group_disks.specs.Found.{AreAllRead, AreIdsRead, Told, counts_of}
+use Rattle.group_disks.specs.Found.{AreAllRead, AreIdsRead, ToldByCounts, counts_of}
 use Rattle.group_disks.specs.Probes.{IsShown, ids_of}
 use Rattle.group_disks.specs.declared.find.Probe.{Probe}
 
 -- the open header of the disk in a slot is this
 abbrev pub IsHeaderTold : ℕ → Option Header → BayState → BayState → Type 0
-IsHeaderTold slot header s t = Told (counts_of s) (counts_of t) (λ image. header_in image slot ≡ header)
+IsHeaderTold slot header s t = ToldByCounts (counts_of s) (counts_of t) (λ image. header_in image slot ≡ header)
 
 -- the block behind the header's gate is the spelling of this one, or of none
 abbrev pub IsDecoded : ℕ → Option Header → BayState → BayState → Type 0

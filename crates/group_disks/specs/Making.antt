@@ -10,14 +10,14 @@ use Rattle.asm_formats.specs.Header.{Header}
 use Rattle.asm_images.specs.Kept.{header_in}
 use Rattle.group_mount.specs.disk_images.declared.looking.Looked.{Looked}
 use Rattle.group_mount.specs.disk_images.declared.looking.Looked.TheVariants as look
-use Rattle.group_disks.specs.Found.{Counts, IsSlotOfPath, NoDiskCause, Told, counts_of}
+use Rattle.group_disks.specs.Found.{Counts, IsSlotOfPath, NoDiskCause, ToldByCounts, counts_of}
 use Rattle.group_disks.specs.Holding.{IsHeldSlot}
 
 -- the disk is attached to another group, or was a member of one
 pub record IsDiskTaken (paths : List Bytes) (path : Bytes) (held : List ℕ) (s t : Counts) : Type 0 where
   pub slot : ℕ
   pub is_slot : IsSlotOfPath paths path slot
-  pub by : IsHeldSlot held slot ⊎ Told s t (λ image. header_in image slot ≢ None)
+  pub by : IsHeldSlot held slot ⊎ ToldByCounts s t (λ image. header_in image slot ≢ None)
 
 -- the image was attached, and its slot failed
 pub record IsImageUnread (paths : List Bytes) (path : Bytes) (s t : Counts) : Type 0 where
@@ -53,7 +53,7 @@ pub record IsImageMade (paths : List Bytes) (path : Bytes) (held : List ℕ) (si
   pub slot : ℕ
   pub is_slot : IsSlotOfPath paths path slot
   pub apart : IsHeldSlot held slot → ⊥
-  pub free : Rose (s.faults slot) (t.faults slot) ⊎ Told (counts_of s) (counts_of t) (λ image. header_in image slot ≡ None)
+  pub free : Rose (s.faults slot) (t.faults slot) ⊎ ToldByCounts (counts_of s) (counts_of t) (λ image. header_in image slot ≡ None)
   pub attached : t.attached slot ≡ Some size
   pub made : Ends (Makes slot size) s t
 

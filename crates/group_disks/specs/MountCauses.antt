@@ -28,7 +28,7 @@ use Rattle.status_register.specs.declared.member.Member.{Member}
 use Rattle.status_table.specs.Changes.{majority_of}
 use Rattle.group_mount.specs.Alike.{clashes}
 use Rattle.group_mount.specs.Missing.{is_disk_of}
-use Rattle.group_mount.specs.NamedCopies.{copy_of, is_named_copy}
+use Rattle.group_mount.specs.NamedCopies.{directory_copy_of, is_named_copy}
 use Rattle.group_mount.specs.Quorum.{IsCatalogIn, IsFaultPlace}
 use Rattle.group_mount.specs.Recovering.{is_own}
 use Rattle.group_mount.specs.Verdicts.{member_of}
@@ -37,7 +37,7 @@ use Rattle.group_mount.specs.declared.error.MountError.TheVariants as error
 use Rattle.group_mount.specs.declared.finding.Headed.{Headed}
 use Rattle.group_mount.specs.declared.quorum.MountOption.{MountOption}
 use Rattle.group_mount.specs.declared.quorum.MountOption.TheVariants.{NoForce}
-use Rattle.group_disks.specs.Found.{Counts, Told, counts_of}
+use Rattle.group_disks.specs.Found.{Counts, ToldByCounts, counts_of}
 use Rattle.group_disks.specs.Holding.{IsHeldSlot}
 use Rattle.group_disks.specs.Mounting.{IsMountCause}
 
@@ -103,7 +103,7 @@ pub record IsRecordRead (l : Look) (id : ℕ) (r : Status) : Type 0 where
 
 -- Directories were read: each of their copies is one that the record names, and has them.
 pub record AreDirectories (l : Look) (id : ℕ) (r : Status) (record_ : IsRecordRead l id r) (store : Stored) : Type 0 where
-  pub copies : (c : DirCopy) → IsAmong store.copies c → (d : Headed) × IsHeadedDisk l d × (is_named_copy id record_.read r d ≡ true) × (c ≡ copy_of d)
+  pub copies : (c : DirCopy) → IsAmong store.copies c → (d : Headed) × IsHeadedDisk l d × (is_named_copy id record_.read r d ≡ true) × (c ≡ directory_copy_of d)
   pub page : ℕ → Bytes
   pub shows : Shows store.table page
   pub kept : AreKept store.copies store.due store.number page l.image
@@ -157,7 +157,7 @@ pub data DamagedCause (l : Look) (id slot block : ℕ) : Type 0 where
   stranger : (d other : Headed) → IsHeadedDisk l d → IsHeadedDisk l other → d.slot ≢ other.slot → d.header.id ≡ id → clashes d other ≡ true → slot ≡ other.slot → block ≡ 1
       → DamagedCause l id slot block
   copy : (r : Status) (record_ : IsRecordRead l id r) (d : Headed) → IsHeadedDisk l d → is_named_copy id record_.read r d ≡ true → slot ≡ d.slot
-      → HasDamage (copy_of d) (Some block) l.image ⊎ HasTwins (copy_of d) block l.image → DamagedCause l id slot block
+      → HasDamage (directory_copy_of d) (Some block) l.image ⊎ HasTwins (directory_copy_of d) block l.image → DamagedCause l id slot block
   fault : (r : Status) (record_ : IsRecordRead l id r) (store : Stored) (shape : Shape) → AreDirectories l id r record_ store → IsFaultPlace store r shape slot block
       → DamagedCause l id slot block
 
@@ -165,7 +165,7 @@ pub data DamagedCause (l : Look) (id slot block : ℕ) : Type 0 where
 pub record DirectoriesLostCause (l : Look) (id : ℕ) : Type 0 where
   pub value : Status
   pub record_ : IsRecordRead l id value
-  pub shut : (d : Headed) → IsDiskThere l d → is_named_copy id record_.read value d ≡ true → AreShut (copy_of d) l.image
+  pub shut : (d : Headed) → IsDiskThere l d → is_named_copy id record_.read value d ≡ true → AreShut (directory_copy_of d) l.image
 
 -- MissingDisks: the disk of an entry that would serve isn't there, and by the directories has this name.
 pub record MissingDisksCause (l : Look) (id : ℕ) (name : Bytes) : Type 0 where
@@ -203,7 +203,7 @@ IsMountRefused paths name force other l = ⊥
 
 -- the same by what is counted: of what the disks held, where the bay tells it
 abbrev pub MountRefusal : List Bytes → Bytes → Bool → r.Refusal → Counts → Counts → Type 0
-MountRefusal paths name force cause s t = Told s t (λ image. IsMountRefused paths name force cause (record { slots = length paths; before = s; after = t; image = image }))
+MountRefusal paths name force cause s t = ToldByCounts s t (λ image. IsMountRefused paths name force cause (record { slots = length paths; before = s; after = t; image = image }))
 
 -- ---- the law
 

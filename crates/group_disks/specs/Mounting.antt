@@ -93,14 +93,14 @@ pub record IsRecovered {B : Type 0} (state : B → BayState) (name : Bytes) (n :
 -- ---- causes
 
 -- the first of the disks of the id has the name
-abbrev pub has_name : FoundDisks → Bytes → Bool
-has_name found name = is_named (name_in found.id found.headed) name
+abbrev pub has_group_name : FoundDisks → Bytes → Bool
+has_group_name found name = is_named (name_in found.id found.headed) name
 
 -- Of the id that was found, each disk of the name is one of others.
 pub record AreOthers (name : Bytes) (n : ℕ) (held : List ℕ) (s t : BayState) : Type 0 where
   pub found : FoundDisks
   pub is : IsFound name n found s t
-  pub none : has_name (free_disks held found) name ≡ false
+  pub none : has_group_name (free_disks held found) name ≡ false
 
 -- The group was found and isn't quorate: between the search and this the bay was in this state. Nothing was written.
 pub record IsNotQuorate {B : Type 0} (state : B → BayState) (name : Bytes) (n : ℕ) (held : List ℕ) (option : MountOption) (s t : BayState) (e : MountError) : Type 0 where

@@ -2,11 +2,11 @@
 use Rattle.std.specs.Prelude.{◌≡◌, ◌==◌, ℕ, ◌^◌, ◌<◌, ◌≤◌, true, false, List, [], ◌∷◌, Some}
 use Rattle.asm_group.specs.declared.Mode.TheVariants.{Online}
 use Rattle.asm_group.specs.Names.{Bytes, is_name}
-use Rattle.asm_base.specs.Records.{Entry as Keyed}
+use Rattle.asm_base.specs.Records.{DirectoryRecord as Keyed}
 use Rattle.asm_formats.specs.Header.{Header, header_spelling}
 use Rattle.asm_formats.specs.Claim.{Claim, claim_spelling}
 use Rattle.asm_formats.specs.Status.{Status, Entry, status_spelling}
-use Rattle.asm_formats.specs.Items.{Item, key, disk_item}
+use Rattle.asm_formats.specs.Items.{Item, item_key, disk_item}
 use Rattle.asm_formats.specs.Values.{value}
 use Rattle.asm_formats.specs.Content.{Content}
 use Rattle.asm_formats.specs.Metadata.{Metadata}
@@ -77,7 +77,7 @@ content_of_plan plan = record { commit = 1; items = Some (items_of_plan plan) }
 -- they are put into nothing, each as its key and its value
 abbrev pub first_entries : Plan → List Keyed
 first_entries plan =
-    (key (disk_of_plan plan), value (disk_of_plan plan)) ∷ (key first_templates, value first_templates) ∷ (key first_settings, value first_settings) ∷ []
+    (item_key (disk_of_plan plan), value (disk_of_plan plan)) ∷ (item_key first_templates, value first_templates) ∷ (item_key first_settings, value first_settings) ∷ []
 
 -- ---- the bodies behind the disk's gates
 

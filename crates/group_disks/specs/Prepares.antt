@@ -7,7 +7,7 @@ use Rattle.asm_base.specs.Refusals.{said}
 use Rattle.asm_group.specs.Names.{Bytes}
 use Rattle.asm_images.specs.Kept.{header_in}
 use Rattle.group_engine.specs.declared.attached.Attached.{Attached}
-use Rattle.group_disks.specs.Found.{IsSlotOfPath, RefusalCause, Told, counts_of}
+use Rattle.group_disks.specs.Found.{IsSlotOfPath, RefusalCause, ToldByCounts, counts_of}
 use Rattle.group_disks.specs.Looks.{LooksAtAll}
 use Rattle.group_disks.specs.Planned.{IsGroupPlan}
 use Rattle.group_disks.specs.Ready.{AreBodies, HasRoom}
@@ -45,7 +45,7 @@ pub record IsReadyFor (asked : AskedCreation) (ids : List ℕ) (ready : Ready) (
   -- the image is attached and long enough, and has no open header
   pub size : t.attached ready.slot ≡ Some ready.size
   pub room : HasRoom ready.slot ready.group.units t
-  pub free : Told (counts_of s) (counts_of t) (λ image. header_in image ready.slot ≡ None)
+  pub free : ToldByCounts (counts_of s) (counts_of t) (λ image. header_in image ready.slot ≡ None)
 
 -- The images are looked at, and the new group is made ready.
 pub record Prepares (asked : AskedCreation) (result : Result Ready Refusal) (ids : List ℕ) (s t : BayState) : Type 0 where

@@ -10,7 +10,7 @@ use Rattle.asm_base.specs.Refusals.{said}
 use Rattle.asm_formats.specs.Header.{Header}
 use Rattle.asm_formats.specs.Regions.{most_units}
 use Rattle.asm_images.specs.Kept.{header_in}
-use Rattle.group_disks.specs.Found.{Counts, Told}
+use Rattle.group_disks.specs.Found.{Counts, ToldByCounts}
 use Rattle.group_disks.specs.declared.find.Probe.{Probe}
 use Rattle.group_disks.specs.declared.find.Probe.TheVariants as probe
 
@@ -22,7 +22,7 @@ id_in image slot = option_map (λ (h : Header). h.id) (header_in image slot)
 abbrev pub IsShown : ℕ → Probe → Counts → Counts → Type 0
 IsShown slot probe.Absent s t = Rose (s.faults slot) (t.faults slot)
 IsShown slot (probe.Unread size) s t = (t.attached slot ≡ Some size) × Rose (s.faults slot) (t.faults slot)
-IsShown slot (probe.Read size id) s t = (t.attached slot ≡ Some size) × Told s t (λ image. id_in image slot ≡ id)
+IsShown slot (probe.Read size id) s t = (t.attached slot ≡ Some size) × ToldByCounts s t (λ image. id_in image slot ≡ id)
 
 -- the id that a look has shown
 abbrev pub ids_of : Probe → List ℕ

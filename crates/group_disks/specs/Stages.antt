@@ -5,7 +5,7 @@ use Rattle.change_directory.specs.declared.copy.DirCopy.{DirCopy}
 use Rattle.change_directory.specs.Changes.{content_in}
 use Rattle.change_directory.specs.Formatting.{AreShut}
 use Rattle.disk_forming.specs.Gates.{MayCloseAll}
-use Rattle.disk_forming.specs.Forming.{Shows, MetaOf}
+use Rattle.disk_forming.specs.Forming.{ShowsBodies, MetaOf}
 use Rattle.group_disks.specs.Planned.{Plan, content_of_plan, header_body, claim_body, status_body}
 
 -- ---- the directory copy
@@ -26,14 +26,14 @@ HasNoneOrFirst slot plan image = (content_in (first_copy slot) image ≡ None) �
 
 -- The parts come in this order: header, directory copy, claim, status record.
 pub data IsForming (slot : ℕ) (plan : Plan) (image : Image) : Type 0 where
-  bare : Shows slot 512 None None None image → IsForming slot plan image
-  headed : Shows slot 512 (Some (header_body plan)) None None image → HasNoneOrFirst slot plan image → IsForming slot plan image
-  claimed : Shows slot 512 (Some (header_body plan)) (Some (claim_body plan)) None image → HasFirst slot plan image → IsForming slot plan image
-  whole : Shows slot 512 (Some (header_body plan)) (Some (claim_body plan)) (Some (status_body plan)) image → HasFirst slot plan image → IsForming slot plan image
+  not_yet_formed : ShowsBodies slot 512 None None None image → IsForming slot plan image
+  formed_to_header : ShowsBodies slot 512 (Some (header_body plan)) None None image → HasNoneOrFirst slot plan image → IsForming slot plan image
+  formed_to_claim : ShowsBodies slot 512 (Some (header_body plan)) (Some (claim_body plan)) None image → HasFirst slot plan image → IsForming slot plan image
+  fully_formed : ShowsBodies slot 512 (Some (header_body plan)) (Some (claim_body plan)) (Some (status_body plan)) image → HasFirst slot plan image → IsForming slot plan image
 
 -- all parts are there
 pub record HasAllParts (slot : ℕ) (plan : Plan) (image : Image) : Type 0 where
-  pub shows : Shows slot 512 (Some (header_body plan)) (Some (claim_body plan)) (Some (status_body plan)) image
+  pub shows : ShowsBodies slot 512 (Some (header_body plan)) (Some (claim_body plan)) (Some (status_body plan)) image
   pub content : HasFirst slot plan image
 
 -- the disk has its parts up to one of them, and nothing behind its directory region has changed
@@ -54,6 +54,6 @@ pub record HasFormed (slot : ℕ) (plan : Plan) (old new : Image) : Type 0 where
 
 -- The disk, which has 25 units at least, has its header, and no log slot is open.
 pub record IsHeaded (slot : ℕ) (plan : Plan) (image : Image) : Type 0 where
-  pub shows : Shows slot 512 (Some (header_body plan)) None None image
+  pub shows : ShowsBodies slot 512 (Some (header_body plan)) None None image
   pub shut : AreShut (first_copy slot) image
   pub room : 26214400 ≤ image.size slot

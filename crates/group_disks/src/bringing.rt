@@ -2,7 +2,7 @@
 ghost use Rattle.std.specs.Prelude.{◌≡◌, ◌+◌, ◌*◌, ◌<◌, ◌≤◌, None, Some, get_or, OnOk, IfErr};
 ghost use Rattle.asm_base.specs.declared.refusal.Refusal.TheVariants.{NoMemory as WithoutMemory};
 ghost use Rattle.asm_formats.specs.Regions.{has_region};
-ghost use Rattle.group_disks.specs.Bringing.{HasNamedCopies, BringsCopiesUp, BringsCopyUp, is_named};
+ghost use Rattle.group_disks.specs.Bringing.{HasNamedCopies, BringsCopiesUp, BringsCopyUp, has_named_copy};
 ghost use Rattle.group_engine.specs.Mounts.{IsMounted, Takes};
 ghost use Rattle.group_engine.specs.declared.attached.Attached.{Attached as AttachedDisk};
 ghost use Rattle.status_register.specs.Registered.{AreNumbered};
@@ -17,7 +17,7 @@ use std::alloc::Global;
 
 /// Whether a record names the directory copy of a disk.
 fn is_named(status: &PstRecord, disk: Member) -> bool
-    ensures { result ≡ is_named status.now disk }
+    ensures { result ≡ has_named_copy status.now disk }
 {
     status.dirs.has(disk.number) && is_of_entry(status.entries(), disk)
 }

@@ -56,7 +56,7 @@ use Rattle.status_register.specs.Surveys.{disk_in}
 use Rattle.status_register.proofs.Elsewhere as register_proofs
 use Rattle.status_register.proofs.Holding.{entry_birth}
 use Rattle.group_engine.specs.Becoming.{HoldsIn}
-use Rattle.group_engine.specs.CommitSteps.{content_of, ChangesRegion, IsCommitting, Becomes}
+use Rattle.group_engine.specs.CommitSteps.{content_of_items, ChangesRegion, IsCommitting, Becomes}
 use Rattle.group_engine.specs.Copying.{IsOneMore, IsWith}
 use Rattle.group_engine.specs.Mounts.{MountedGroup, IsWhole, Mounts}
 use Rattle.group_engine.specs.Recorded.{MayBeWritten, MayGet}
@@ -179,9 +179,9 @@ module _ (n : ℕ) (m : MountedGroup) (whole : IsWhole m) (g : Group) (shape : g
   -- ---- what the image stands for
 
   module _ (items : List Item) (are : AreItemsOf m.catalog.tables items) (describes : DescribesGroup r items g) (holds : HoldsIn id r m.catalog.tables g x)
-      (had : (q : DirCopy) → IsAmong m.store.copies q → content_in q x ≡ Some (content_of m.store.number items)) where
+      (had : (q : DirCopy) → IsAmong m.store.copies q → content_in q x ≡ Some (content_of_items m.store.number items)) where
     abbrev content : Content
-    content = content_of m.store.number items
+    content = content_of_items m.store.number items
 
     -- each copy that the record names has the content still
     old_have : (slots : ℕ) (k : Member) → IsAmong (all_members id (disks_in slots y)) k → IsNamed r k.header → k.disk.content ≡ Some content
@@ -193,7 +193,7 @@ module _ (n : ℕ) (m : MountedGroup) (whole : IsWhole m) (g : Group) (shape : g
         ap (λ (t : Metadata). t.content) seen.disk ∙ ap (λ (bytes : List ℕ). (metadata bytes).content) same
         ∙ slot_content n m whole g shape kept x of x k.slot k.header placed.copy header placed.slot_is placed.pages ∙ had placed.copy placed.among
 
-    is_bringing : (slots : ℕ) → IsCommitting id r content (content_of (suc m.store.number) items) (disks_in slots x) (disks_in slots y)
+    is_bringing : (slots : ℕ) → IsCommitting id r content (content_of_items (suc m.store.number) items) (disks_in slots x) (disks_in slots y)
     is_bringing slots = record {
       size = listed slots y ∙ sym (listed slots x);
       disks = λ slot lt.
@@ -226,7 +226,7 @@ module _ (n : ℕ) (m : MountedGroup) (whole : IsWhole m) (g : Group) (shape : g
       sound = λ slots. widen_keeps id (disks_in slots y) (g ∷ g ∷ []) (g ∷ []) (Some r) []
           (committing_is_sound id m.store.number (suc m.store.number) r g g items items (disks_in slots x) (disks_in slots y) (λ same. omega (arith, same)) (sound slots) (becomes slots) (is_bringing slots))
           (λ k among. ⊎_elim (λ e. inl e) (λ other. other) among);
-      standing = committing_is_standing id kept.slots r (g ∷ []) content (content_of (suc m.store.number) items) (disks_in n x) (disks_in n y) (sound n) (is_bringing n) of.is_held.standing;
+      standing = committing_is_standing id kept.slots r (g ∷ []) content (content_of_items (suc m.store.number) items) (disks_in n x) (disks_in n y) (sound n) (is_bringing n) of.is_held.standing;
       there = λ slot has. let is = of.is_held.there slot has in (is.0, same_header slot ∙ is.1, is.2);
     }
 

@@ -29,7 +29,7 @@ use Rattle.rebalance.proofs.catalog_laws.ItemLists.{items_say}
 use Rattle.rebalance.specs.extent_map.Extents.{Chunked, chunk_at}
 use Rattle.rebalance.specs.staleness_directory.Marks.{Marked}
 use Rattle.group_engine.specs.Becoming.{HoldsIn, SameBytesHold}
-use Rattle.group_engine.specs.CommitSteps.{content_of}
+use Rattle.group_engine.specs.CommitSteps.{content_of_items}
 use Rattle.group_engine.specs.Mounts.{MountedGroup, Mounts}
 use Rattle.group_engine.proofs.Calls.{image_of, items, was}
 use Rattle.group_engine.proofs.Committing.{held_before}
@@ -91,7 +91,7 @@ module _ (n : ℕ) (m : MountedGroup) (s : BayState) (g : Group) (kept : Kept) (
         let its = items n m s g kept mounts in
         let content = was n m s g kept mounts x left in
         let c = is_committing n m mounts.whole g mounts.represents.shape kept x of x (record { size = λ a. refl; byte = λ a j out. refl }) m.store.number m.store.number its.0 its.0 content (λ a among. inl (content a among)) b in
-        let d = held_before id r (content_of m.store.number its.0) (content_of m.store.number its.0) (disks_in b x) (disks_in b x) c g (of.is_held.sound b) mounts.whole.alive held.0 k named in
+        let d = held_before id r (content_of_items m.store.number its.0) (content_of_items m.store.number its.0) (disks_in b x) (disks_in b x) c g (of.is_held.sound b) mounts.whole.alive held.0 k named in
         let same : d.items ≡ mine = same_Some d.items its.0 (sym d.decodes) ∙ items_are_one m.catalog.tables its.0 mine its.1 are in
         λ f o v i inner copy file home a is_file cell lies among current.
         let seen = member_seen id slots x a among in

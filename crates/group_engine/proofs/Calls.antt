@@ -22,7 +22,7 @@ use Rattle.directory_store.specs.Stores.{Stored, HaveRecords, HaveEitherRecords}
 use Rattle.directory_store.proofs.Storing.{kept_have_records}
 use Rattle.status_register.specs.Holders.{numbered}
 use Rattle.group_engine.specs.Becoming.{HoldsIn, LeadsToGroup}
-use Rattle.group_engine.specs.CommitSteps.{content_of}
+use Rattle.group_engine.specs.CommitSteps.{content_of_items}
 use Rattle.group_engine.specs.Mounts.{MountedGroup, Mounts}
 use Rattle.group_engine.proofs.Images.{IsImageOf, on_its_way, come, both_may, one_may}
 use Rattle.group_engine.proofs.Items.{content_is}
@@ -55,7 +55,7 @@ module _ (n : ℕ) (m : MountedGroup) (s : BayState) (g : Group) (kept : Kept) (
   pub items : (i : List Item) × AreItemsOf m.catalog.tables i
   items = have_items m.catalog.tables mounts.whole.are_tables
 
-  pub was : (x : bay.Image) → s.leaves s.calls x → (c : DirCopy) → IsAmong m.store.copies c → content_in c x ≡ Some (content_of m.store.number items.0)
+  pub was : (x : bay.Image) → s.leaves s.calls x → (c : DirCopy) → IsAmong m.store.copies c → content_in c x ≡ Some (content_of_items m.store.number items.0)
   was x left c among = content_is m.store.table m.store.number m.catalog.tables items.0 c x mounts.whole.are_tables mounts.whole.tables items.1
       ((kept_have_records m.store s mounts.ready.store).now x left c among)
 
@@ -67,11 +67,11 @@ module _ (n : ℕ) (m : MountedGroup) (s : BayState) (g : Group) (kept : Kept) (
     differ : m.store.number ≢ new.number
     differ same = omega (arith, same, tried.number)
 
-    after_content : (c : DirCopy) (y : bay.Image) → HasCopyRecords new.table new.number c y → content_in c y ≡ Some (content_of new.number later.0)
+    after_content : (c : DirCopy) (y : bay.Image) → HasCopyRecords new.table new.number c y → content_in c y ≡ Some (content_of_items new.number later.0)
     after_content c y has = content_is new.table new.number u later.0 c y tried.are tried.tables later.1 has
 
     either_content : (y : bay.Image) → HaveEitherRecords m.store new y → (c : DirCopy) → IsAmong m.store.copies c
-        → (content_in c y ≡ Some (content_of m.store.number items.0)) ⊎ (content_in c y ≡ Some (content_of new.number later.0))
+        → (content_in c y ≡ Some (content_of_items m.store.number items.0)) ⊎ (content_in c y ≡ Some (content_of_items new.number later.0))
     either_content y has c among = ⊎_elim
         (λ b. inl (content_is m.store.table m.store.number m.catalog.tables items.0 c y mounts.whole.are_tables mounts.whole.tables items.1 b))
         (λ a. inr (after_content c y a)) (has c among)

@@ -26,7 +26,7 @@ use Rattle.status_register.specs.Rows.{PutsRow, no_put, one_put}
 use Rattle.status_register.specs.Slots.{status_gate}
 use Rattle.status_register.specs.Surveys.{AreRead}
 use Rattle.status_register.specs.Tallies as tallies
-use Rattle.status_register.specs.Writes.{IsLost, IsWriteAnswer}
+use Rattle.status_register.specs.Writes.{IsLostMember, IsWriteAnswer}
 use Rattle.status_register.specs.declared.error.Dead.{Dead}
 use Rattle.status_register.specs.declared.member.Member.{Member}
 use Rattle.status_register.proofs.Holding.{among_below}
@@ -253,7 +253,7 @@ module _ {a b : MountedGroup} {s t : BayState} (keeps : KeepsGroup a b s t) (u :
     read = still_read (λ (j : ℕ). Rose (t.faults j) (u.faults j)) (λ (j : ℕ). Rose (s.faults j) (u.faults j)) rises_on (attached_to a.register.members next) lost.took
         (subst (λ (l : List (Option Member)). AreRead (λ (k : ℕ). Rose (t.faults k) (u.faults k)) (attached_to l next) lost.took) keeps.same.members lost.read);
     disk = lost.disk;
-    lost = subst (λ (l : List (Option Member)). IsLost (attached_to l next) lost.took (sets next) lost.disk) keeps.same.members lost.lost;
+    lost = subst (λ (l : List (Option Member)). IsLostMember (attached_to l next) lost.took (sets next) lost.disk) keeps.same.members lost.lost;
     at = lost.at;
   }
 

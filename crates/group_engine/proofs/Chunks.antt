@@ -16,14 +16,14 @@ use Rattle.asm_formats.specs.Among.{IsAmong}
 use Rattle.asm_placement.specs.Naming.{is_pending}
 use Rattle.rebalance.specs.catalog.ExtentPlans.{IsUndue}
 use Rattle.rebalance.specs.catalog.Plans.{AreOwned}
-use Rattle.rebalance.specs.catalog_tables.Rules.{first_wrong, is_due, is_owned}
+use Rattle.rebalance.specs.catalog_tables.Rules.{first_wrong, head_has_extent, is_owned}
 use Rattle.rebalance.specs.catalog_tables.Tables.{Tables}
 use Rattle.rebalance.proofs.catalog.NumberedEntries.{passes_where}
 use Rattle.rebalance.proofs.catalog_tables.TableItems.{below, chunks_exact, found_is, some_found, tail_up}
 use Rattle.rebalance.specs.extent_map.Extents.{Chunked, chunk_at, chunks_from, has_extent, has_home}
-use Rattle.asm_base.specs.Chunks.{Chunk, chunk_cmp, is_before}
+use Rattle.asm_base.specs.Chunks.{Chunk, chunk_cmp, is_chunk_before}
 use Rattle.rebalance.proofs.extent_map.Laws.{chunk_total}
-use Rattle.rebalance.specs.file_directory.Files.{is_file}
+use Rattle.rebalance.specs.file_directory.Files.{is_file_number}
 use Rattle.group_engine.specs.Pending.{HasAtMost, first_key, without_pending}
 
 -- ---- the order
@@ -94,7 +94,7 @@ record IsFirst (es : List Chunked) (from : Chunk) (x : Chunk) : Type 0 where
   behind : IsFrom from key
   before : IsFrom key x
 
-first_least : (es : List Chunked) → Ascend is_before es → (from : Chunk) (x : Chunked) → IsAmong es x → IsFrom from x.0 → IsFirst es from x.0
+first_least : (es : List Chunked) → Ascend is_chunk_before es → (from : Chunk) (x : Chunked) → IsAmong es x → IsFrom from x.0 → IsFirst es from x.0
 first_least [] up from x h is = absurd h
 first_least (y ∷ es) up from x h is =
     go (is_in from y.0) refl refl (λ later. first_least es (tail_up chunk_cmp chunk_total chunks_exact y es up) from x later is)
@@ -117,7 +117,7 @@ first_least (y ∷ es) up from x h is =
 
 -- ---- one chunk
 
-module _ (es : List Chunked) (up : Ascend is_before es) (at : Chunk) where
+module _ (es : List Chunked) (up : Ascend is_chunk_before es) (at : Chunk) where
   pub seen_first : (w : List Homes) → chunk_at es at ≡ Some w → first_key (chunks_from es at) ≡ Some at
   seen_first w is =
       let first = first_least es up at (at, w) (found_is chunk_cmp chunk_total chunks_exact at es w is) (ap is_le (itself at)) in
@@ -138,20 +138,20 @@ module _ (es : List Chunked) (up : Ascend is_before es) (at : Chunk) where
       go (Some w) v = absurd (other (sym is ∙ seen_first w v))
 
 -- the first chunk from one on is one of the same file, or of another, or none is there
-pub same_seen : (es : List Chunked) → Ascend is_before es → (at k : Chunk) → first_key (chunks_from es at) ≡ Some k → k.0 ≡ at.0 → (k.1 == at.1) ≡ is_some (chunk_at es at)
+pub same_seen : (es : List Chunked) → Ascend is_chunk_before es → (at k : Chunk) → first_key (chunks_from es at) ≡ Some k → k.0 ≡ at.0 → (k.1 == at.1) ≡ is_some (chunk_at es at)
 same_seen es up at k is file = ⊎_elim
     (λ (same : k.1 ≡ at.1). eq-eqb k.1 at.1 same ∙ sym (first_seen es up at (is ∙ ap (λ (c : Chunk). Some c) (λ i. (file i, same i)))))
     (λ differ. ne_eqb k.1 at.1 differ ∙ sym (not_seen es up at (Some k) is (λ e. differ (ap (λ (c : Chunk). c.1) (same_Some k at e)))))
     (cases_eq k.1 at.1)
 
-pub other_seen : (es : List Chunked) → Ascend is_before es → (at k : Chunk) → first_key (chunks_from es at) ≡ Some k → (k.0 ≡ at.0 → ⊥) → (k.0 == at.0) ≡ is_some (chunk_at es at)
+pub other_seen : (es : List Chunked) → Ascend is_chunk_before es → (at k : Chunk) → first_key (chunks_from es at) ≡ Some k → (k.0 ≡ at.0 → ⊥) → (k.0 == at.0) ≡ is_some (chunk_at es at)
 other_seen es up at k is file = ne_eqb k.0 at.0 file ∙ sym (not_seen es up at (Some k) is (λ e. file (ap (λ (c : Chunk). c.0) (same_Some k at e))))
 
-pub none_seen : (es : List Chunked) → Ascend is_before es → (at : Chunk) → first_key (chunks_from es at) ≡ None → false ≡ is_some (chunk_at es at)
+pub none_seen : (es : List Chunked) → Ascend is_chunk_before es → (at : Chunk) → first_key (chunks_from es at) ≡ None → false ≡ is_some (chunk_at es at)
 none_seen es up at is = sym (not_seen es up at None is (λ e. none-some at e))
 
 -- the first chunk from a file's first on is that of another file, or there is none: the file has no chunk
-pub no_chunk_of : (es : List Chunked) → Ascend is_before es → (f : ℕ) (o : Option Chunk) → first_key (chunks_from es (f, 0)) ≡ o → ((k : Chunk) → o ≡ Some k → k.0 ≡ f → ⊥)
+pub no_chunk_of : (es : List Chunked) → Ascend is_chunk_before es → (f : ℕ) (o : Option Chunk) → first_key (chunks_from es (f, 0)) ≡ o → ((k : Chunk) → o ≡ Some k → k.0 ≡ f → ⊥)
     → (x : Chunked) → IsAmong es x → x.0.0 ≡ f → ⊥
 no_chunk_of es up f o is other x h of =
     let from : IsFrom (f, 0) x.0 = subst (λ (g : ℕ). IsFrom (g, 0) x.0) of (first_of_file x.0.0 x.0.1) in
@@ -175,33 +175,33 @@ pub undue_from : (s : Shape) (o : Option FileHead) (kept n from : ℕ) → HasAt
 undue_from s None kept n from has le = tt
 undue_from s (Some head) kept n from has le = λ i chunk place.
     ⊎_elim
-    (λ (due : is_due s head i ≡ true). let below = (has i).1 due in absurd (omega (arith, below, le, chunk, place)))
+    (λ (due : head_has_extent s head i ≡ true). let below = (has i).1 due in absurd (omega (arith, below, le, chunk, place)))
     (λ not. not)
-    (cases_Bool (is_due s head i))
+    (cases_Bool (head_has_extent s head i))
 
 -- ---- the end of the operation
 
 pub owned_without : (t : Tables) → first_wrong (is_owned t) t.extents ≡ None → t.operations.pending ≡ None → AreOwned (without_pending t)
-owned_without t owned none = passes_where (is_owned t) (is_owned (without_pending t)) t.extents (λ x h ok. ap (λ (o : Option Pending). is_file t.files x.0.0 || is_pending x.0.0 o) (sym none) ∙ ok) owned
+owned_without t owned none = passes_where (is_owned t) (is_owned (without_pending t)) t.extents (λ x h ok. ap (λ (o : Option Pending). is_file_number t.files x.0.0 || is_pending x.0.0 o) (sym none) ∙ ok) owned
 
 pub owned_then : (t : Tables) (op : Pending) → first_wrong (is_owned t) t.extents ≡ None → t.operations.pending ≡ Some op
-    → (is_file t.files op.file ≡ true) ⊎ ((x : Chunked) → IsAmong t.extents x → x.0.0 ≡ op.file → ⊥) → AreOwned (without_pending t)
+    → (is_file_number t.files op.file ≡ true) ⊎ ((x : Chunked) → IsAmong t.extents x → x.0.0 ≡ op.file → ⊥) → AreOwned (without_pending t)
 owned_then t op owned pending alone = passes_where (is_owned t) (is_owned (without_pending t)) t.extents keeps owned
   where
-    own : (x : Chunked) → IsAmong t.extents x → x.0.0 ≡ op.file → is_file t.files x.0.0 ≡ true
-    own x h of = ⊎_elim (λ file. ap (is_file t.files) of ∙ file) (λ none. absurd (none x h of)) alone
+    own : (x : Chunked) → IsAmong t.extents x → x.0.0 ≡ op.file → is_file_number t.files x.0.0 ≡ true
+    own x h of = ⊎_elim (λ file. ap (is_file_number t.files) of ∙ file) (λ none. absurd (none x h of)) alone
 
-    go : (x : Chunked) → IsAmong t.extents x → (b : Bool) → is_file t.files x.0.0 ≡ b → (b || (op.file == x.0.0)) ≡ true → is_file t.files x.0.0 ≡ true
+    go : (x : Chunked) → IsAmong t.extents x → (b : Bool) → is_file_number t.files x.0.0 ≡ b → (b || (op.file == x.0.0)) ≡ true → is_file_number t.files x.0.0 ≡ true
     go x h true is ok = is
     go x h false is ok = own x h (sym (eqb-true op.file x.0.0 ok))
 
     keeps : (x : Chunked) → IsAmong t.extents x → is_owned t x ≡ true → is_owned (without_pending t) x ≡ true
     keeps x h ok =
-        let file : is_file t.files x.0.0 ≡ true = go x h (is_file t.files x.0.0) refl (ap (λ (o : Option Pending). is_file t.files x.0.0 || is_pending x.0.0 o) (sym pending) ∙ ok) in
+        let file : is_file_number t.files x.0.0 ≡ true = go x h (is_file_number t.files x.0.0) refl (ap (λ (o : Option Pending). is_file_number t.files x.0.0 || is_pending x.0.0 o) (sym pending) ∙ ok) in
         ap (λ (b : Bool). b || false) file
 
 -- the first chunk from the file's first on is that of another file, or there is none
-pub owned_past : (t : Tables) (op : Pending) (f : ℕ) → f ≡ op.file → first_wrong (is_owned t) t.extents ≡ None → t.operations.pending ≡ Some op → Ascend is_before t.extents
+pub owned_past : (t : Tables) (op : Pending) (f : ℕ) → f ≡ op.file → first_wrong (is_owned t) t.extents ≡ None → t.operations.pending ≡ Some op → Ascend is_chunk_before t.extents
     → (k : Chunk) → first_key (chunks_from t.extents (f, 0)) ≡ Some k → OnTrue (not (k.0 == f)) (AreOwned (without_pending t))
 owned_past t op f same owned pending up k is = go (k.0 == f) refl
   where
@@ -210,6 +210,6 @@ owned_past t op f same owned pending up k is = go (k.0 == f) refl
     go false e = owned_then t op owned pending (inr (λ x h of. no_chunk_of t.extents up f (Some k) is
         (λ j j_is of_f. false≢true (sym e ∙ eq-eqb k.0 f (ap (λ (c : Chunk). c.0) (same_Some k j j_is) ∙ of_f))) x h (of ∙ sym same)))
 
-pub owned_behind : (t : Tables) (op : Pending) (f : ℕ) → f ≡ op.file → first_wrong (is_owned t) t.extents ≡ None → t.operations.pending ≡ Some op → Ascend is_before t.extents
+pub owned_behind : (t : Tables) (op : Pending) (f : ℕ) → f ≡ op.file → first_wrong (is_owned t) t.extents ≡ None → t.operations.pending ≡ Some op → Ascend is_chunk_before t.extents
     → first_key (chunks_from t.extents (f, 0)) ≡ None → AreOwned (without_pending t)
 owned_behind t op f same owned pending up is = owned_then t op owned pending (inr (λ x h of. no_chunk_of t.extents up f None is (λ j j_is of_f. none-some j j_is) x h (of ∙ sym same)))

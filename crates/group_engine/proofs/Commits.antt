@@ -9,7 +9,7 @@ use Rattle.asm_group.specs.Group.{Group}
 use Rattle.asm_formats.specs.Items.{Key}
 use Rattle.asm_formats.specs.Sets.{has_bit, elements}
 use Rattle.asm_formats.specs.Status.{Status, is_status, status_spelling}
-use Rattle.asm_base.specs.Records.{Entry}
+use Rattle.asm_base.specs.Records.{DirectoryRecord}
 use Rattle.directory_store.specs.page_map.Changes.{value_after}
 use Rattle.asm_formats.specs.Among.{IsAmong}
 use Rattle.asm_images.specs.Kept.{Kept, IsHeld}
@@ -64,7 +64,7 @@ row_region id ms body x z c (one_put a y b m among row step) =
     }
 
 -- what the catalog and the store are after a commit that was tried
-pub tried_by : (m : MountedGroup) (whole : IsWhole m) (new : Stored) (put : List Entry) (gone : List Key) (u : Tables) → IsAfter m.catalog.tables put gone u → AreAfter m.store new put gone → IsTried m new u
+pub tried_by : (m : MountedGroup) (whole : IsWhole m) (new : Stored) (put : List DirectoryRecord) (gone : List Key) (u : Tables) → IsAfter m.catalog.tables put gone u → AreAfter m.store new put gone → IsTried m new u
 tried_by m whole new put gone u after stored = record {
   are = after.tables;
   tables = λ k. after.records k ∙ ap (value_after put gone k) (whole.tables k) ∙ sym (stored.records k);
@@ -73,7 +73,7 @@ tried_by m whole new put gone u after stored = record {
 
 -- ---- the group's parts, on every bay
 
-module _ (m : MountedGroup) (whole : IsWhole m) (put : List Entry) (gone : List Key) (s t : BayState) (new : Stored) (failed : ℕ)
+module _ (m : MountedGroup) (whole : IsWhole m) (put : List DirectoryRecord) (gone : List Key) (s t : BayState) (new : Stored) (failed : ℕ)
     (commits : CommitsRecords m.store new put gone (Ok failed) s t) (cat : Catalogued) (applies : AppliesChange m.catalog cat put gone) where
   now_after : IsTried m new cat.tables
   now_after = tried_by m whole new put gone cat.tables applies.after commits.after
@@ -106,7 +106,7 @@ keeps_over_row m new next t w answer reg written keeps =
 
 -- ---- what each image is held for
 
-module _ (m : MountedGroup) (put : List Entry) (gone : List Key) (n : ℕ) (s : BayState) (g h : Group) (kept : Kept) (to : LeadsTo n m put gone s g h kept) (t : BayState)
+module _ (m : MountedGroup) (put : List DirectoryRecord) (gone : List Key) (n : ℕ) (s : BayState) (g h : Group) (kept : Kept) (to : LeadsTo n m put gone s g h kept) (t : BayState)
     (new : Stored) (answer : Result ℕ StoreError) (commits : CommitsRecords m.store new put gone answer s t) (after : AreAfter m.store new put gone) where
   abbrev r : Status
   r = m.register.value
@@ -178,7 +178,7 @@ module _ (m : MountedGroup) (put : List Entry) (gone : List Key) (n : ℕ) (s : 
     both_are : NowOnly t (IsHeld n id (g ∷ h ∷ []) (record { completed = r; begun = []; slots = kept.slots }))
     both_are = record { now = λ y left. subst (λ (k : Kept). IsHeld n id (g ∷ h ∷ []) k y) (sym (kept_is n m s g kept mounts)) ((now_of on_its_way).now y left) }
 
-    register_keeps : registers.Keeps n m.register (Some r) [] t
+    register_keeps : registers.FitsRegister n m.register (Some r) [] t
     register_keeps = register_stays n m commits.runs mounts.register
 
     long : NowOnly t (AreLong ms)
@@ -203,8 +203,8 @@ module _ (m : MountedGroup) (put : List Entry) (gone : List Key) (n : ℕ) (s : 
         let later : Registered = record m.register { value = numbered m.register next; turn = next_turn m.register.turn; is_fresh = false } in
         let is : reg ≡ later = writes.written.register ∙ ap (λ (a : Result ℕ Dead). after_write m.register next a) ok in
         let kept_later : Kept = record { completed = later.value; begun = []; slots = kept.slots } in
-        let after_it : registers.Keeps n reg (Some reg.value) [] w = subst
-        (λ (a : Result ℕ Dead). MatchResult a (λ f. registers.Keeps n reg (Some reg.value) [] w) (λ dead. registers.Keeps n reg (Some r) ([] ++ numbered m.register next ∷ []) w)) ok
+        let after_it : registers.FitsRegister n reg (Some reg.value) [] w = subst
+        (λ (a : Result ℕ Dead). MatchResult a (λ f. registers.FitsRegister n reg (Some reg.value) [] w) (λ dead. registers.FitsRegister n reg (Some r) ([] ++ numbered m.register next ∷ []) w)) ok
         (history_wide n (g ∷ h ∷ []) kept.slots m.register reg next answer_2 t w sound to.turns allowed register_keeps both_are long run writes.written.history n (omega arith)).after in
         let done = record_done n (g ∷ h ∷ []) kept.slots m.register reg next answer_2 t w sound to.turns allowed register_keeps both_are long run writes.written.history
         taken ok (ap (λ (x : Registered). x.value) is) (ap (λ (x : Registered). x.id) is) (h ∷ [])
@@ -220,7 +220,7 @@ module _ (m : MountedGroup) (put : List Entry) (gone : List Key) (n : ℕ) (s : 
             own = mounts.own;
             completed = refl;
             begun = refl;
-            register = subst (λ (x : Registered). registers.Keeps n x (Some x.value) [] w) is after_it;
+            register = subst (λ (x : Registered). registers.FitsRegister n x (Some x.value) [] w) is after_it;
             now = done;
           }),
         )

@@ -14,8 +14,8 @@ use Rattle.asm_formats.specs.Status.{Status}
 use Rattle.asm_formats.proofs.Framing.{directory_write}
 use Rattle.asm_formats.specs.Among.{IsAmong}
 use Rattle.asm_placement.specs.Placed.{places_fit}
-use Rattle.asm_images.specs.Members.{Image, Member, byte, written, all_members, within, statuses, claims_of_group, disk_of}
-use Rattle.asm_images.specs.Register.{Fits, status, status_by, greatest}
+use Rattle.asm_images.specs.Members.{ImageBytes, Member, byte, written, all_members, within, statuses, claims_of_group, disk_of}
+use Rattle.asm_images.specs.Register.{Fits, status, status_if_enough, greatest}
 use Rattle.asm_images.specs.Directories.{directories, IsNamed}
 use Rattle.asm_images.specs.Copies.{IsCurrent}
 use Rattle.asm_images.specs.PutLaws.{bytes_of}
@@ -31,14 +31,14 @@ use Rattle.asm_images.proofs.OneContent.{found_is_held}
 use Rattle.asm_images.proofs.Replacing.{Keeps, is_enough_map, statuses_map, within_map}
 use Rattle.asm_images.proofs.Spans.{narrow_keeps}
 use Rattle.asm_images.proofs.UserBytes.{copy_byte_kept}
-use Rattle.group_engine.specs.CommitSteps.{content_of, ChangesRegion, IsCommitting, AllHave, Becomes}
+use Rattle.group_engine.specs.CommitSteps.{content_of_items, ChangesRegion, IsCommitting, AllHave, Becomes}
 use Rattle.group_engine.proofs.Renewing.{renewed, renewed_keeps, members_renewed, content_found, some_found}
 
 -- what the disk says changes in its directory copy alone
 pub region_change : (old new : List ℕ) → ChangesRegion old new → metadata new ≡ record (metadata old) { content = (metadata new).content; decodes = (metadata new).decodes }
 region_change old new c = directory_write old new (region_start * block_size) c.len c.same (omega arith)
 
-module _ (id : ℕ) (r : Status) (before after : Content) (old new : Image) (c : IsCommitting id r before after old new) where
+module _ (id : ℕ) (r : Status) (before after : Content) (old new : ImageBytes) (c : IsCommitting id r before after old new) where
   abbrev ms : List Member
   ms = all_members id old
 
@@ -148,8 +148,8 @@ module _ (id : ℕ) (r : Status) (before after : Content) (old new : Image) (c :
         one x y (inr p) (inl q) e = absurd (before_after (ap (λ (z : Content). z.commit) (sym q) ∙ sym e ∙ ap (λ (z : Content). z.commit) p))
 
 -- with the content after the disks hold the group after
-becomes_described : (id next : ℕ) (r : Status) (g h : Group) (later : List Item) (old : Image) (k : Content) → Describes old (all_members id old) (all_members id old) r k g → Becomes id r g later h old
-    → Describes old (all_members id old) (all_members id old) r (content_of next later) h
+becomes_described : (id next : ℕ) (r : Status) (g h : Group) (later : List Item) (old : ImageBytes) (k : Content) → Describes old (all_members id old) (all_members id old) r k g → Becomes id r g later h old
+    → Describes old (all_members id old) (all_members id old) r (content_of_items next later) h
 becomes_described id next r g h later old k d b = record {
   distinct = d.distinct;
   disks = λ m a. let x = d.disks m a in record { claims = x.claims; statuses = x.statuses; directories = x.directories; name = x.name ∙ sym b.name; shape = x.shape ∙ sym b.shape; units = x.units };
@@ -159,16 +159,16 @@ becomes_described id next r g h later old k d b = record {
   bytes = b.bytes;
 }
 
-module _ (id number next : ℕ) (r : Status) (g h : Group) (items later : List Item) (old new : Image) (differ : number ≢ next) (sound : SoundBy id old (g ∷ []) (Some r) [])
-    (becomes : Becomes id r g later h old) (c : IsCommitting id r (content_of number items) (content_of next later) old new) where
+module _ (id number next : ℕ) (r : Status) (g h : Group) (items later : List Item) (old new : ImageBytes) (differ : number ≢ next) (sound : SoundBy id old (g ∷ []) (Some r) [])
+    (becomes : Becomes id r g later h old) (c : IsCommitting id r (content_of_items number items) (content_of_items next later) old new) where
   abbrev them : List Member
   them = all_members id old
 
   abbrev first : Content
-  first = content_of number items
+  first = content_of_items number items
 
   abbrev second : Content
-  second = content_of next later
+  second = content_of_items next later
 
   before_holds : r.gone ≡ false → (n : Member) → IsAmong them n → IsNamed r n.header → Describes old them them r first g
   before_holds alive n a named = held_before id r first second old new c g sound alive n a named
@@ -201,13 +201,13 @@ module _ (id number next : ℕ) (r : Status) (g h : Group) (items later : List I
       subst (λ (l : List Member). Describes new l l r second h) (sym (members_same id r first second old new c))
       (described id r first second old new c second h (after_holds alive w.0 w.1 w.2))
 
-pub committing_is_sound : (id number next : ℕ) (r : Status) (g h : Group) (items later : List Item) (old new : Image) → number ≢ next → SoundBy id old (g ∷ []) (Some r) []
-    → Becomes id r g later h old → IsCommitting id r (content_of number items) (content_of next later) old new
+pub committing_is_sound : (id number next : ℕ) (r : Status) (g h : Group) (items later : List Item) (old new : ImageBytes) → number ≢ next → SoundBy id old (g ∷ []) (Some r) []
+    → Becomes id r g later h old → IsCommitting id r (content_of_items number items) (content_of_items next later) old new
     → SoundBy id new (g ∷ h ∷ []) (Some r) []
 committing_is_sound id number next r g h items later old new differ sound becomes c = in_flight id number next r g h items later old new differ sound becomes c
 
-pub committed_is_sound : (id number next : ℕ) (r : Status) (g h : Group) (items later : List Item) (old new : Image) → number ≢ next → SoundBy id old (g ∷ []) (Some r) []
-    → Becomes id r g later h old → IsCommitting id r (content_of number items) (content_of next later) old new → AllHave id r (content_of next later) new
+pub committed_is_sound : (id number next : ℕ) (r : Status) (g h : Group) (items later : List Item) (old new : ImageBytes) → number ≢ next → SoundBy id old (g ∷ []) (Some r) []
+    → Becomes id r g later h old → IsCommitting id r (content_of_items number items) (content_of_items next later) old new → AllHave id r (content_of_items next later) new
     → SoundBy id new (h ∷ []) (Some r) []
 committed_is_sound id number next r g h items later old new differ sound becomes c all =
     narrow_keeps id new (g ∷ h ∷ []) (h ∷ []) (Some r) [] (in_flight id number next r g h items later old new differ sound becomes c) (record {
@@ -217,22 +217,22 @@ committed_is_sound id number next r g h items later old new differ sound becomes
           let found_r : directories r (within P ms) ≡ Some k = ap (λ (t : Status). directories t (within P ms)) (sym same) ∙ found in
           let held = found_is_held r (within P ms) k found_r in
           let among : IsAmong ms held.0 = among_within P ms held.0 held.1 in
-          let is : k ≡ content_of next later = same_Some k (content_of next later) (sym held.3 ∙ all held.0 among held.2) in
+          let is : k ≡ content_of_items next later = same_Some k (content_of_items next later) (sym held.3 ∙ all held.0 among held.2) in
           let d = after_holds_now id number next r g h items later old new differ sound becomes c (ap (λ (t : Status). t.gone) (sym same) ∙ alive) held.0 among held.2 in
           (h, inl refl, subst (λ (t : Status). Describes new ms ms t k h) (sym same) (subst (λ (x : Content). Describes new ms ms r x h) (sym is) d)))
           (λ none. absurd none) counts;
     })
 
 -- Status is the same where records are
-status_by_same : (f : Member → Member) → Keeps f → (l : List Member) (o : Option Status) → status_by (map f l) o ≡ status_by l o
+status_by_same : (f : Member → Member) → Keeps f → (l : List Member) (o : Option Status) → status_if_enough (map f l) o ≡ status_if_enough l o
 status_by_same f stay l None = refl
 status_by_same f stay l (Some r) = ap (λ (b : Bool). cond (b && not r.gone) (Some r) None) (is_enough_map f stay r l)
 
 status_same : (id : ℕ) (f : Member → Member) → Keeps f → (ms : List Member) → ((m : Member) → IsAmong ms m → (f m).disk.statuses ≡ m.disk.statuses) → status id (map f ms) ≡ status id ms
 unfolding status
-status_same id f keeps ms same = ap (λ (l : List Status). status_by (map f ms) (greatest l)) (statuses_map f id ms same) ∙ status_by_same f keeps ms (greatest (statuses id ms))
+status_same id f keeps ms same = ap (λ (l : List Status). status_if_enough (map f ms) (greatest l)) (statuses_map f id ms same) ∙ status_by_same f keeps ms (greatest (statuses id ms))
 
-pub committing_is_standing : (id : ℕ) (slots : ℕ → Bool) (r : Status) (groups : List Group) (before after : Content) (old new : Image) → SoundBy id old groups (Some r) []
+pub committing_is_standing : (id : ℕ) (slots : ℕ → Bool) (r : Status) (groups : List Group) (before after : Content) (old new : ImageBytes) → SoundBy id old groups (Some r) []
     → IsCommitting id r before after old new → Standing id old slots → Standing id new slots
 committing_is_standing id slots r groups before after old new sound c s =
     let ms = all_members id old in

@@ -33,7 +33,7 @@ use Rattle.directory_store.proofs.Storing.{kept_have_records}
 use Rattle.directory_store.specs.page_map.Tables.{PageTable}
 use Rattle.status_register.specs.Holders.{is_of, next_turn, numbered}
 use Rattle.status_register.specs.Reaching.{Reaches}
-use Rattle.status_register.specs.Registered.{Registered, is_birth}
+use Rattle.status_register.specs.Registered.{Registered, is_same_birth}
 use Rattle.status_register.specs.Writes.{after_write}
 use Rattle.status_register.specs.declared.error.Dead.{Dead}
 use Rattle.status_register.specs.declared.member.Member.{Member}
@@ -304,7 +304,7 @@ module _ (m : MountedGroup) (whole : IsWhole m) (s : BayState) (ready : IsReady 
 pub entry_there : (entries : List Entry) (y : Member) (d : ℕ) → y.number ≡ d → is_of entries y ≡ true → has_entry entries d ≡ true
 entry_there entries y d number is = ap (has_entry entries) (sym number) ∙ go (entry_of entries y.number) is
   where
-    go : (o : Option Entry) → is_birth (option_map (λ (e : Entry). e.birth) o) y.birth ≡ true → is_some o ≡ true
+    go : (o : Option Entry) → is_same_birth (option_map (λ (e : Entry). e.birth) o) y.birth ≡ true → is_some o ≡ true
     go None none = absurd (false≢true none)
     go (Some e) birth = refl
 

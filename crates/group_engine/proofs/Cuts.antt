@@ -14,18 +14,18 @@ use Rattle.asm_formats.specs.Status as status
 use Rattle.asm_formats.specs.Status.{entry_of}
 use Rattle.asm_placement.specs.Naming.{is_birth}
 use Rattle.asm_base.specs.Chunks.{Chunk, chunk_cmp}
-use Rattle.rebalance.specs.extent_map.Extents.{Chunked, absent, chunk_at, chunk_or_blank}
+use Rattle.rebalance.specs.extent_map.Extents.{Chunked, absent_homes, chunk_at, chunk_or_blank}
 use Rattle.rebalance.proofs.extent_map.Laws.{chunk_total, same_chunk}
 use Rattle.rebalance.proofs.extent_map.Lookups.{gone_other, key_is, put_here, put_other}
 use Rattle.rebalance.proofs.extent_map.Numbering.{found_self, size_of}
 use Rattle.rebalance.specs.file_directory.Files.{head_at}
-use Rattle.rebalance.specs.staleness_directory.Marks.{Marked, item_of, marks_at}
+use Rattle.rebalance.specs.staleness_directory.Marks.{Marked, item_of_marks, marks_at}
 use Rattle.rebalance.specs.catalog.ExtentPlans.{IsUndue, MayCut, with_cut, with_fewer, with_released}
-use Rattle.rebalance.specs.catalog.Plans.{with_record}
+use Rattle.rebalance.specs.catalog.Plans.{with_disk_record}
 use Rattle.rebalance.proofs.catalog.MarkPlans.{are_marks, some_of}
 use Rattle.rebalance.proofs.catalog.NumberedEntries.{number_other}
 use Rattle.rebalance.proofs.catalog_laws.RegularHomes.{cutting_keeps}
-use Rattle.rebalance.specs.catalog_tables.Rules.{first_unknown, has_info, is_due}
+use Rattle.rebalance.specs.catalog_tables.Rules.{first_unknown, has_info, head_has_extent}
 use Rattle.rebalance.specs.catalog_tables.Tables.{AreTables, Tables}
 use Rattle.rebalance.proofs.catalog_tables.EntryLaws.{either, holds_at}
 use Rattle.rebalance.proofs.catalog_tables.TableItems.{numbers_exact}
@@ -62,7 +62,7 @@ module _ {A : Type 0} (es : List (Chunk × List A)) (k q : Chunk) (p : ℕ) (d :
 
 module _ (s : Shape) (t : Tables) (a : AreTables t) (f n kept : ℕ) (may : MayCut s t f n kept) where
   -- an extent of the chunk that the file has by its size lies before the place
-  before : (g i : ℕ) (head : FileHead) → head_at t.files g ≡ Some head → is_due s head i ≡ true → ◌≡◌ {A = Chunk} (g, i / 256) (f, n) → i % 256 < kept
+  before : (g i : ℕ) (head : FileHead) → head_at t.files g ≡ Some head → head_has_extent s head i ≡ true → ◌≡◌ {A = Chunk} (g, i / 256) (f, n) → i % 256 < kept
   before g i head there due same = elim (cases_lt (i % 256) kept) [
     | inl lt ↦ lt
     | inr past ↦
@@ -81,16 +81,16 @@ module _ (s : Shape) (t : Tables) (a : AreTables t) (f n kept : ℕ) (may : MayC
     chunk : (w : List Homes) × (chunk_at t.extents (f, n) ≡ Some w)
     chunk = some_of (chunk_at t.extents (f, n)) may.there
 
-    homes : (p : ℕ) → p < 256 → p < kept → get_or (take kept (chunk_or_blank t.extents (f, n)) ++ drop kept (replicate 256 absent)) p [] ≡ get_or (unwrap_or (chunk_at t.extents (f, n)) []) p []
+    homes : (p : ℕ) → p < 256 → p < kept → get_or (take kept (chunk_or_blank t.extents (f, n)) ++ drop kept (replicate 256 absent_homes)) p [] ≡ get_or (unwrap_or (chunk_at t.extents (f, n)) []) p []
     homes p inside lt =
-        ap (λ (o : Option (List Homes)). get_or (take kept (unwrap_or o (replicate 256 absent)) ++ drop kept (replicate 256 absent)) p []) chunk.1
-        ∙ kept_at kept p chunk.0 (replicate 256 absent) [] (omega (arith, inside, size_of t.extents (f, n) chunk.0 a.extents.0.1 chunk.1)) lt
+        ap (λ (o : Option (List Homes)). get_or (take kept (unwrap_or o (replicate 256 absent_homes)) ++ drop kept (replicate 256 absent_homes)) p []) chunk.1
+        ∙ kept_at kept p chunk.0 (replicate 256 absent_homes) [] (omega (arith, inside, size_of t.extents (f, n) chunk.0 a.extents.0.1 chunk.1)) lt
         ∙ ap (λ (o : Option (List Homes)). get_or (unwrap_or o []) p []) (sym chunk.1)
 
     marks : (p : ℕ) → p < 256 → p < kept → (o : Option (List ℕ)) → marks_at t.stale (f, n) ≡ o
         → get_or (take kept (unwrap_or (marks_at t.stale (f, n)) (replicate 256 0)) ++ drop kept (replicate 256 0)) p 0 ≡ get_or (unwrap_or (marks_at t.stale (f, n)) []) p 0
     marks p inside lt (Some m) at =
-        let size = are_marks f n m (holds_at chunk_cmp same_chunk chunk_total (λ (x : Marked). is_item (item_of x) ≡ true) t.stale (f, n) m a.stale.1 at) in
+        let size = are_marks f n m (holds_at chunk_cmp same_chunk chunk_total (λ (x : Marked). is_item (item_of_marks x) ≡ true) t.stale (f, n) m a.stale.1 at) in
         ap (λ (o : Option (List ℕ)). get_or (take kept (unwrap_or o (replicate 256 0)) ++ drop kept (replicate 256 0)) p 0) at ∙ kept_at kept p m (replicate 256 0) 0 (omega (arith, inside, size.size)) lt
         ∙ ap (λ (o : Option (List ℕ)). get_or (unwrap_or o []) p 0) (sym at)
     marks p inside lt None at =
@@ -148,14 +148,14 @@ no_entry e es d none = by (e.number == d) refl none where
   by true q none = absurd (none-some e (sym none))
   by false q none = (λ same. absurd (true≢false (sym (eq-eqb e.number d same) ∙ q)), none)
 
-infos_stay : (t : Tables) (d : ℕ) (es : List status.Entry) → status.entry_of es d ≡ None → first_unknown t es ≡ None → first_unknown (record t { disks = with_record t.disks d None }) es ≡ None
+infos_stay : (t : Tables) (d : ℕ) (es : List status.Entry) → status.entry_of es d ≡ None → first_unknown t es ≡ None → first_unknown (record t { disks = with_disk_record t.disks d None }) es ≡ None
 infos_stay t d [] without none = refl
 infos_stay t d (e ∷ es) without none = by (has_info t e) refl none (infos_stay t d es apart.1) where
   apart : (e.number ≡ d → ⊥) × (status.entry_of es d ≡ None)
   apart = no_entry e es d without
 
   u : Tables
-  u = record t { disks = with_record t.disks d None }
+  u = record t { disks = with_disk_record t.disks d None }
 
   same : has_info u e ≡ has_info t e
   same = ap (is_birth e.birth) (gone_other nat_cmp numbers_exact nat_cmp_total d e.number t.disks (number_other e.number d apart.0))

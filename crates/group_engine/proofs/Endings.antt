@@ -11,7 +11,7 @@ use Rattle.asm_base.specs.declared.refusal.DiskRef.TheVariants.{Number, Spelt}
 use Rattle.asm_base.specs.declared.refusal.Refusal.{Refusal}
 use Rattle.asm_base.specs.declared.refusal.Refusal.TheVariants as cause
 use Rattle.asm_formats.specs.Items.{Key}
-use Rattle.asm_base.specs.Records.{Entry}
+use Rattle.asm_base.specs.Records.{DirectoryRecord}
 use Rattle.asm_images.specs.Bridge.{disks_in}
 use Rattle.asm_images.specs.Kept.{Kept, IsHeld}
 use Rattle.asm_images.specs.Stands.{Standing}
@@ -21,7 +21,7 @@ use Rattle.rebalance.specs.catalog_tables.Tables.{Tables}
 use Rattle.rebalance.proofs.catalog_tables.AfterLaws.{one_after}
 use Rattle.group_of.specs.Describing.{KeepsNames}
 use Rattle.group_engine.specs.Commits.{CommitsChange, CommitsPlan, DismountCause, LeadsTo, StandsIn, StatusCause}
-use Rattle.group_engine.specs.Making.{closed}
+use Rattle.group_engine.specs.Making.{access_after_closing}
 use Rattle.group_engine.specs.Mounts.{IsMounted, IsReady, IsWhole, MountedGroup, Mounts}
 use Rattle.group_engine.specs.Own.{KeepsGroup}
 use Rattle.group_engine.specs.Pending.{EndsOn, GoesOn, HasTurns, StandsThrough, StaysMounted, without_pending}
@@ -128,7 +128,7 @@ listed_once n id g kept x stands = record {
 }
 
 -- the commit of a plan that changes nothing that the group is
-module _ (a b : MountedGroup) (put : List Entry) (gone : List Key) (u : Tables) (s t : BayState) (is : IsSurplus a.register.value.entries a.catalog put gone u) where
+module _ (a b : MountedGroup) (put : List DirectoryRecord) (gone : List Key) (u : Tables) (s t : BayState) (is : IsSurplus a.register.value.entries a.catalog put gone u) where
   leads : (n : ℕ) (g : Group) (kept : Kept) → Mounts n a s g kept → HasTurns a → LeadsTo n a put gone s g g kept
   leads n g kept mounts turns = surplus_leads_on s n a put gone g kept u mounts is (omega (arith, turns))
 
@@ -154,15 +154,15 @@ module _ (a b : MountedGroup) (put : List Entry) (gone : List Key) (u : Tables) 
 
 -- ---- a group that takes no calls
 
-closed_access : (a : Access) → closed a ≡ Mounted → ⊥
+closed_access : (a : Access) → access_after_closing a ≡ Mounted → ⊥
 closed_access Mounted is = absurd cc
 closed_access (Dismounted disk) is = absurd cc
 closed_access Closed is = absurd cc
 
-pub closed_takes_none : (m : MountedGroup) → IsMounted (record m { access = closed m.access }) → ⊥
+pub closed_takes_none : (m : MountedGroup) → IsMounted (record m { access = access_after_closing m.access }) → ⊥
 closed_takes_none m is = closed_access m.access is
 
-pub keeps_closed : {a m : MountedGroup} {s t : BayState} → KeepsGroup a m s t → KeepsGroup a (record m { access = closed m.access }) s t
+pub keeps_closed : {a m : MountedGroup} {s t : BayState} → KeepsGroup a m s t → KeepsGroup a (record m { access = access_after_closing m.access }) s t
 keeps_closed {a} {m} keeps = record {
   same = record {
     name = keeps.same.name;
@@ -178,7 +178,7 @@ keeps_closed {a} {m} keeps = record {
   ready = λ takes. absurd (closed_takes_none m takes);
 }
 
-pub ends_closed : {a m : MountedGroup} {s t : BayState} (r : Result (Unit {0}) Refusal) → EndsOn a r m s t → EndsOn a (Err cause.NoMemory) (record m { access = closed m.access }) s t
+pub ends_closed : {a m : MountedGroup} {s t : BayState} (r : Result (Unit {0}) Refusal) → EndsOn a r m s t → EndsOn a (Err cause.NoMemory) (record m { access = access_after_closing m.access }) s t
 ends_closed {a} {m} r did = record {
   goes = record { keeps = keeps_closed did.goes.keeps; mounted = tt; cause = tt };
   status = did.status;
@@ -195,7 +195,7 @@ dismounted_takes_none old new s t (Spelt text) mounted why takes = absurd why
 -- ---- the end of the operation
 
 -- once its record is gone, nothing is pending
-pub ended_if : (r : Result (Unit {0}) Refusal) (t new : Tables) (put : List Entry) (gone : List Key) → OnOk r (IsAfter t put gone new) → IsAfter t put gone (without_pending t) → OnOk r (new.operations.pending ≡ None)
+pub ended_if : (r : Result (Unit {0}) Refusal) (t new : Tables) (put : List DirectoryRecord) (gone : List Key) → OnOk r (IsAfter t put gone new) → IsAfter t put gone (without_pending t) → OnOk r (new.operations.pending ≡ None)
 ended_if (Ok done) t new put gone applied after = ap (λ (u : Tables). u.operations.pending) (one_after t new (without_pending t) put gone applied after)
 ended_if (Err e) t new put gone applied after = tt
 

@@ -3,7 +3,7 @@ use Rattle.std.proofs.Common.{◌≡◌, ◌≢◌, inl, inr, ⊎_elim, ℕ, ◌
 use Rattle.bay.specs.State.{BayState, IsSound, KeepsAttached}
 use Rattle.bay.specs.Moments.{Runs}
 use Rattle.bay.proofs.Calls.{attached-trans}
-use Rattle.asm_base.specs.Records.{Entry}
+use Rattle.asm_base.specs.Records.{DirectoryRecord}
 use Rattle.asm_base.specs.declared.refusal.Refusal.{Refusal}
 use Rattle.asm_base.specs.declared.refusal.Refusal.TheVariants as cause
 use Rattle.asm_formats.specs.Items.{Key}
@@ -75,7 +75,7 @@ pub idle_but : (old new : MountedGroup) (s t : BayState) (refusal : Refusal) →
 idle_but old new s t (cause.Dismounted by) is = tt
 idle_but old new s t other is = is
 
-module _ (was : MountedGroup) (mounted : IsMounted was) (whole : IsWhole was) (put : List Entry) (gone : List Key) (s t : BayState) (ready : IsReady was s) (new : Stored) (cat : Catalogued) where
+module _ (was : MountedGroup) (mounted : IsMounted was) (whole : IsWhole was) (put : List DirectoryRecord) (gone : List Key) (s t : BayState) (ready : IsReady was s) (new : Stored) (cat : Catalogued) where
   abbrev now : MountedGroup
   now = record was { catalog = cat; store = new }
 

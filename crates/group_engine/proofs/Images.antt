@@ -35,7 +35,7 @@ use Rattle.status_register.specs.Surveys.{disk_in}
 use Rattle.status_register.specs.declared.member.Member.{Member as Disk}
 use Rattle.status_register.proofs.Holding.{entry_birth}
 use Rattle.group_engine.specs.Becoming.{HoldsIn, LeadsToGroup}
-use Rattle.group_engine.specs.CommitSteps.{content_of, ChangesRegion, IsCommitting, AllHave, Becomes}
+use Rattle.group_engine.specs.CommitSteps.{content_of_items, ChangesRegion, IsCommitting, AllHave, Becomes}
 use Rattle.group_engine.specs.Mounts.{MountedGroup, IsOwn, IsWhole}
 use Rattle.std.specs.List.{range_with_len}
 use Rattle.asm_formats.specs.Sets.{has_bit, elements, most_disks}
@@ -179,16 +179,16 @@ module _ (n : ℕ) (m : MountedGroup) (whole : IsWhole m) (g : Group) (shape : g
     same_header slot = ap (λ (d : Metadata). d.header) (region_change (disk_bytes x slot) (disk_bytes y slot) (slot_change slot))
 
     -- each copy has the content before or the one after
-    module _ (number next : ℕ) (items later : List Item) (was : (c : DirCopy) → IsAmong m.store.copies c → content_in c x ≡ Some (content_of number items))
-        (either : (c : DirCopy) → IsAmong m.store.copies c → (content_in c y ≡ Some (content_of number items)) ⊎ (content_in c y ≡ Some (content_of next later))) where
+    module _ (number next : ℕ) (items later : List Item) (was : (c : DirCopy) → IsAmong m.store.copies c → content_in c x ≡ Some (content_of_items number items))
+        (either : (c : DirCopy) → IsAmong m.store.copies c → (content_in c y ≡ Some (content_of_items number items)) ⊎ (content_in c y ≡ Some (content_of_items next later))) where
       decode_now : (c : DirCopy) → IsAmong m.store.copies c → (slot : ℕ) → slot ≡ c.slot → IsTrue (disk_in y slot).decodes
       decode_now c among slot at =
           let own = copy_header c among in
           let is : header_in y slot ≡ Some own.0 = same_header slot ∙ ap (λ (s : ℕ). header_in x s) at ∙ own.1 in
           let content = slot_content y slot own.0 c is at own.3 in
-          decodes_here y slot ∙ ap decodes_in content ∙ ⊎_elim (λ (b : content_in c y ≡ Some (content_of number items)). ap decodes_in b) (λ a. ap decodes_in a) (either c among)
+          decodes_here y slot ∙ ap decodes_in content ∙ ⊎_elim (λ (b : content_in c y ≡ Some (content_of_items number items)). ap decodes_in b) (λ a. ap decodes_in a) (either c among)
 
-      pub is_committing : (slots : ℕ) → IsCommitting id r (content_of number items) (content_of next later) (disks_in slots x) (disks_in slots y)
+      pub is_committing : (slots : ℕ) → IsCommitting id r (content_of_items number items) (content_of_items next later) (disks_in slots x) (disks_in slots y)
       is_committing slots = record {
         size = listed slots y ∙ sym (listed slots x);
         disks = λ slot lt.
@@ -213,7 +213,7 @@ module _ (n : ℕ) (m : MountedGroup) (whole : IsWhole m) (g : Group) (shape : g
       }
 
       -- each named copy has the one after
-      all_have : ((c : DirCopy) → IsAmong m.store.copies c → content_in c y ≡ Some (content_of next later)) → (slots : ℕ) → AllHave id r (content_of next later) (disks_in slots y)
+      all_have : ((c : DirCopy) → IsAmong m.store.copies c → content_in c y ≡ Some (content_of_items next later)) → (slots : ℕ) → AllHave id r (content_of_items next later) (disks_in slots y)
       all_have now slots k among named =
           let seen = member_seen id slots y k among in
           let placed = named_slot k.slot k.header (sym (same_header k.slot) ∙ seen.header) seen.group named in
@@ -222,7 +222,7 @@ module _ (n : ℕ) (m : MountedGroup) (whole : IsWhole m) (g : Group) (shape : g
       keeps_with : (groups : List Group) → ((slots : ℕ) → SoundBy id (disks_in slots y) groups (Some r) []) → IsHeld n id groups (record { completed = r; begun = []; slots = kept.slots }) y
       keeps_with groups now = record {
         sound = now;
-        standing = committing_is_standing id kept.slots r (g ∷ []) (content_of number items) (content_of next later) (disks_in n x) (disks_in n y) (sound n) (is_committing n) of.is_held.standing;
+        standing = committing_is_standing id kept.slots r (g ∷ []) (content_of_items number items) (content_of_items next later) (disks_in n x) (disks_in n y) (sound n) (is_committing n) of.is_held.standing;
         there = λ slot has. let is = of.is_held.there slot has in (is.0, same_header slot ∙ is.1, is.2);
       }
 
@@ -236,19 +236,19 @@ module _ (n : ℕ) (m : MountedGroup) (whole : IsWhole m) (g : Group) (shape : g
             (λ slots. committing_is_sound id number next r g h items later (disks_in slots x) (disks_in slots y) differ (sound slots) (becomes slots) (is_committing slots))
 
         -- Once each copy has the content after, it is held for the one after.
-        pub come : ((c : DirCopy) → IsAmong m.store.copies c → content_in c y ≡ Some (content_of next later)) → IsHeld n id (h ∷ []) (record { completed = r; begun = []; slots = kept.slots }) y
+        pub come : ((c : DirCopy) → IsAmong m.store.copies c → content_in c y ≡ Some (content_of_items next later)) → IsHeld n id (h ∷ []) (record { completed = r; begun = []; slots = kept.slots }) y
         come now = keeps_with (h ∷ [])
             (λ slots. committed_is_sound id number next r g h items later (disks_in slots x) (disks_in slots y) differ (sound slots) (becomes slots) (is_committing slots) (all_have now slots))
 
         -- With the content after, the disks hold the group after.
         pub held_now : (slots : ℕ) (k : Member) → IsAmong (all_members id (disks_in slots y)) k → IsNamed r k.header
-            → Describes (disks_in slots y) (all_members id (disks_in slots y)) (all_members id (disks_in slots y)) r (content_of next later) h
+            → Describes (disks_in slots y) (all_members id (disks_in slots y)) (all_members id (disks_in slots y)) r (content_of_items next later) h
         held_now slots k among named = after_holds_now id number next r g h items later (disks_in slots x) (disks_in slots y) differ (sound slots) (becomes slots) (is_committing slots) whole.alive k among named
 
         -- ---- a record without some of the copies
 
         module _ (fewer epoch turn : ℕ) (less : (d : ℕ) → has_bit fewer d ≡ true → has_bit r.directories d ≡ true)
-            (left : (c : DirCopy) → IsAmong m.store.copies c → IsAmong (elements fewer) c.number → content_in c y ≡ Some (content_of next later))
+            (left : (c : DirCopy) → IsAmong m.store.copies c → IsAmong (elements fewer) c.number → content_in c y ≡ Some (content_of_items next later))
             (some : (c : DirCopy) × IsAmong m.store.copies c × IsAmong (elements fewer) c.number) where
           abbrev without : Status
           without = record r { directories = fewer; epoch = epoch; turn = turn }
@@ -270,13 +270,13 @@ module _ (n : ℕ) (m : MountedGroup) (whole : IsWhole m) (g : Group) (shape : g
           r_births e h = ((on_its_way.sound n).covered r (inl refl) whole.alive).entry_births r e (completed_held id (disks_in n y) kept.slots r (on_its_way.sound n).fits r_there) h
 
           -- each copy that it names has the content after
-          without_have : (slots : ℕ) (k : Member) (d : Content) → IsAmong (all_members id (disks_in slots y)) k → IsNamed without k.header → k.disk.content ≡ Some d → d ≡ content_of next later
+          without_have : (slots : ℕ) (k : Member) (d : Content) → IsAmong (all_members id (disks_in slots y)) k → IsNamed without k.header → k.disk.content ≡ Some d → d ≡ content_of_items next later
           without_have slots k d among named is =
               let seen = member_seen id slots y k among in
               let placed = named_slot k.slot k.header (sym (same_header k.slot) ∙ seen.header) seen.group (also_named k.header named) in
               let number : k.header.number ≡ placed.copy.number = placed_number k slots seen placed in
               let content = ap (λ (x : Metadata). x.content) seen.disk ∙ slot_content y k.slot k.header placed.copy seen.header placed.slot_is placed.pages in
-              same_Some d (content_of next later) (sym is ∙ content ∙ left placed.copy placed.among (subst (λ (j : ℕ). IsAmong (elements fewer) j) number named.named))
+              same_Some d (content_of_items next later) (sym is ∙ content ∙ left placed.copy placed.among (subst (λ (j : ℕ). IsAmong (elements fewer) j) number named.named))
             where
               placed_number : (k : Member) (slots : ℕ) → IsSeen id slots y k → (p : Placed k.slot k.header) → k.header.number ≡ p.copy.number
               placed_number k slots seen p =
@@ -341,7 +341,7 @@ module _ (n : ℕ) (m : MountedGroup) (whole : IsWhole m) (g : Group) (shape : g
               some_content : (slots : ℕ) (z : Member) → IsAmong (all_members id (disks_in slots y)) z → IsNamed without z.header → (d : Content) × (z.disk.content ≡ Some d)
               some_content slots z among named =
                   let e = (is_committing slots).either z among (also_named z.header named) in
-                  ⊎_elim (λ b. (content_of number items, b)) (λ a. (content_of next later, a)) e
+                  ⊎_elim (λ b. (content_of_items number items, b)) (λ a. (content_of_items next later, a)) e
 
           without_covers : (slots : ℕ) → IsCovered id (disks_in slots y) (all_members id (disks_in slots y)) (h ∷ []) without
           without_covers slots =
@@ -354,11 +354,11 @@ module _ (n : ℕ) (m : MountedGroup) (whole : IsWhole m) (g : Group) (shape : g
                 described = λ P c found.
                     let held = found_is_held without (within P ms) c found in
                     let among : IsAmong ms held.0 = among_within P ms held.0 held.1 in
-                    let is : c ≡ content_of next later = without_have slots held.0 c among held.2 held.3 in (
+                    let is : c ≡ content_of_items next later = without_have slots held.0 c among held.2 held.3 in (
                       h,
                       inl refl,
                       subst (λ (d : Content). Describes (disks_in slots y) ms ms without d h) (sym is)
-                          (under_without slots (content_of next later) h (held_now slots held.0 among (also_named held.0.header held.2))),
+                          (under_without slots (content_of_items next later) h (held_now slots held.0 among (also_named held.0.header held.2))),
                     );
               }
 

@@ -14,7 +14,7 @@ use Rattle.asm_formats.specs.Status.{Entry, Status, entry_of, is_status}
 use Rattle.asm_formats.specs.Among.{IsAmong}
 use Rattle.rebalance.specs.catalog_tables.Placing.{HasUnits}
 use Rattle.directory_store.specs.change_directory.declared.copy.DirCopy.{DirCopy}
-use Rattle.directory_store.specs.Stores.{has_disk}
+use Rattle.directory_store.specs.Stores.{has_copy_of_disk}
 use Rattle.status_register.specs.declared.member.Member.{Member}
 use Rattle.group_engine.specs.Mounts.{HaveBirths, MountedGroup}
 use Rattle.group_engine.specs.Statuses.{IsNextOf, NamesCopies}
@@ -84,10 +84,10 @@ any_found test (x ∷ xs) is = ⊎_elim
     (λ no. let f = any_found test xs (sym (ap (λ (b : Bool). b || list_any test xs) no) ∙ is) in (f.0, inr f.1, f.2))
     (cases_Bool (test x))
 
-pub copy_found : (copies : List DirCopy) (d : ℕ) → has_disk d copies ≡ true → HasDirectoryCopy copies d
+pub copy_found : (copies : List DirCopy) (d : ℕ) → has_copy_of_disk d copies ≡ true → HasDirectoryCopy copies d
 copy_found copies d is = let f = any_found (λ (c : DirCopy). c.number == d) copies is in (f.0, f.1, eqb-true f.0.number d f.2)
 
-pub all_copies : (copies : List DirCopy) (dirs : ℕ) → ((d : ℕ) → d < 64 → has_bit dirs d ≡ true → has_disk d copies ≡ true) → (d : ℕ) → IsAmong (elements dirs) d → HasDirectoryCopy copies d
+pub all_copies : (copies : List DirCopy) (dirs : ℕ) → ((d : ℕ) → d < 64 → has_bit dirs d ≡ true → has_copy_of_disk d copies ≡ true) → (d : ℕ) → IsAmong (elements dirs) d → HasDirectoryCopy copies d
 all_copies copies dirs all d h = copy_found copies d (all d (element_small dirs d h) (element_bit dirs d h))
 
 -- ---- tests

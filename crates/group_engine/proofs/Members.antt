@@ -15,13 +15,13 @@ use Rattle.asm_formats.specs.Status.{Entry, Status, entry_of}
 use Rattle.rebalance.proofs.catalog_tables.TableItems.{from_map}
 use Rattle.status_register.specs.Holders.{attached_to, is_of}
 use Rattle.status_register.specs.Reaching.{Reaches}
-use Rattle.status_register.specs.Registered.{is_birth}
+use Rattle.status_register.specs.Registered.{is_same_birth}
 use Rattle.status_register.specs.declared.member.Member.{Member}
 use Rattle.status_register.proofs.Elsewhere.{attached_ready}
 use Rattle.status_register.proofs.Holding.{among_below, held_below}
 use Rattle.status_register.proofs.Reaching.{more_reach}
 use Rattle.group_engine.specs.Commits.{DismountCause, StatusCause}
-use Rattle.group_engine.specs.Members.{HasImage, HasPlace, IsLetDown, LetsGo, LettingCause, with_disk, without_disk}
+use Rattle.group_engine.specs.Members.{HasImage, HasPlace, IsLetDown, LetsGo, LettingCause, with_attached_disk, without_attached_disk}
 use Rattle.group_engine.specs.Mounts.{IsMounted, IsOwn, IsReady, IsWhole, MountedGroup, Takes, slot_at}
 use Rattle.group_engine.specs.Own.{KeepsGroup}
 use Rattle.group_engine.specs.declared.attached.Attached.{Attached}
@@ -69,7 +69,7 @@ module _ (m : MountedGroup) (x : Member) (size : ℕ) (s : BayState) (place : Ha
       (cases_eq d n)
 
   abbrev new : MountedGroup
-  new = with_disk m x size
+  new = with_attached_disk m x size
 
   abbrev one : Attached
   one = record { slot = x.slot; size = size }
@@ -130,14 +130,14 @@ module _ (m : MountedGroup) (x : Member) (size : ℕ) (s : BayState) (place : Ha
 -- ---- one disk less
 
 none_of : (entries : List Entry) (y : Member) → entry_of entries y.number ≡ None → is_of entries y ≡ true → ⊥
-none_of entries y none is = false≢true (sym (ap (λ (o : Option Entry). is_birth (option_map (λ (e : Entry). e.birth) o) y.birth) none) ∙ is)
+none_of entries y none is = false≢true (sym (ap (λ (o : Option Entry). is_same_birth (option_map (λ (e : Entry). e.birth) o) y.birth) none) ∙ is)
 
 module _ (m : MountedGroup) (d : ℕ) (s : BayState) where
   abbrev less : List (Option Member)
   less = set m.register.members d None
 
   abbrev left : MountedGroup
-  left = without_disk m d
+  left = without_attached_disk m d
 
   was_there : {A : Type 0} (xs : List (Option A)) (i : ℕ) (y : A) → get_or (set xs d None) i None ≡ Some y → get_or xs i None ≡ Some y
   was_there xs i y is = ⊎_elim (λ was. was) (λ put. absurd (none-some y put.0)) (set_or_was xs d i None y is)

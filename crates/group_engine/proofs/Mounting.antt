@@ -14,7 +14,7 @@ use Rattle.asm_formats.specs.Among.{IsAmong}
 use Rattle.asm_placement.specs.Partners.{HasPartners}
 use Rattle.asm_placement.specs.Placed.{places_fit}
 use Rattle.asm_placement.proofs.Membership.{among_filtered}
-use Rattle.asm_images.specs.Describing.{AreRegular, DescribesGroup, has_info}
+use Rattle.asm_images.specs.Describing.{AreRegular, DescribesGroup, has_info_in_items}
 use Rattle.rebalance.specs.catalog_tables.Placing.{HasUnits}
 use Rattle.rebalance.specs.catalog_tables.Tables.{Catalogued}
 use Rattle.directory_store.specs.change_directory.declared.copy.DirCopy.{DirCopy}
@@ -44,7 +44,7 @@ front_stays copies slots id x y change slot lt = inl (record { size = change.siz
 
 -- so the register's history does
 pub register_stays : (n : ℕ) (m : MountedGroup) {s t : BayState} {on : ℕ → Type 0} → Runs on (ChangesOnly (RegionsOf m.store.copies)) s t
-    → registers.Keeps n m.register (Some m.register.value) [] s → registers.Keeps n m.register (Some m.register.value) [] t
+    → registers.FitsRegister n m.register (Some m.register.value) [] s → registers.FitsRegister n m.register (Some m.register.value) [] t
 register_stays n m {s} {t} {on} run keeps = register_proofs.keeps_elsewhere n m.register (Some m.register.value) [] (front_stays m.store.copies n m.register.id) run keeps
 
 -- what a record says of a group is by its entries
@@ -61,7 +61,7 @@ entries_describe r q items h same e = record {
   templates = e.templates;
   attributes = e.attributes;
   next = e.next;
-  disks = subst (λ (es : List Entry). IsTrue (list_all (has_info items) es)) same e.disks;
+  disks = subst (λ (es : List Entry). IsTrue (list_all (has_info_in_items items) es)) same e.disks;
   partners = subst (λ (es : List Entry). HasPartners es) same e.partners;
   room = e.room;
 }

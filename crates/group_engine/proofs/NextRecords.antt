@@ -15,7 +15,7 @@ use Rattle.asm_images.specs.RecordLaws.{bare}
 use Rattle.asm_images.proofs.Bare.{Bare, same_entry, same_sets}
 use Rattle.rebalance.specs.catalog_tables.Placing.{after_chunks, disk_units, entry_units, unused_maps}
 use Rattle.status_register.specs.Holders.{is_of}
-use Rattle.status_register.specs.Registered.{is_birth}
+use Rattle.status_register.specs.Registered.{is_same_birth}
 use Rattle.status_register.specs.declared.member.Member.{Member}
 use Rattle.status_register.proofs.Reaching.{same_sets_reach}
 use Rattle.group_engine.specs.NextRecords.{SameDisksAreNext}
@@ -29,7 +29,7 @@ same_birth (Some x) None e = absurd cc
 same_birth (Some x) (Some y) e = ap (λ (b : Bare). Some b.1) (same_Some (bare x) (bare y) e)
 
 same_is_of : (xs ys : List Entry) (m : Member) → map bare xs ≡ map bare ys → is_of xs m ≡ is_of ys m
-same_is_of xs ys m e = ap (λ (o : Option ℕ). is_birth o m.birth) (same_birth (entry_of xs m.number) (entry_of ys m.number) (same_entry xs ys m.number e))
+same_is_of xs ys m e = ap (λ (o : Option ℕ). is_same_birth o m.birth) (same_birth (entry_of xs m.number) (entry_of ys m.number) (same_entry xs ys m.number e))
 
 same_units : (o p : Option Entry) → option_map bare o ≡ option_map bare p → entry_units o ≡ entry_units p
 same_units None None e = refl

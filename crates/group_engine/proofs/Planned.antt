@@ -4,7 +4,7 @@ use Rattle.std.specs.Prelude.{IfErr}
 use Rattle.std.specs.List.Sorted.{IsStrictlySortedBy}
 use Rattle.bay.specs.State.{BayState}
 use Rattle.asm_formats.specs.Items.{Key}
-use Rattle.asm_base.specs.Records.{Entry, key_cmp}
+use Rattle.asm_base.specs.Records.{DirectoryRecord, key_cmp}
 use Rattle.asm_base.specs.declared.refusal.Refusal.{Refusal}
 use Rattle.asm_base.specs.declared.refusal.Refusal.TheVariants as cause
 use Rattle.directory_store.specs.page_map.Listing.{key_of_place}
@@ -16,7 +16,7 @@ use Rattle.group_engine.specs.Commits.{CommitCause, IsFull, StatusCause}
 use Rattle.group_engine.specs.Mounts.{IsReady, IsWhole, MountedGroup, Takes}
 use Rattle.group_engine.proofs.Commits.{one_of}
 
-module _ (old : MountedGroup) (put : List Entry) (gone : List Key) (u : Tables) (s : BayState) (have_room : PlansHaveRoom) (takes : Takes old s)
+module _ (old : MountedGroup) (put : List DirectoryRecord) (gone : List Key) (u : Tables) (s : BayState) (have_room : PlansHaveRoom) (takes : Takes old s)
     (ordered : IsStrictlySortedBy key_cmp (map key_of_place old.store.table.places)) (plan : IsPlan old.catalog put gone u) where
   fits : IsWhole old → IsReady old s → 0 < length old.store.copies → new_in old.store.table put ≤ room old.store.table
   fits whole ready some =

@@ -13,7 +13,7 @@ use Rattle.asm_formats.specs.Status.{Status, Entry, is_status, status_spelling}
 use Rattle.asm_formats.specs.Among.{IsAmong}
 use Rattle.asm_images.specs.Bridge.{disk_bytes, disks_in}
 use Rattle.asm_images.specs.Kept.{Kept, header_in, IsHeld}
-use Rattle.asm_images.specs.Members.{Image, Member, all_members, within, written, disk_of}
+use Rattle.asm_images.specs.Members.{ImageBytes, Member, all_members, within, written, disk_of}
 use Rattle.asm_images.specs.PutLaws.{bytes_of}
 use Rattle.asm_images.specs.Sound.{IsCovered}
 use Rattle.asm_images.specs.Steps.{RaisesRecords}
@@ -22,7 +22,7 @@ use Rattle.asm_images.proofs.Claiming.{at_change}
 use Rattle.asm_images.proofs.Membership.{among_within}
 use Rattle.asm_images.proofs.Slots.{fewer_slots_are_sound}
 use Rattle.asm_images.proofs.Replacing.{replaced, replaced_keeps, members_replaced, within_map}
-use Rattle.status_register.specs.History.{FitsIn}
+use Rattle.status_register.specs.History.{FitsHistory}
 use Rattle.status_register.specs.Holders.{attached_to, numbered}
 use Rattle.status_register.specs.Keeping.{EpochStands, KeepsOn, KeepsWritten}
 use Rattle.status_register.specs.Keeping as registers
@@ -41,7 +41,7 @@ pub use Rattle.group_engine.specs.Recorded.{MayBeWritten}
 use Rattle.group_engine.specs.Commits.{StandsIn}
 use Rattle.group_engine.proofs.Standings.{IsThere, stands_beside, stands_by, there_by, there_over}
 
-record_there : (id : ℕ) (some : ℕ → Bool) (old : Image) (r s : Status) (slot : ℕ) (bytes : List ℕ) → slot < length old → RaisesRecords id (disk_of old slot) (metadata bytes) s
+record_there : (id : ℕ) (some : ℕ → Bool) (old : ImageBytes) (r s : Status) (slot : ℕ) (bytes : List ℕ) → slot < length old → RaisesRecords id (disk_of old slot) (metadata bytes) s
     → IsThere (within some (all_members id old)) r → IsThere (within some (all_members id (written old slot bytes))) r
 record_there id some old r s slot bytes inside raised is =
     let d = metadata bytes in
@@ -71,8 +71,8 @@ module _ (id : ℕ) (s : Status) (allowed : IsTrue (is_status s)) where
         (cases_eq k slot)
 
     -- what a view that has the slot, or hasn't, keeps
-    put_view : (P : Image → Type 0) (slots : ℕ)
-        → ((old : Image) → old ≡ disks_in slots x → slot < length old → RaisesRecords id (disk_of old slot) (metadata (disk_bytes y slot)) s
+    put_view : (P : ImageBytes → Type 0) (slots : ℕ)
+        → ((old : ImageBytes) → old ≡ disks_in slots x → slot < length old → RaisesRecords id (disk_of old slot) (metadata (disk_bytes y slot)) s
         → SameElsewhere (bytes_of old slot) (disk_bytes y slot) (status_gate id slot x * block_size) (2 * block_size) → P (written old slot (disk_bytes y slot)))
         → (slots ≤ slot → P (disks_in slots x)) → P (disks_in slots y)
     put_view P slots seen unseen = ⊎_elim
@@ -89,12 +89,12 @@ module _ (id : ℕ) (s : Status) (allowed : IsTrue (is_status s)) where
         → IsCovered id (disks_in slots x) (all_members id (disks_in slots x)) groups r → IsCovered id (disks_in slots y) (all_members id (disks_in slots y)) groups r
     put_covers slots groups r births before = put_view (λ image. IsCovered id image (all_members id image) groups r) slots
         (λ old is inside raise same. record_covers id old groups r s slot (disk_bytes y slot) (status_gate id slot x * block_size) (2 * block_size) inside raise same gate_low births
-        (subst (λ (image : Image). IsCovered id image (all_members id image) groups r) (sym is) before))
+        (subst (λ (image : ImageBytes). IsCovered id image (all_members id image) groups r) (sym is) before))
         (λ le. before)
 
     put_there : (some : ℕ → Bool) (slots : ℕ) (r : Status) → IsThere (within some (all_members id (disks_in slots x))) r → IsThere (within some (all_members id (disks_in slots y))) r
     put_there some slots r before = put_view (λ image. IsThere (within some (all_members id image)) r) slots
-        (λ old is inside raise same. record_there id some old r s slot (disk_bytes y slot) inside raise (subst (λ (image : Image). IsThere (within some (all_members id image)) r) (sym is) before))
+        (λ old is inside raise same. record_there id some old r s slot (disk_bytes y slot) inside raise (subst (λ (image : ImageBytes). IsThere (within some (all_members id image)) r) (sym is) before))
         (λ le. before)
 
   -- ---- a row of puts
@@ -109,14 +109,14 @@ module _ (id : ℕ) (s : Status) (allowed : IsTrue (is_status s)) where
         → (slots : ℕ) (groups : List Group) (r : Status) → ((e : Entry) → IsAmong s.entries e → e.birth ≤ r.births)
         → IsCovered id (disks_in slots x) (all_members id (disks_in slots x)) groups r → IsCovered id (disks_in slots y) (all_members id (disks_in slots y)) groups r
     row_covers x y long (no_put a b same) slots groups r births before =
-        subst (λ (image : Image). IsCovered id image (all_members id image) groups r) (sym (same_is_same slots a b same)) before
+        subst (λ (image : ImageBytes). IsCovered id image (all_members id image) groups r) (sym (same_is_same slots a b same)) before
     row_covers x z long (one_put a y b m among row step) slots groups r births before =
         put_covers m.slot y b (omega (arith, long m among, row_sizes (status_gate id) ms (status_spelling s) a y row m.slot)) step slots groups r births
         (row_covers a y long row slots groups r births before)
 
     row_there : (x y : bay.Image) → AreLong ms x → PutsRow (status_gate id) ms (status_spelling s) x y
         → (some : ℕ → Bool) (slots : ℕ) (r : Status) → IsThere (within some (all_members id (disks_in slots x))) r → IsThere (within some (all_members id (disks_in slots y))) r
-    row_there x y long (no_put a b same) some slots r before = subst (λ (image : Image). IsThere (within some (all_members id image)) r) (sym (same_is_same slots a b same)) before
+    row_there x y long (no_put a b same) some slots r before = subst (λ (image : ImageBytes). IsThere (within some (all_members id image)) r) (sym (same_is_same slots a b same)) before
     row_there x z long (one_put a y b m among row step) some slots r before =
         put_there m.slot y b (omega (arith, long m among, row_sizes (status_gate id) ms (status_spelling s) a y row m.slot)) step some slots r (row_there a y long row some slots r before)
 
@@ -143,7 +143,7 @@ module _ (n id : ℕ) (groups : List Group) (slots_of : ℕ → Bool) (v next : 
       (λ none. absurd none) later) counts
 
   -- The image is held for the groups, with the record begun.
-  being_written : MayBeWritten n id groups before next x → ((b : ℕ) → n ≤ b → FitsIn b id (Some v) (next ∷ []) y)
+  being_written : MayBeWritten n id groups before next x → ((b : ℕ) → n ≤ b → FitsHistory b id (Some v) (next ∷ []) y)
       → IsHeld n id groups (record { completed = v; begun = next ∷ []; slots = slots_of }) y
   being_written may wide = record {
     sound = λ few. let slots = few + n in fewer_slots_are_sound id few slots y groups (Some v) (next ∷ []) (omega arith) (record {
@@ -161,7 +161,7 @@ module _ (n id : ℕ) (groups : List Group) (slots_of : ℕ → Bool) (v next : 
   }
 
   -- So it stands for them, with the attached disks and any others.
-  pub stands_written : MayBeWritten n id groups before next x → ((b : ℕ) → n ≤ b → FitsIn b id (Some v) (next ∷ []) y) → StandsIn n id groups before y
+  pub stands_written : MayBeWritten n id groups before next x → ((b : ℕ) → n ≤ b → FitsHistory b id (Some v) (next ∷ []) y) → StandsIn n id groups before y
   stands_written may wide = record {
     by = record { completed = v; begun = next ∷ []; slots = slots_of };
     slots = refl;
@@ -170,7 +170,7 @@ module _ (n id : ℕ) (groups : List Group) (slots_of : ℕ → Bool) (v next : 
   }
 
   -- Once it is complete, the image is held for the groups that the record covers.
-  pub is_written : (later : List Group) → MayBeWritten n id later before next x → ((b : ℕ) → n ≤ b → FitsIn b id (Some next) [] y)
+  pub is_written : (later : List Group) → MayBeWritten n id later before next x → ((b : ℕ) → n ≤ b → FitsHistory b id (Some next) [] y)
       → IsHeld n id later (record { completed = next; begun = []; slots = slots_of }) y
   is_written later may wide = record {
     sound = λ few. let slots = few + n in fewer_slots_are_sound id few slots y later (Some next) [] (omega arith) (record {
@@ -197,7 +197,7 @@ wider_stands n b id epoch g image le stands = record { on = stands.on; members =
 
 module _ (n : ℕ) (groups : List Group) (slots_of : ℕ → Bool) (register later : Registered) (next : Status) (answer : Result ℕ Dead) (s t : BayState) (sound : IsSound s)
     (room : register.turn + 1 < 2 ^ 64) (allowed : IsTrue (is_status (numbered register next)))
-    (keeps : registers.Keeps n register (Some register.value) [] s)
+    (keeps : registers.FitsRegister n register (Some register.value) [] s)
     (now : NowOnly s (IsHeld n register.id groups (record { completed = register.value; begun = []; slots = slots_of })))
     (long : NowOnly s (AreLong (attached_to register.members next))) {on : ℕ → Type 0}
     (run : Runs on (PutsRow (status_gate register.id) (attached_to register.members next) (status_spelling (numbered register next))) s t)
@@ -212,7 +212,7 @@ module _ (n : ℕ) (groups : List Group) (slots_of : ℕ → Bool) (register lat
   r = numbered register next
 
   -- the register keeps the history in any wide view
-  keeps_wide : (b : ℕ) → n ≤ b → registers.Keeps b register (Some v) [] s
+  keeps_wide : (b : ℕ) → n ≤ b → registers.FitsRegister b register (Some v) [] s
   keeps_wide b le = record {
     continues = keeps.continues;
     now = record {
@@ -249,7 +249,7 @@ module _ (n : ℕ) (groups : List Group) (slots_of : ℕ → Bool) (register lat
         let from = run.moments t.calls y run.later (omega arith) there in
         is_written n id groups slots_of v r allowed (attached_to register.members next) from.0 y (now.now from.0 from.1) (long.now from.0 from.1) from.2 left (may.now from.0 from.1)
         (λ b le.
-        let after : registers.Keeps b later (Some later.value) [] t = subst (λ (a : Result ℕ Dead). MatchResult a (λ failed. registers.Keeps b later (Some later.value) [] t) (λ dead. registers.Keeps b later (Some v) ([] ++ r ∷ []) t)) is_ok (history_wide b le).after in
-        let fits : FitsIn b later.id (Some later.value) [] y = (after.now.now y there).fits in
-        subst (λ (u : Status). FitsIn b id (Some u) [] y) value_is (subst (λ (j : ℕ). FitsIn b j (Some later.value) [] y) id_is fits));
+        let after : registers.FitsRegister b later (Some later.value) [] t = subst (λ (a : Result ℕ Dead). MatchResult a (λ failed. registers.FitsRegister b later (Some later.value) [] t) (λ dead. registers.FitsRegister b later (Some v) ([] ++ r ∷ []) t)) is_ok (history_wide b le).after in
+        let fits : FitsHistory b later.id (Some later.value) [] y = (after.now.now y there).fits in
+        subst (λ (u : Status). FitsHistory b id (Some u) [] y) value_is (subst (λ (j : ℕ). FitsHistory b j (Some later.value) [] y) id_is fits));
   }

@@ -10,8 +10,8 @@ use Rattle.asm_formats.specs.Metadata.{Metadata, metadata}
 use Rattle.asm_formats.specs.Content.{Content}
 use Rattle.asm_formats.specs.Sets.{elements}
 use Rattle.asm_formats.specs.Status.{Status, entry_of}
-use Rattle.asm_images.specs.Members.{Image, Member, with_member, members_from, members, all_members, within, disk_of, is_disk}
-use Rattle.asm_images.specs.Directories.{to_list, held_by, copy_on, copies, newest, newer, directories, IsNamed}
+use Rattle.asm_images.specs.Members.{ImageBytes, Member, with_member, members_from, members, all_members, within, disk_of, is_disk}
+use Rattle.asm_images.specs.Directories.{to_list, member_contents, copy_on, copies, newest, newer, directories, IsNamed}
 use Rattle.asm_placement.proofs.Membership.{among_filtered}
 use Rattle.asm_images.proofs.Membership.{flat_map_among}
 use Rattle.asm_images.proofs.Replacing.{Keeps, found_among}
@@ -20,24 +20,24 @@ use Rattle.asm_images.proofs.Held.{find_some}
 use Rattle.asm_images.proofs.OneContent.{one_content_is_found}
 
 -- the member's disk as it is on another image
-abbrev pub renewed : Image → Member → Member
+abbrev pub renewed : ImageBytes → Member → Member
 renewed image m = record m { disk = disk_of image m.slot }
 
-pub renewed_keeps : (image : Image) → Keeps (renewed image)
+pub renewed_keeps : (image : ImageBytes) → Keeps (renewed image)
 renewed_keeps image = record { slot = λ m. refl; header = λ m. refl }
 
 both_lists : (f : Member → Member) (b : Bool) (x y : Member) (others rest : List Member) → x ≡ f y → others ≡ map f rest → cond b (x ∷ others) others ≡ map f (cond b (y ∷ rest) rest)
 both_lists f true x y others rest e same = λ i. e i ∷ same i
 both_lists f false x y others rest e same = same
 
-one_renewed : (id slot : ℕ) (new : Image) (x y : Metadata) (o : Option Header) (others rest : List Member) → disk_of new slot ≡ y → others ≡ map (renewed new) rest
+one_renewed : (id slot : ℕ) (new : ImageBytes) (x y : Metadata) (o : Option Header) (others rest : List Member) → disk_of new slot ≡ y → others ≡ map (renewed new) rest
     → with_member id slot y o others ≡ map (renewed new) (with_member id slot x o rest)
 one_renewed id slot new x y None others rest is same = same
 one_renewed id slot new x y (Some h) others rest is same =
     both_lists (renewed new) (h.id == id) (record { slot = slot; header = h; disk = y }) (record { slot = slot; header = h; disk = x }) others rest
     (ap (λ (d : Metadata). record { slot = slot; header = h; disk = d }) (sym is)) same
 
-renewed_from : (id slot : ℕ) (new : Image) (olds news : Image) → length news ≡ length olds
+renewed_from : (id slot : ℕ) (new : ImageBytes) (olds news : ImageBytes) → length news ≡ length olds
     → ((k : ℕ) → k < length olds → (metadata (get_or news k [])).header ≡ (metadata (get_or olds k [])).header)
     → ((k n : ℕ) → n ≡ k + slot → k < length olds → get_or new n [] ≡ get_or news k [])
     → members_from id slot (map metadata news) ≡ map (renewed new) (members_from id slot (map metadata olds))
@@ -52,7 +52,7 @@ renewed_from id slot new (x ∷ olds) (y ∷ news) size header at =
     ∙ one_renewed id slot new (metadata x) (metadata y) (metadata x).header (members_from id (suc slot) (map metadata news)) (members_from id (suc slot) (map metadata olds)) here rest
 
 -- Where headers stay, the members are those before, with their disks as they are now.
-pub members_renewed : (id : ℕ) (old new : Image) → length new ≡ length old → ((slot : ℕ) → slot < length old → (disk_of new slot).header ≡ (disk_of old slot).header)
+pub members_renewed : (id : ℕ) (old new : ImageBytes) → length new ≡ length old → ((slot : ℕ) → slot < length old → (disk_of new slot).header ≡ (disk_of old slot).header)
     → all_members id new ≡ map (renewed new) (all_members id old)
 unfolding members
 members_renewed id old new size header = renewed_from id 0 new old new size header (λ k n is lt. ap (λ (j : ℕ). get_or new j []) (omega arith))
@@ -102,7 +102,7 @@ module _ (r : Status) (ms : List Member) (m : Member) (among : IsAmong ms m) (na
         birth = sym birth;
       } in
       let c = have x x_among x_named number (birth ∙ named.birth) in
-      let held : held_by (find test ms) ≡ c.0 ∷ [] = ap held_by f.1 ∙ ap to_list c.1 in
+      let held : member_contents (find test ms) ≡ c.0 ∷ [] = ap member_contents f.1 ∙ ap to_list c.1 in
       let here : copy_on ms m.header.number (entry_of r.entries m.header.number) ≡ c.0 ∷ [] = ap (copy_on ms m.header.number) named.entry_is ∙ held in (
         c.0,
         flat_map_among (λ (d : ℕ). copy_on ms d (entry_of r.entries d)) (elements r.directories) m.header.number c.0 named.named

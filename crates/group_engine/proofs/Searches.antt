@@ -61,7 +61,7 @@ followed_search at c r s k b tables was follows is = record {
     by false new there regular = tt
 
 -- a plan's change of one chunk was committed
-pub plan_search : (at : Chunk) (old new : Catalogued) (r q : Status) (s : SearchState) (put : List records.Entry) (gone : List Key) → IsPlanIn at old put gone → IsAfter old.tables put gone new.tables → IsSearchOf old r s → new.shape ≡ old.shape → q.entries ≡ r.entries
+pub plan_search : (at : Chunk) (old new : Catalogued) (r q : Status) (s : SearchState) (put : List records.DirectoryRecord) (gone : List Key) → IsPlanIn at old put gone → IsAfter old.tables put gone new.tables → IsSearchOf old r s → new.shape ≡ old.shape → q.entries ≡ r.entries
     → WasSearchOf at new q s
 plan_search at old new r q s put gone plan after search shape entries = record {
   old = old;

@@ -7,8 +7,8 @@ use Rattle.asm_formats.specs.Metadata.{Metadata}
 use Rattle.asm_formats.specs.Status.{Status}
 use Rattle.asm_formats.specs.Among.{IsAmong}
 use Rattle.asm_images.specs.Kept.{Kept, IsHeld}
-use Rattle.asm_images.specs.Members.{Image, Member, AreDistinct, all_members, within, statuses, disk_of}
-use Rattle.asm_images.specs.Register.{Fits, HoldsOne, greatest, is_enough, status, status_by}
+use Rattle.asm_images.specs.Members.{ImageBytes, Member, AreDistinct, all_members, within, statuses, disk_of}
+use Rattle.asm_images.specs.Register.{Fits, HoldsOne, greatest, is_enough, status, status_if_enough}
 use Rattle.asm_images.specs.Directories.{directories, newest}
 use Rattle.asm_images.specs.Stands.{Standing}
 use Rattle.asm_images.proofs.History.{among_statuses, greatest_is, nothing_greatest, not_older, status_counts, status_parts}
@@ -31,9 +31,9 @@ some_greatest rs r h = go (greatest rs) refl
 
 status_is : (id : ℕ) (ms : List Member) (g : Status) → greatest (statuses id ms) ≡ Some g → is_enough g ms ≡ true → g.gone ≡ false → status id ms ≡ Some g
 unfolding status
-status_is id ms g is enough alive = ap (status_by ms) is ∙ (λ i. cond (enough i && not (alive i)) (Some g) None)
+status_is id ms g is enough alive = ap (status_if_enough ms) is ∙ (λ i. cond (enough i && not (alive i)) (Some g) None)
 
-pub stands_by : (id : ℕ) (image : Image) (slots : ℕ → Bool) (v : Status) (begun : List Status) → Fits id (all_members id image) (Some v) begun
+pub stands_by : (id : ℕ) (image : ImageBytes) (slots : ℕ → Bool) (v : Status) (begun : List Status) → Fits id (all_members id image) (Some v) begun
     → ((s : Status) → IsAmong (v ∷ begun) s → IsThere (within slots (all_members id image)) s) → Standing id image slots
 stands_by id image slots v begun fits there =
     let all = all_members id image in
@@ -52,7 +52,7 @@ stands_by id image slots v begun fits there =
 
 -- ---- more disks
 
-module _ (id : ℕ) (image : Image) (distinct : AreDistinct (all_members id image)) (some more : ℕ → Bool) (also : (slot : ℕ) → some slot ≡ true → more slot ≡ true) where
+module _ (id : ℕ) (image : ImageBytes) (distinct : AreDistinct (all_members id image)) (some more : ℕ → Bool) (also : (slot : ℕ) → some slot ≡ true → more slot ≡ true) where
   abbrev ms : List Member
   ms = all_members id image
 
@@ -76,7 +76,7 @@ module _ (id : ℕ) (image : Image) (distinct : AreDistinct (all_members id imag
       record { enough = more_enough r some more ms also is.enough; alive = is.alive; content = copy.0; found = copy.1 }
 
 -- Status and directories are there with any others as well
-pub stands_beside : (id : ℕ) (image : Image) (some more : ℕ → Bool) (v : Status) (begun : List Status) → Fits id (all_members id image) (Some v) begun → ((slot : ℕ) → some slot ≡ true → more slot ≡ true)
+pub stands_beside : (id : ℕ) (image : ImageBytes) (some more : ℕ → Bool) (v : Status) (begun : List Status) → Fits id (all_members id image) (Some v) begun → ((slot : ℕ) → some slot ≡ true → more slot ≡ true)
     → ((s : Status) → IsAmong (v ∷ begun) s → IsThere (within some (all_members id image)) s) → Standing id image more
 stands_beside id image some more v begun fits also there = stands_by id image more v begun fits (λ s counts. there_with_more id image fits.distinct some more also s (there s counts))
 
@@ -95,7 +95,7 @@ there_over f keeps ms same r is = record {
 }
 
 -- by Status and directories of these disks
-pub there_by : (id : ℕ) (image : Image) (slots : ℕ → Bool) (v : Status) → Fits id (all_members id image) (Some v) [] → Standing id image slots → IsThere (within slots (all_members id image)) v
+pub there_by : (id : ℕ) (image : ImageBytes) (slots : ℕ → Bool) (v : Status) → Fits id (all_members id image) (Some v) [] → Standing id image slots → IsThere (within slots (all_members id image)) v
 there_by id image slots v fits s =
     let ms = all_members id image in
     let is : s.record_ ≡ v = ⊎_elim (λ e. e) (λ none. absurd none) (status_counts id ms (Some v) [] slots s.record_ fits s.status_is) in
@@ -108,7 +108,7 @@ there_by id image slots v fits s =
     }
 
 -- the completed record is held
-pub completed_held : (id : ℕ) (image : Image) (slots : ℕ → Bool) (v : Status) → Fits id (all_members id image) (Some v) [] → IsThere (within slots (all_members id image)) v → IsAmong (statuses id (all_members id image)) v
+pub completed_held : (id : ℕ) (image : ImageBytes) (slots : ℕ → Bool) (v : Status) → Fits id (all_members id image) (Some v) [] → IsThere (within slots (all_members id image)) v → IsAmong (statuses id (all_members id image)) v
 completed_held id image slots v fits is =
     let ms = all_members id image in
     let one : HoldsOne id (v ∷ []) (within slots ms) = fits.completed_found slots v refl is.enough in

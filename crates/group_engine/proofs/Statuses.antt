@@ -143,8 +143,8 @@ module _ (n : ℕ) (m : MountedGroup) (next : Status) (s t : BayState) (sound : 
       let later : Registered = record m.register { value = numbered m.register next; turn = next_turn m.register.turn; is_fresh = false } in
       let is : reg ≡ later = written.register ∙ ap (λ (a : Result ℕ Dead). after_write m.register next a) is_ok in
       let kept_later : Kept = record { completed = later.value; begun = []; slots = kept.slots } in
-      let after : registers.Keeps n reg (Some reg.value) [] t = subst
-      (λ (a : Result ℕ Dead). MatchResult a (λ f. registers.Keeps n reg (Some reg.value) [] t) (λ dead. registers.Keeps n reg (Some r) ([] ++ numbered m.register next ∷ []) t)) is_ok
+      let after : registers.FitsRegister n reg (Some reg.value) [] t = subst
+      (λ (a : Result ℕ Dead). MatchResult a (λ f. registers.FitsRegister n reg (Some reg.value) [] t) (λ dead. registers.FitsRegister n reg (Some r) ([] ++ numbered m.register next ∷ []) t)) is_ok
       (history_wide n (g ∷ []) kept.slots m.register reg next answer s t sound gets.turns written.allowed mounts.register stand long run written.history n (omega arith)).after in
       let done = record_done n (g ∷ []) kept.slots m.register reg next answer s t sound gets.turns written.allowed mounts.register stand long run written.history
       taken is_ok (ap (λ (x : Registered). x.value) is) (ap (λ (x : Registered). x.id) is) (g ∷ []) may in
@@ -162,7 +162,7 @@ module _ (n : ℕ) (m : MountedGroup) (next : Status) (s t : BayState) (sound : 
           own = mounts.own;
           completed = refl;
           begun = refl;
-          register = subst (λ (x : Registered). registers.Keeps n x (Some x.value) [] t) is after;
+          register = subst (λ (x : Registered). registers.FitsRegister n x (Some x.value) [] t) is after;
           now = done;
         }),
       )

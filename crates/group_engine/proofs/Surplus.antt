@@ -15,18 +15,18 @@ use Rattle.asm_formats.specs.Sets.{has_bit}
 use Rattle.asm_formats.specs.Status as status
 use Rattle.asm_formats.specs.Status.{Status}
 use Rattle.asm_base.specs.Chunks.{Chunk, chunk_cmp}
-use Rattle.asm_placement.specs.Layout.{LiesAt, has_extent}
+use Rattle.asm_placement.specs.Layout.{LiesAt, has_extent_by_size}
 use Rattle.asm_placement.specs.Naming.{is_birth}
 use Rattle.asm_placement.specs.Tables.{head_of}
 use Rattle.asm_images.specs.Copies.{IsCurrent}
-use Rattle.asm_images.specs.Describing.{AreRegular, IsHeadOf, LiesIn, SameFile, has_info}
+use Rattle.asm_images.specs.Describing.{AreRegular, IsHeadOf, LiesIn, SameFile, has_info_in_items}
 use Rattle.rebalance.specs.extent_map.Extents.{Chunked, chunk_at}
 use Rattle.rebalance.proofs.extent_map.Laws.{chunk_total, same_chunk}
 use Rattle.rebalance.proofs.extent_map.Numbering.{size_of}
 use Rattle.rebalance.specs.file_directory.Files.{head_at}
 use Rattle.rebalance.specs.catalog_tables.Items.{AreItemsOf}
 use Rattle.rebalance.specs.catalog_tables.Rules as rules
-use Rattle.rebalance.specs.catalog_tables.Rules.{AreOnRegular, are_on_regular, first_unknown, homes_at, is_due, is_on_regular, is_regular_chunk, marks_of}
+use Rattle.rebalance.specs.catalog_tables.Rules.{AreOnRegular, are_on_regular, first_unknown, homes_at, head_has_extent, is_on_regular, is_regular_chunk, marks_of}
 use Rattle.rebalance.specs.catalog_tables.Tables.{AreTables, Tables}
 use Rattle.rebalance.proofs.catalog_tables.EntryLaws.{holds_all, none_wrong}
 use Rattle.rebalance.proofs.catalog_laws.HavingItems.{have_items}
@@ -43,7 +43,7 @@ use Rattle.group_engine.proofs.Bytes.{mounted_holds}
 first_below : (a b c o size : ℕ) → o ≡ a + b + c → o < size → a < size
 first_below a b c o size e lt = omega (arith, e, lt)
 
-lies_due : (stripe : Stripe) (au step size o i q : ℕ) → LiesAt stripe au step o i q → o < size → has_extent stripe au step size i ≡ true
+lies_due : (stripe : Stripe) (au step size o i q : ℕ) → LiesAt stripe au step o i q → o < size → has_extent_by_size stripe au step size i ≡ true
 lies_due Coarse au step size o i q lies lt = lt-ltb _ size (first_below _ q 0 o size (omega (arith, lies.byte)) lt)
 lies_due Fine au step size o i q lies lt = lt-ltb _ size (first_below _ _ _ o size lies.byte lt)
 
@@ -53,9 +53,9 @@ known_inside cells o b known = elim (cases_lt o (length cells)) [
   | inr past ↦ let free : get_or cells o Free ≡ Free = get_or_past cells o Free past in absurd cc
 ]
 
-due_of : (s : Shape) (file : File) (head : FileHead) (o i q : ℕ) → IsHeadOf head file → LiesIn s file.stripe o i q → o < length file.cells → is_due s head i ≡ true
+due_of : (s : Shape) (file : File) (head : FileHead) (o i q : ℕ) → IsHeadOf head file → LiesIn s file.stripe o i q → o < length file.cells → head_has_extent s head i ≡ true
 due_of s file head o i q is lies lt =
-    ap (λ (x : Stripe). has_extent x s.au s.step head.size i) is.1 ∙ ap (λ (n : ℕ). has_extent file.stripe s.au s.step n i) is.4 ∙ lies_due file.stripe s.au s.step (length file.cells) o i q lies lt
+    ap (λ (x : Stripe). has_extent_by_size x s.au s.step head.size i) is.1 ∙ ap (λ (n : ℕ). has_extent_by_size file.stripe s.au s.step n i) is.4 ∙ lies_due file.stripe s.au s.step (length file.cells) o i q lies lt
 
 -- the head of a file of a group that the tables describe
 headed : (t : Tables) (items : List Item) (f : ℕ) (file : File) (o : Option File) → head_of items f ≡ head_at t.files f → SameFile (head_of items f) o → o ≡ Some file
@@ -74,7 +74,7 @@ surplus_is_held = λ id r t u g image are_t are_u have keeps holds slots later a
     let say_u = items_say u later are_u are_later in
     λ f o b i inner copy file home m is_file cell lies among current.
     let head = headed t items.0 f file (maps.get g.files f) (say_t.heads f) ((have items.0 items.1).files f) is_file in
-    let due : is_due g.shape head.0 i ≡ true = due_of g.shape file head.0 o i inner head.2 lies (known_inside file.cells o b cell) in
+    let due : head_has_extent g.shape head.0 i ≡ true = due_of g.shape file head.0 o i inner head.2 lies (known_inside file.cells o b cell) in
     let is_current : IsCurrent r items.0 f i copy home m = record {
       home = home_by t items.0 are_t items.1 f i copy ∙ ap (λ (hs : Homes). get_or hs copy None) (sym (keeps.homes f i head.0 head.1 due)) ∙ sym (home_by u later are_u are_later f i copy) ∙ current.home;
       kept = current.kept;
@@ -85,10 +85,10 @@ surplus_is_held = λ id r t u g image are_t are_u have keeps holds slots later a
 -- ---- the tables describe it
 
 -- each entry has its disk record, by the tables as by their items
-none_unknown : (t : Tables) (items : List Item) → AreItemsOf t items → (es : List status.Entry) → list_all (has_info items) es ≡ true → first_unknown t es ≡ None
+none_unknown : (t : Tables) (items : List Item) → AreItemsOf t items → (es : List status.Entry) → list_all (has_info_in_items items) es ≡ true → first_unknown t es ≡ None
 none_unknown t items is [] all = refl
 none_unknown t items is (e ∷ es) all =
-    let p = and_parts (has_info items e) (list_all (has_info items) es) all in
+    let p = and_parts (has_info_in_items items e) (list_all (has_info_in_items items) es) all in
     let here : rules.has_info t e ≡ true = ap (is_birth e.birth) (sym (infos_are t items is e.number)) ∙ p.0 in
     rw here (none_unknown t items is es p.1)
 

@@ -7,7 +7,7 @@ use Rattle.asm_base.specs.declared.refusal.Refusal.TheVariants as cause
 use Rattle.asm_formats.specs.Status.{entry_of}
 use Rattle.group_engine.specs.Commits.{StatusCause}
 use Rattle.group_engine.specs.Making.{IsShut}
-use Rattle.group_engine.specs.Members.{LeavesOne, LetsGo, LettingCause, without_disk}
+use Rattle.group_engine.specs.Members.{LeavesOne, LetsGo, LettingCause, without_attached_disk}
 use Rattle.group_engine.specs.Mounts.{IsMounted, IsWhole, MountedGroup, Takes, slot_at}
 use Rattle.group_engine.specs.Own.{KeepsGroup}
 use Rattle.group_engine.specs.Pending.{GoesOn}
@@ -23,7 +23,7 @@ module _ (a b c : MountedGroup) (s t u : BayState) (d : ℕ) (keeps : KeepsGroup
   takes m = (keeps.whole m, keeps.ready m)
 
   abbrev left : MountedGroup
-  left = without_disk b d
+  left = without_attached_disk b d
 
   lets_left : LetsGo a left s t
   lets_left = lets_join (keeps_lets keeps) (detached_lets b d t gone takes)

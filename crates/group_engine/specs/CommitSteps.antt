@@ -10,7 +10,7 @@ use Rattle.asm_formats.specs.Metadata.{header_of}
 use Rattle.asm_formats.specs.Places.{SameElsewhere}
 use Rattle.asm_formats.specs.Status.{Status}
 use Rattle.asm_formats.specs.Among.{IsAmong}
-use Rattle.asm_images.specs.Members.{Image, Member, all_members, disk_of}
+use Rattle.asm_images.specs.Members.{ImageBytes, Member, all_members, disk_of}
 use Rattle.asm_images.specs.Describing.{DescribesGroup}
 use Rattle.asm_images.specs.Directories.{IsNamed}
 use Rattle.asm_images.specs.PutLaws.{bytes_of}
@@ -18,8 +18,8 @@ use Rattle.asm_images.specs.Sound.{SoundBy}
 use Rattle.asm_images.specs.Stands.{HoldsBytes, Standing}
 
 -- the content of these items under a commit number
-abbrev pub content_of : ℕ → List Item → Content
-content_of number items = record { commit = number; items = Some items }
+abbrev pub content_of_items : ℕ → List Item → Content
+content_of_items number items = record { commit = number; items = Some items }
 
 -- at most the directory region of the disk changes
 pub record ChangesRegion (old new : List ℕ) : Type 0 where
@@ -28,7 +28,7 @@ pub record ChangesRegion (old new : List ℕ) : Type 0 where
   pub inside : (h : Header) → header_of old ≡ Some h → region_start * block_size + len ≤ region_end h.shape.dir_blocks * block_size
 
 -- Disks change in their directory regions alone. Each copy that the record names had the content before, and has it or the one after.
-pub record IsCommitting (id : ℕ) (r : Status) (before after : Content) (old new : Image) : Type 0 where
+pub record IsCommitting (id : ℕ) (r : Status) (before after : Content) (old new : ImageBytes) : Type 0 where
   pub size : length new ≡ length old
   pub disks : (slot : ℕ) → slot < length old → ChangesRegion (bytes_of old slot) (bytes_of new slot)
   pub decode : (slot : ℕ) → slot < length old → IsTrue (disk_of old slot).decodes → IsTrue (disk_of new slot).decodes
@@ -36,12 +36,12 @@ pub record IsCommitting (id : ℕ) (r : Status) (before after : Content) (old ne
   pub either : (m : Member) → IsAmong (all_members id new) m → IsNamed r m.header → (m.disk.content ≡ Some before) ⊎ (m.disk.content ≡ Some after)
 
 -- each copy that the record names has the content
-abbrev pub AllHave : ℕ → Status → Content → Image → Type 0
+abbrev pub AllHave : ℕ → Status → Content → ImageBytes → Type 0
 AllHave id r c image = (m : Member) → IsAmong (all_members id image) m → IsNamed r m.header → m.disk.content ≡ Some c
 
 -- The disks as they are hold another group once the directories have these items: they describe it, and its known bytes stand in the
 -- current copies. What the items say of the bytes is all that callers show of an image.
-pub record Becomes (id : ℕ) (r : Status) (g : Group) (items : List Item) (h : Group) (image : Image) : Type 0 where
+pub record Becomes (id : ℕ) (r : Status) (g : Group) (items : List Item) (h : Group) (image : ImageBytes) : Type 0 where
   pub name : h.name ≡ g.name
   pub shape : h.shape ≡ g.shape
   pub describes : DescribesGroup r items h
@@ -50,19 +50,19 @@ pub record Becomes (id : ℕ) (r : Status) (g : Group) (items : List Item) (h : 
 -- While a commit is on its way, the image stands for the group before or the one after.
 abbrev pub CommittingIsSound : Type 0
 CommittingIsSound =
-    (id number next : ℕ) (r : Status) (g h : Group) (items later : List Item) (old new : Image) → number ≢ next → SoundBy id old (g ∷ []) (Some r) []
-    → Becomes id r g later h old → IsCommitting id r (content_of number items) (content_of next later) old new
+    (id number next : ℕ) (r : Status) (g h : Group) (items later : List Item) (old new : ImageBytes) → number ≢ next → SoundBy id old (g ∷ []) (Some r) []
+    → Becomes id r g later h old → IsCommitting id r (content_of_items number items) (content_of_items next later) old new
     → SoundBy id new (g ∷ h ∷ []) (Some r) []
 
 -- Once each named copy has the content after, it stands for the one after.
 abbrev pub CommittedIsSound : Type 0
 CommittedIsSound =
-    (id number next : ℕ) (r : Status) (g h : Group) (items later : List Item) (old new : Image) → number ≢ next → SoundBy id old (g ∷ []) (Some r) []
-    → Becomes id r g later h old → IsCommitting id r (content_of number items) (content_of next later) old new → AllHave id r (content_of next later) new
+    (id number next : ℕ) (r : Status) (g h : Group) (items later : List Item) (old new : ImageBytes) → number ≢ next → SoundBy id old (g ∷ []) (Some r) []
+    → Becomes id r g later h old → IsCommitting id r (content_of_items number items) (content_of_items next later) old new → AllHave id r (content_of_items next later) new
     → SoundBy id new (h ∷ []) (Some r) []
 
 -- Where these disks are left, Status and directories are there as before.
 abbrev pub CommittingIsStanding : Type 0
 CommittingIsStanding =
-    (id : ℕ) (slots : ℕ → Bool) (r : Status) (groups : List Group) (before after : Content) (old new : Image) → SoundBy id old groups (Some r) []
+    (id : ℕ) (slots : ℕ → Bool) (r : Status) (groups : List Group) (before after : Content) (old new : ImageBytes) → SoundBy id old groups (Some r) []
     → IsCommitting id r before after old new → Standing id old slots → Standing id new slots

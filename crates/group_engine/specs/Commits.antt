@@ -7,7 +7,7 @@ use Rattle.bay.specs.Moments.{LeavesOnly, NowOnly}
 use Rattle.asm_group.specs.Group.{Group}
 use Rattle.asm_formats.specs.Items.{Key}
 use Rattle.asm_formats.specs.Following.{sets}
-use Rattle.asm_base.specs.Records.{Entry}
+use Rattle.asm_base.specs.Records.{DirectoryRecord}
 use Rattle.asm_base.specs.declared.refusal.DiskRef.{DiskRef}
 use Rattle.asm_base.specs.declared.refusal.DiskRef.TheVariants as disk
 use Rattle.asm_base.specs.declared.refusal.Refusal.{Refusal}
@@ -24,7 +24,7 @@ use Rattle.directory_store.specs.Answers.{NoCalls}
 use Rattle.directory_store.specs.page_map.Tables.{new_in, room}
 use Rattle.status_register.specs.Holders.{attached_to}
 use Rattle.status_register.specs.Surveys.{AreRead}
-use Rattle.status_register.specs.Writes.{IsLost}
+use Rattle.status_register.specs.Writes.{IsLostMember}
 use Rattle.status_register.specs.declared.member.Member.{Member}
 use Rattle.group_engine.specs.Becoming.{HoldsIn, LeadsToGroup}
 use Rattle.group_engine.specs.Changes.{IsAsBefore}
@@ -41,7 +41,7 @@ pub record StandsIn (n id : ℕ) (groups : List Group) (kept : Kept) (image : Im
   pub beside : (slots : ℕ → Bool) → ((slot : ℕ) → kept.slots slot ≡ true → slots slot ≡ true) → Standing id (disks_in n image) slots
 
 -- The group that a change leads to: its tables say so, and its bytes stand on the disks as they are.
-pub record LeadsTo (n : ℕ) (m : MountedGroup) (put : List Entry) (gone : List Key) (s : BayState) (g h : Group) (kept : Kept) : Type 0 where
+pub record LeadsTo (n : ℕ) (m : MountedGroup) (put : List DirectoryRecord) (gone : List Key) (s : BayState) (g h : Group) (kept : Kept) : Type 0 where
   pub mounts : Mounts n m s g kept
   pub tables : Tables
   pub after : IsAfter m.catalog.tables put gone tables
@@ -65,7 +65,7 @@ pub record LosesMajority (m : MountedGroup) (next : Status) (slot : ℕ) (s t : 
   pub took : List Member
   pub read : AreRead (λ (k : ℕ). Rose (s.faults k) (t.faults k)) (attached_to m.register.members next) took
   pub disk : Member
-  pub lost : IsLost (attached_to m.register.members next) took (sets next) disk
+  pub lost : IsLostMember (attached_to m.register.members next) took (sets next) disk
   pub at : slot ≡ disk.slot
 
 -- The disk has a directory copy by the record, and each disk that has one failed.
@@ -87,7 +87,7 @@ DismountCause old new s t (disk.Number d) = (old.access ≡ access.Dismounted d)
 DismountCause old new s t (disk.Spelt text) = ⊥
 
 -- The group takes calls and has a directory copy, and more records are new than there are blocks left.
-pub record IsFull (m : MountedGroup) (put : List Entry) (need free : ℕ) : Type 0 where
+pub record IsFull (m : MountedGroup) (put : List DirectoryRecord) (need free : ℕ) : Type 0 where
   pub mounted : IsMounted m
   pub copies : 0 < length m.store.copies
   pub need_is : need ≡ new_in m.store.table put
@@ -95,7 +95,7 @@ pub record IsFull (m : MountedGroup) (put : List Entry) (need free : ℕ) : Type
   pub few : free < need
 
 -- When a commit is refused. Want of memory is free.
-abbrev pub CommitCause : MountedGroup → List Entry → MountedGroup → BayState → BayState → Refusal → Type 0
+abbrev pub CommitCause : MountedGroup → List DirectoryRecord → MountedGroup → BayState → BayState → Refusal → Type 0
 CommitCause old put new s t (cause.DirectoryFull need free) = IsFull old put need free
 CommitCause old put new s t (cause.Dismounted by) = DismountCause old new s t by
 CommitCause old put new s t cause.NoMemory = ⊤
@@ -139,7 +139,7 @@ turns_at_most m = m.register.turn + length m.store.copies
 
 -- A commit on a group that takes calls: what it keeps, what the record and the tables are after it, why it is refused, what each image of
 -- each moment is held for, and what is mounted at the end.
-pub record CommitsChange (old : MountedGroup) (put : List Entry) (gone : List Key) (answer : Result (Unit {0}) Refusal) (new : MountedGroup)
+pub record CommitsChange (old : MountedGroup) (put : List DirectoryRecord) (gone : List Key) (answer : Result (Unit {0}) Refusal) (new : MountedGroup)
     (s t : BayState) : Type 0 where
   pub keeps : KeepsGroup old new s t
   pub flight : new.flight ≡ old.flight
@@ -157,7 +157,7 @@ pub record CommitsChange (old : MountedGroup) (put : List Entry) (gone : List Ke
 
 -- The commit of a change that a plan gave: it was done, or was refused for a disk that failed or for want of memory. Of a group that takes
 -- calls it does what a commit does.
-pub record CommitsPlan (old : MountedGroup) (put : List Entry) (gone : List Key) (answer : Result (Unit {0}) Refusal) (new : MountedGroup)
+pub record CommitsPlan (old : MountedGroup) (put : List DirectoryRecord) (gone : List Key) (answer : Result (Unit {0}) Refusal) (new : MountedGroup)
     (s t : BayState) : Type 0 where
   pub cause : IfErr answer (StatusCause old new s t)
   -- the tables are those after the change

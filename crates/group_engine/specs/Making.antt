@@ -31,10 +31,10 @@ dismounted_by (Dismounted disk) = Some disk
 dismounted_by Closed = None
 
 -- after a want of memory behind a commit
-abbrev pub closed : Access → Access
-closed Mounted = Closed
-closed (Dismounted disk) = Dismounted disk
-closed Closed = Closed
+abbrev pub access_after_closing : Access → Access
+access_after_closing Mounted = Closed
+access_after_closing (Dismounted disk) = Dismounted disk
+access_after_closing Closed = Closed
 
 -- why a group takes no calls
 abbrev pub IsShut : Access → Refusal → Type 0

@@ -29,12 +29,12 @@ pub record LetsGo (old new : MountedGroup) (s t : BayState) : Type 0 where
 -- ---- one disk more, and one less
 
 -- the group with an attached disk more, whose image has so many bytes
-abbrev pub with_disk : MountedGroup → Member → ℕ → MountedGroup
-with_disk m x size = record m { register = with_attached m.register x; disks = set m.disks x.number (Some (record { slot = x.slot; size = size })) }
+abbrev pub with_attached_disk : MountedGroup → Member → ℕ → MountedGroup
+with_attached_disk m x size = record m { register = with_attached m.register x; disks = set m.disks x.number (Some (record { slot = x.slot; size = size })) }
 
 -- the group with no attached disk of a number
-abbrev pub without_disk : MountedGroup → ℕ → MountedGroup
-without_disk m d = record m { register = without_attached m.register d; disks = set m.disks d None }
+abbrev pub without_attached_disk : MountedGroup → ℕ → MountedGroup
+without_attached_disk m d = record m { register = without_attached m.register d; disks = set m.disks d None }
 
 -- There is a place for the disk: none is attached at its number or on its slot, and where its number has an entry, its birth is the entry's.
 pub record HasPlace (m : MountedGroup) (x : Member) : Type 0 where

@@ -110,7 +110,7 @@ HaveSizes disks state = (d : ℕ) (a : Attached) → get_or disks d None ≡ Som
 -- What a call needs on every bay: its store takes commits, its register may be written, and the attached disks have their sizes.
 pub record IsReady (m : MountedGroup) (state : BayState) : Type 0 where
   pub store : stores.Keeps m.store state
-  pub register : registers.IsReady m.register state
+  pub register : registers.IsRegisterReady m.register state
   pub sizes : HaveSizes m.disks state
 
 -- While the group is mounted, its parts agree and it takes the next call.
@@ -133,5 +133,5 @@ pub record Mounts (n : ℕ) (m : MountedGroup) (state : BayState) (g : Group) (k
   pub own : AreOwn m kept.slots
   pub completed : kept.completed ≡ m.register.value
   pub begun : kept.begun ≡ []
-  pub register : registers.Keeps n m.register (Some m.register.value) [] state
+  pub register : registers.FitsRegister n m.register (Some m.register.value) [] state
   pub now : NowOnly state (IsHeld n m.register.id (g ∷ []) kept)

@@ -3,7 +3,7 @@ use Rattle.std.specs.Prelude.{◌≡◌, Bool, List, Option, length}
 use Rattle.std.specs.Bool.{OnTrue}
 use Rattle.asm_formats.specs.Items.{Item, Key}
 use Rattle.asm_formats.specs.Status.{Status}
-use Rattle.asm_base.specs.Records.{Entry}
+use Rattle.asm_base.specs.Records.{DirectoryRecord}
 use Rattle.asm_placement.specs.Rebalancing.{next}
 use Rattle.rebalance.specs.catalog_tables.Items.{AreItemsOf}
 use Rattle.rebalance.specs.catalog.Plans.{IsPlan}
@@ -36,7 +36,7 @@ pub record WasSearchOf (at : Chunk) (c : Catalogued) (r : Status) (s : SearchSta
   pub same : IsSameBut at old.tables c.tables
 
 -- The plan's change leads to tables in which all chunks but one are as they were.
-pub record IsPlanIn (at : Chunk) (c : Catalogued) (put : List Entry) (gone : List Key) : Type 0 where
+pub record IsPlanIn (at : Chunk) (c : Catalogued) (put : List DirectoryRecord) (gone : List Key) : Type 0 where
   pub tables : Tables
   pub plan : IsPlan c put gone tables
   pub same : IsSameBut at c.tables tables

@@ -2,7 +2,7 @@
 ghost use Rattle.std.specs.Prelude.{◌≡◌, ◌<◌, None, Some, get_or};
 ghost use Rattle.std.specs.Bool.{OnFalse, OnTrue};
 ghost use Rattle.asm_formats.specs.Status.{entry_of};
-ghost use Rattle.group_engine.specs.Members.{HasImage, HasPlace, with_disk, without_disk};
+ghost use Rattle.group_engine.specs.Members.{HasImage, HasPlace, with_attached_disk, without_attached_disk};
 ghost use Rattle.group_engine.specs.Mounts.{IsOwn, Takes};
 ghost use Rattle.status_register.specs.declared.member.Member.{Member as AttachedMember};
 
@@ -57,7 +57,7 @@ impl Mounted {
     pub fn attach<B: Bay>(&mut self, bay: &B, member: Member, size: u64)
         requires place { HasPlace self.old member }
         requires image { HasImage member size (B.state bay.now) }
-        ensures group { self.new ≡ with_disk self.old member size }
+        ensures group { self.new ≡ with_attached_disk self.old member size }
         // While the group takes calls, its parts agree and it takes the next call.
         ensures takes { Takes self.old (B.state bay.now) → Takes self.new (B.state bay.now) }
     {
@@ -76,7 +76,7 @@ impl Mounted {
     pub(crate) fn detach<B: Bay>(&mut self, bay: &B, disk: u8)
         requires small { disk < 64 }
         requires gone { entry_of self.old.register.value.entries disk ≡ None }
-        ensures group { self.new ≡ without_disk self.old disk }
+        ensures group { self.new ≡ without_attached_disk self.old disk }
         ensures takes { Takes self.old (B.state bay.now) → Takes self.new (B.state bay.now) }
     {
         let _bay = bay;

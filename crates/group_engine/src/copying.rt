@@ -8,7 +8,7 @@ ghost use Rattle.group_engine.specs.Commits.{turns_at_most};
 ghost use Rattle.group_engine.specs.Copying.{CopiesTo, DirectoryCopyCause, IsOneMore, LeavesGroup, MountsLater, MountsStill, StandThrough, WritesMore};
 ghost use Rattle.group_engine.specs.Mounts.{IsMounted, IsReady, IsWhole, Takes};
 ghost use Rattle.group_engine.specs.Own.{KeepsGroup};
-ghost use Rattle.status_register.specs.Keeping.{IsReady as IsWritable};
+ghost use Rattle.status_register.specs.Keeping.{IsRegisterReady as IsWritable};
 ghost use Rattle.status_register.specs.Reaching.{Reaches};
 
 use crate::mounted::Mounted;

@@ -1,7 +1,7 @@
 // Directory copies that failed are taken out of the status record.
 ghost use Rattle.std.specs.Prelude.{◌≡◌, false, IsTrue};
 ghost use Rattle.asm_formats.specs.Status.{is_status};
-ghost use Rattle.status_register.specs.Keeping.{IsReady};
+ghost use Rattle.status_register.specs.Keeping.{IsRegisterReady};
 ghost use Rattle.status_register.specs.Reaching.{Reaches};
 ghost use Rattle.group_engine.specs.Dropping.{IsWithout, WritesFewer};
 
@@ -30,7 +30,7 @@ pub(crate) fn drop_copies<B: Bay>(
 ) -> Result<DiskSet, Dead>
     requires status { IsTrue (is_status register.old.value) }
     requires written { register.old.is_fresh ≡ false }
-    requires ready { IsReady register.old (B.state bay.old) }
+    requires ready { IsRegisterReady register.old (B.state bay.old) }
     requires majority { Reaches register.old.members register.old.value }
     ensures { WritesFewer register.old gone result register.new (B.state bay.old) (B.state bay.new) }
 {

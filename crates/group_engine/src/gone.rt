@@ -1,7 +1,7 @@
 //! A group is dropped: its status record is marked gone.
 ghost use Rattle.std.specs.Prelude.{◌≡◌, false, IfErr, IsTrue, OnOk};
 ghost use Rattle.asm_formats.specs.Status.{is_status};
-ghost use Rattle.status_register.specs.Keeping.{IsReady as IsWritable};
+ghost use Rattle.status_register.specs.Keeping.{IsRegisterReady as IsWritable};
 ghost use Rattle.status_register.specs.Reaching.{Reaches};
 ghost use Rattle.status_register.specs.RegisterCalls.{HasWritten};
 ghost use Rattle.group_engine.specs.Gone.{GoneCause, EndsGroup, IsGone, gone_of};

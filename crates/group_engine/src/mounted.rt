@@ -4,7 +4,7 @@ ghost use Rattle.std.specs.Bool.{OnFalse, OnTrue};
 ghost use Rattle.std.specs.Option.{option_map};
 ghost use Rattle.rebalance.specs.catalog_tables.Rules.{AreOnRegular};
 ghost use Rattle.group_engine.specs.declared.attached.Attached.{Attached as AttachedDisk};
-ghost use Rattle.group_engine.specs.Making.{IsShut, closed, dismounted_by, made};
+ghost use Rattle.group_engine.specs.Making.{IsShut, access_after_closing, dismounted_by, made};
 ghost use Rattle.group_engine.specs.Mounts.{IsMounted, IsWhole, slot_at};
 ghost use Rattle.group_engine.specs.Searches.{IsNextMove};
 
@@ -192,7 +192,7 @@ impl Mounted {
 
     /// Each later call answers NoMemory, where the group isn't dismounted.
     pub fn close(&mut self)
-        ensures { self.new ≡ record self.old { access = closed self.old.access } }
+        ensures { self.new ≡ record self.old { access = access_after_closing self.old.access } }
     {
         match self.access {
             Access::Mounted => self.access = Access::Closed,

@@ -1,6 +1,6 @@
 //! The tree of names is edited by one commit.
 ghost use Rattle.std.specs.Prelude.{◌≡◌, IsTrue, true};
-ghost use Rattle.group_engine.specs.alias_edits.Edits.{edit_meant, is_edit};
+ghost use Rattle.group_engine.specs.alias_edits.Edits.{edit_meant, is_tree_edit};
 ghost use Rattle.group_engine.specs.catalog.TreePlans.{IsTreePlan, IsTreeRefusal, keeps_files};
 ghost use Rattle.group_engine.specs.Mounts.{Takes};
 ghost use Rattle.group_engine.specs.Own.{KeepsGroup};
@@ -22,7 +22,7 @@ pub fn edit_tree<B: Bay>(
     edit: &TreeEdit,
 ) -> Result<(), Refusal>
     requires takes { Takes m.old (B.state bay.old) }
-    requires edit { IsTrue (is_edit (edit_meant edit.now)) }
+    requires edit { IsTrue (is_tree_edit (edit_meant edit.now)) }
     requires files { keeps_files (edit_meant edit.now) ≡ true }
     // The group's parts agree, it takes the next call, and the disks of others stay.
     ensures keeps { KeepsGroup m.old m.new (B.state bay.old) (B.state bay.new) }

@@ -6,7 +6,7 @@ ghost use Rattle.group_engine.specs.catalog.Plans.{IsTemplatePlan};
 ghost use Rattle.group_engine.specs.Mounts.{Takes};
 ghost use Rattle.group_engine.specs.Own.{KeepsGroup};
 ghost use Rattle.group_files.specs.Edits.{Edits, IsTemplateRefusal};
-ghost use Rattle.template_directory.specs.Meant.{edit_meant, is_edit};
+ghost use Rattle.template_directory.specs.Meant.{template_edit_meant, is_template_edit};
 
 use asm_base::Refusal;
 use bay::Bay;
@@ -26,11 +26,11 @@ pub fn edit_template<B: Bay>(
     edit: &TemplateEdit,
 ) -> Result<(), Refusal>
     requires takes { Takes m.old (B.state bay.old) }
-    requires edit { IsTrue (is_edit (edit_meant edit.now)) }
+    requires edit { IsTrue (is_template_edit (template_edit_meant edit.now)) }
     // The group's parts agree, it takes the next call, and the disks of others stay.
     ensures keeps { KeepsGroup m.old m.new (B.state bay.old) (B.state bay.new) }
     // A change that the edit is was committed, or the edit is refused.
-    ensures edits { Edits (IsTemplatePlan m.old.catalog (edit_meant edit.now)) (IsTemplateRefusal m.old.catalog (edit_meant edit.now)) m.old result m.new (B.state bay.old) (B.state bay.new) }
+    ensures edits { Edits (IsTemplatePlan m.old.catalog (template_edit_meant edit.now)) (IsTemplateRefusal m.old.catalog (template_edit_meant edit.now)) m.old result m.new (B.state bay.old) (B.state bay.new) }
 {
     let change = match m.catalog().plan_template(alloc, edit) {
         Ok(change) => change,

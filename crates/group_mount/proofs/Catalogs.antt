@@ -69,7 +69,7 @@ same_maps s xs ys e = λ i. map (λ (d : ℕ). unused (reserved_units s) (units_
 
 -- ---- the catalog
 
-pub catalog_under : (content : List records.Entry) (xs ys : List Entry) (c : Catalogued) → map bare ys ≡ map bare xs → IsCatalogOf content xs c → IsCatalogOf content ys c
+pub catalog_under : (content : List records.DirectoryRecord) (xs ys : List Entry) (c : Catalogued) → map bare ys ≡ map bare xs → IsCatalogOf content xs c → IsCatalogOf content ys c
 catalog_under content xs ys c same is = record {
   records = is.records;
   rules = is.rules;

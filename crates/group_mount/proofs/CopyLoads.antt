@@ -24,7 +24,7 @@ use Rattle.status_register.proofs.Meeting.{found}
 use Rattle.group_mount.specs.Alike.{first_stranger}
 use Rattle.group_mount.specs.Finding.{AreInOwnSlots as AreApartDisks, AreThere}
 use Rattle.group_mount.specs.Missing.{has_units}
-use Rattle.group_mount.specs.NamedCopies.{copy_of, is_named_copy, named_copies}
+use Rattle.group_mount.specs.NamedCopies.{directory_copy_of, is_named_copy, named_copies}
 use Rattle.group_mount.specs.Syncing.{AreMembersDurable}
 use Rattle.group_mount.specs.Verdicts.{IsSlotIn, has_slot, member_of}
 use Rattle.group_mount.specs.declared.finding.Headed.{Headed}
@@ -45,7 +45,7 @@ module _ (id : ℕ) (read : List Member) (r : Status) where
   pub record IsFrom (hs : List Headed) (c : DirCopy) : Type 0 where
     pub disk : Headed
     pub among : IsAmong hs disk
-    pub copy : c ≡ copy_of disk
+    pub copy : c ≡ directory_copy_of disk
     pub own : disk.header.id ≡ id
     pub seen : has_slot read disk.slot ≡ true
     pub named : has_bit r.directories disk.header.number ≡ true
@@ -53,7 +53,7 @@ module _ (id : ℕ) (read : List Member) (r : Status) where
     pub units : has_units r.entries disk ≡ true
     pub long : has_region disk.header.shape.dir_blocks disk.size ≡ true
 
-  parts : (h : Headed) (hs : List Headed) (c : DirCopy) → c ≡ copy_of h → IsAmong hs h → is_named_copy id read r h ≡ true → IsFrom hs c
+  parts : (h : Headed) (hs : List Headed) (c : DirCopy) → c ≡ directory_copy_of h → IsAmong hs h → is_named_copy id read r h ≡ true → IsFrom hs c
   parts h hs c same among named =
       let region = has_region h.header.shape.dir_blocks h.size in
       let a = and_parts (h.header.id == id) (has_slot read h.slot && (has_bit r.directories h.header.number && (is_of r.entries (member_of h) && (has_units r.entries h && region)))) named in
@@ -68,7 +68,7 @@ module _ (id : ℕ) (read : List Member) (r : Status) where
   copy_from (x ∷ xs) c h =
       let later : IsAmong (named_copies id read r xs) c → IsFrom (x ∷ xs) c =
       λ k. let f = copy_from xs c k in record { disk = f.disk; among = inr f.among; copy = f.copy; own = f.own; seen = f.seen; named = f.named; entry = f.entry; units = f.units; long = f.long } in
-      cond_both (is_named_copy id read r x) (copy_of x ∷ named_copies id read r xs) (named_copies id read r xs) (λ (l : List DirCopy). IsAmong l c → IsFrom (x ∷ xs) c)
+      cond_both (is_named_copy id read r x) (directory_copy_of x ∷ named_copies id read r xs) (named_copies id read r xs) (λ (l : List DirCopy). IsAmong l c → IsFrom (x ∷ xs) c)
       (λ is a. ⊎_elim (λ same. parts x (x ∷ xs) c same (inl refl) is) later a) (λ no a. later a) h
 
   -- one disk's number is that of one member
@@ -81,9 +81,9 @@ module _ (id : ℕ) (read : List Member) (r : Status) where
   copies_apart [] apart alike = tt
   copies_apart (x ∷ xs) (here, rest) alike =
       let later : AreCopiesApart (named_copies id read r xs) = copies_apart xs rest (alike_rest id x xs alike) in
-      cond_both (is_named_copy id read r x) (copy_of x ∷ named_copies id read r xs) (named_copies id read r xs) AreCopiesApart
+      cond_both (is_named_copy id read r x) (directory_copy_of x ∷ named_copies id read r xs) (named_copies id read r xs) AreCopiesApart
       (λ is.
-      let mine = parts x (x ∷ xs) (copy_of x) refl (inl refl) is in (
+      let mine = parts x (x ∷ xs) (directory_copy_of x) refl (inl refl) is in (
         (λ c among.
             let f = copy_from xs c among in (
               (λ same. here f.disk f.among (sym (same ∙ ap (λ (d : DirCopy). d.slot) f.copy))),
@@ -107,7 +107,7 @@ module _ (id : ℕ) (read : List Member) (r : Status) where
       let ok = (there.allowed h f.among).header in
       let blocks = blocks_of h.header.shape (member_shape h.header ok) in
       let slots = there_attached n hs state there h f.among in
-      let mine : IsNamedCopy [] state (copy_of h) = record {
+      let mine : IsNamedCopy [] state (directory_copy_of h) = record {
         copy_is = record {
           attached = slots.attached;
           sector_size = slots.sector_size;

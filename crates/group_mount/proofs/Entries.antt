@@ -12,18 +12,18 @@ use Rattle.asm_formats.specs.Status.{Entry, Status, ascends_from, entry_of, has_
 use Rattle.asm_placement.specs.Modes.{is_forced, is_online, serves}
 use Rattle.asm_placement.specs.Partners.{partner_set}
 use Rattle.asm_images.specs.RecordLaws.{bare}
-use Rattle.status_table.specs.Rules.{number_of}
+use Rattle.status_table.specs.Rules.{number_of_entry}
 use Rattle.status_table.proofs.Allowed.{entry_fits, entry_is, parts_of, parts_are}
 use Rattle.status_table.proofs.Kept.{kept_more}
-use Rattle.group_mount.specs.Missing.{has_disk, is_missing}
-use Rattle.group_mount.specs.NextRecord.{entry_after, moded}
+use Rattle.group_mount.specs.Missing.{has_disk_of_entry, is_missing}
+use Rattle.group_mount.specs.NextRecord.{entry_after_mount, moded}
 use Rattle.group_mount.specs.declared.quorum.Quorate.{Quorate}
 use Rattle.asm_images.proofs.Bare.{same_entry}
 
 -- ---- one entry
 
 after_has : (P : Entry → Type 0) (missing marked : Bool) (now repair : ℕ) (e : Entry) → P (record e { mode = Offline; since = now; repair = repair })
-    → P (record e { mode = Syncing }) → P e → P (entry_after missing marked now repair e)
+    → P (record e { mode = Syncing }) → P e → P (entry_after_mount missing marked now repair e)
 after_has P missing marked now repair e one two three = cond_both missing (record e { mode = Offline; since = now; repair = repair })
     (cond (is_online e.mode && marked) (record e { mode = Syncing }) e) P (λ is. one)
     (λ no. cond_both (is_online e.mode && marked) (record e { mode = Syncing }) e P (λ is. two) (λ out. three))
@@ -58,7 +58,7 @@ module _ (q : Quorate) (marked now : ℕ) where
   pub moded_forced : (e : Entry) → is_forced e.mode ≡ true → is_forced (moded q marked now e).mode ≡ true
   moded_forced e is =
       let no = forced_serves e.mode is in
-      (λ i. is_forced (cond (no.0 i && not (has_disk q.id q.headed.items e)) (record e { mode = Offline; since = now; repair = repair })
+      (λ i. is_forced (cond (no.0 i && not (has_disk_of_entry q.id q.headed.items e)) (record e { mode = Offline; since = now; repair = repair })
       (cond (no.1 i && has_bit marked e.number) (record e { mode = Syncing }) e)).mode) ∙ is
 
   -- the loop over the entries
@@ -76,11 +76,11 @@ more_kept = kept_more
 abbrev Bare : Type 0
 Bare = ℕ × ℕ × ℕ × Bool
 
-bare_numbers : (es : List Entry) → map number_of es ≡ map (λ (b : Bare). b.0) (map bare es)
+bare_numbers : (es : List Entry) → map number_of_entry es ≡ map (λ (b : Bare). b.0) (map bare es)
 bare_numbers [] = refl
 bare_numbers (e ∷ es) = ap (λ (l : List ℕ). e.number ∷ l) (bare_numbers es)
 
-pub same_numbers : (xs ys : List Entry) → map bare xs ≡ map bare ys → map number_of xs ≡ map number_of ys
+pub same_numbers : (xs ys : List Entry) → map bare xs ≡ map bare ys → map number_of_entry xs ≡ map number_of_entry ys
 same_numbers xs ys e = bare_numbers xs ∙ ap (λ (l : List Bare). map (λ (b : Bare). b.0) l) e ∙ sym (bare_numbers ys)
 
 some_same : (o p : Option Entry) → option_map bare o ≡ option_map bare p → is_some o ≡ is_some p

@@ -13,7 +13,7 @@ use Rattle.asm_formats.specs.Among.{IsAmong}
 use Rattle.directory_store.specs.change_directory.declared.copy.DirCopy.{DirCopy}
 use Rattle.directory_store.specs.change_directory.StoreLaws.{SameRegion}
 use Rattle.status_register.specs.Rows.{PutsRow, no_put, one_put}
-use Rattle.status_register.specs.Slots.{claim_gate, claim_number, other_gate, record_number, said, status_gate}
+use Rattle.status_register.specs.Slots.{claim_gate, claim_number, other_gate, record_number, body_says, status_gate}
 use Rattle.status_register.specs.Tallies.{IsSlotOf}
 use Rattle.status_register.specs.declared.member.Member.{Member}
 use Rattle.group_mount.specs.Writing.{FrontOf}
@@ -28,11 +28,11 @@ IsFront gate_of = (slot : ℕ) (x : Image) → (2 ≤ gate_of slot x) × (gate_o
 
 claims_front : (id : ℕ) → IsFront (claim_gate id)
 unfolding claim_gate
-claims_front id slot x = ⊎_elim (λ one. (omega (arith, one), omega (arith, one))) (λ two. (omega (arith, two), omega (arith, two))) (gate_in 2 4 (claim_number id (said decoded_claim x slot 2)) (claim_number id (said decoded_claim x slot 4)))
+claims_front id slot x = ⊎_elim (λ one. (omega (arith, one), omega (arith, one))) (λ two. (omega (arith, two), omega (arith, two))) (gate_in 2 4 (claim_number id (body_says decoded_claim x slot 2)) (claim_number id (body_says decoded_claim x slot 4)))
 
 records_front : (id : ℕ) → IsFront (status_gate id)
 unfolding status_gate
-records_front id slot x = ⊎_elim (λ one. (omega (arith, one), omega (arith, one))) (λ two. (omega (arith, two), omega (arith, two))) (gate_in 6 8 (record_number id (said decoded_status x slot 6)) (record_number id (said decoded_status x slot 8)))
+records_front id slot x = ⊎_elim (λ one. (omega (arith, one), omega (arith, one))) (λ two. (omega (arith, two), omega (arith, two))) (gate_in 6 8 (record_number id (body_says decoded_status x slot 6)) (record_number id (body_says decoded_status x slot 8)))
 
 row_front : (gate_of : ℕ → Image → ℕ) → IsFront gate_of → (ms : List Member) (body : List ℕ) (x y : Image) → PutsRow gate_of ms body x y → ChangesOnly (FrontOf ms) x y
 row_front gate_of front ms body x y (no_put a b same) = changes-same (FrontOf ms) a b same

@@ -44,8 +44,8 @@ use Rattle.status_register.proofs.Placing.{placed_is}
 use Rattle.status_register.proofs.RowFits.{next_claim_allowed}
 use Rattle.status_table.proofs.Allowed.{parts_are, parts_of}
 use Rattle.group_mount.specs.Finding.{AreInOwnSlots}
-use Rattle.group_mount.specs.Mounting.{Allows, AllTaken, DescribesIn, HasTaken, IsMount, MeansOne, MountReading, NamesCopy}
-use Rattle.group_mount.specs.NamedCopies.{copy_of}
+use Rattle.group_mount.specs.Mounting.{Allows, AllTaken, DescribesIn, HasTakenContent, IsMount, MeansOne, MountReading, NamesCopy}
+use Rattle.group_mount.specs.NamedCopies.{directory_copy_of}
 use Rattle.group_mount.specs.NextRecord.{IsNextRecord}
 use Rattle.group_mount.specs.Quorum.{IsQuorum}
 use Rattle.group_mount.specs.Recovered.{ChangesMembers, IsMeant, KeepsSlot, LeavesOneGroup, StoodFor, is_own_slot}
@@ -91,7 +91,7 @@ only_one g h (inl same) = same
 only_one g h (inr none) = absurd none
 
 -- where one group is held by a record, the content of a copy that it names describes that group
-one_described : (id : ℕ) (image : images.Image) (r : Status) (g : Group) (m : images.Member) (c : Content) → SoundBy id image (g ∷ []) (Some r) [] → r.gone ≡ false
+one_described : (id : ℕ) (image : images.ImageBytes) (r : Status) (g : Group) (m : images.Member) (c : Content) → SoundBy id image (g ∷ []) (Some r) [] → r.gone ≡ false
     → IsAmong (all_members id image) m → IsNamed r m.header → m.disk.content ≡ Some c → Describes image (all_members id image) (all_members id image) r c g
 one_described id image r g m c sound alive among named is =
     let d = (sound.covered r (inl refl) alive).described (at_slot m.slot) c (found_alone id image r m c among named is) in
@@ -114,7 +114,7 @@ content_here : (x : Image) (slot : ℕ) (h : Header) → header_in x slot ≡ So
 unfolding metadata
 content_here x slot h is = ap (λ (o : Option Header). said_content o (disk_bytes x slot)) is
 
-copy_here : (x : Image) (k : Headed) (c : DirCopy) → c ≡ copy_of k → header_in x k.slot ≡ Some k.header → (disk_in x k.slot).content ≡ content_in c x
+copy_here : (x : Image) (k : Headed) (c : DirCopy) → c ≡ directory_copy_of k → header_in x k.slot ≡ Some k.header → (disk_in x k.slot).content ≡ content_in c x
 copy_here x k c copy is = content_here x k.slot k.header is ∙ (λ i. copy_content (sym copy i).dir_blocks (disk_bytes x (sym copy i).slot))
 
 -- the slots of the attached disks, with the sizes of their images or without
@@ -223,7 +223,7 @@ module _ (q : Quorate) (s : BayState) (quorum : IsQuorum q s) where
     -- ---- on each image that a stop may leave before
 
     module _ (x : Image) (left : s.leaves s.calls x) where
-      disk_has_taken : (c : DirCopy) (among : IsAmong q.store.copies c) → HasTaken mount (member_of (from q s quorum c among).disk) x
+      disk_has_taken : (c : DirCopy) (among : IsAmong q.store.copies c) → HasTakenContent mount (member_of (from q s quorum c among).disk) x
       disk_has_taken c among =
           let f = from q s quorum c among in
           copy_here x f.disk c f.copy ((quorum.there.now f.disk f.among).now x left) ∙ copy_has c among x left
@@ -240,7 +240,7 @@ module _ (q : Quorate) (s : BayState) (quorum : IsQuorum q s) where
           (sym (entry_birth next.entries (member_of k.0) of) ∙ ap (λ (d : ℕ). option_map (λ (e : Entry). e.birth) (entry_of next.entries d)) number
           ∙ entry_birth next.entries (member_of f.disk) (entry_still c.0 c.1)) in
           let same : k.0 ≡ f.disk = once q.id hs quorum.alike k.0 f.disk k.1 f.among k.3 f.own number birth in
-          subst (λ (y : Member). HasTaken mount y x) (sym (k.2 ∙ ap member_of same)) (disk_has_taken c.0 c.1)
+          subst (λ (y : Member). HasTakenContent mount y x) (sym (k.2 ∙ ap member_of same)) (disk_has_taken c.0 c.1)
 
       means : (g : Group) → IsMeant q q.survey.value g x → MeansOne q.slots mount g x
       means g is slots many =
@@ -385,7 +385,7 @@ module _ (q : Quorate) (s : BayState) (quorum : IsQuorum q s) where
         pub still_now : NowOnly t (IsMeant q v g)
         still_now = record { now = λ y left. still_here y left g (sound_now y left) }
 
-      pub history_now : ((content : Content) → KeepsAnyRegister (mount_of q.survey next content) register s t) → (slots : ℕ) → q.slots ≤ slots → registers.Keeps slots register (Some v) [] t
+      pub history_now : ((content : Content) → KeepsAnyRegister (mount_of q.survey next content) register s t) → (slots : ℕ) → q.slots ≤ slots → registers.FitsRegister slots register (Some v) [] t
       history_now kept slots many =
           kept taken q.slots slots source groups is_mount read_now many
           (record { now = λ y left. subst (λ (id : ℕ). AreMembersOn slots id register y) (sym quorum.survey.id_is) (register_on y left slots many) })
@@ -411,7 +411,7 @@ module _ (q : Quorate) (s : BayState) (quorum : IsQuorum q s) where
         only = only_is_meant now a.next is.next is.status groups may;
         named = λ g. record { now = λ x left meant. named_here a.name is.name x left g meant };
         turn = ap (λ (x : Registered). x.turn) same ∙ omega arith;
-        history = λ n many. subst (λ (x : Registered). registers.Keeps n x (Some x.value) [] t) (sym same)
+        history = λ n many. subst (λ (x : Registered). registers.FitsRegister n x (Some x.value) [] t) (sym same)
             (history_now now a.next is.next is.status groups may enough t attached run
             (subst (λ (x : Registered). (content : Content) → KeepsAnyRegister (mount_of q.survey a.next content) x s t) same kept) n many);
       }

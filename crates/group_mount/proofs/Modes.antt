@@ -9,7 +9,7 @@ use Rattle.asm_formats.specs.Status.{Entry, entry_of}
 use Rattle.asm_placement.specs.Modes.{is_forced, is_online, serves}
 use Rattle.asm_images.specs.Copies.{is_disk_in, is_kept}
 use Rattle.asm_images.specs.RecordLaws.{bare}
-use Rattle.group_mount.specs.Modes.{mounted_entry, with_partners_by, ChangedIsRenewed, MountedIsRenewed}
+use Rattle.group_mount.specs.Modes.{with_mode_at_mount, with_partners_by, ChangedIsRenewed, MountedIsRenewed}
 
 bare_map : (change : Entry → Entry) → ((e : Entry) → bare (change e) ≡ bare e) → (es : List Entry) → map bare (map change es) ≡ map bare es
 bare_map change same [] = refl
@@ -64,9 +64,9 @@ forced_serves Forced e = (refl, refl)
 
 module _ (missing marked : ℕ → Bool) (now repair : ℕ) (partners : ℕ → ℕ) where
   abbrev change : Entry → Entry
-  change e = with_partners_by partners (mounted_entry missing marked now repair e)
+  change e = with_partners_by partners (with_mode_at_mount missing marked now repair e)
 
-  mounted_has : (P : Entry → Type 0) (e : Entry) → P (record e { mode = Offline; since = now; repair = repair }) → P (record e { mode = Syncing }) → P e → P (mounted_entry missing marked now repair e)
+  mounted_has : (P : Entry → Type 0) (e : Entry) → P (record e { mode = Offline; since = now; repair = repair }) → P (record e { mode = Syncing }) → P e → P (with_mode_at_mount missing marked now repair e)
   mounted_has P e one two three = cond_both (serves e.mode && missing e.number) (record e { mode = Offline; since = now; repair = repair })
       (cond (is_online e.mode && marked e.number) (record e { mode = Syncing }) e) P (λ is. one)
       (λ no. cond_both (is_online e.mode && marked e.number) (record e { mode = Syncing }) e P (λ is. two) (λ out. three))

@@ -37,7 +37,7 @@ use Rattle.asm_images.proofs.Membership.{among_within, among_filter, among_filte
 use Rattle.asm_images.proofs.OneContent.{begun_is_last}
 use Rattle.asm_images.proofs.Recording.{begin_keeps, current_split}
 use Rattle.status_register.specs.Holders.{is_of, attached_to}
-use Rattle.status_register.specs.History.{FitsIn}
+use Rattle.status_register.specs.History.{FitsHistory}
 use Rattle.status_register.specs.Keeping.{HasHistory}
 use Rattle.status_register.specs.Registered.{Registered, all_placed}
 use Rattle.status_register.specs.Rows.{PutsRow}
@@ -53,7 +53,7 @@ use Rattle.status_register.proofs.Seeing.{shows_record}
 use Rattle.group_mount.specs.Bringing.{MayTake}
 use Rattle.group_mount.specs.Histories.{IsSoundBelow}
 use Rattle.group_mount.specs.Leaving.{LeavesUsers}
-use Rattle.group_mount.specs.Mounting.{MountReading, claim_of, NamesCopy, IsMount, HasTaken, IsMountRead, HasClaimed, HasRecorded, BringsUp, BringsAll, none_yet, one_more, own, IsCopying, MayMount, claiming, recording, copying, HasMounted, IsSource, Allows, MountingKeeps, DescribesIn, MountedIsHeld, ReadMeansOne, OneGroupIsMeant, IsRegisterOf, RecordedHasHistory, RecordedIsMounted}
+use Rattle.group_mount.specs.Mounting.{MountReading, mount_claim, NamesCopy, IsMount, HasTakenContent, IsMountRead, HasClaimed, HasRecorded, BringsUp, BringsAll, none_brought_up, one_more_copy, own, IsCopying, MayMount, claiming, recording, copying, HasMounted, IsSource, Allows, MountingKeeps, DescribesIn, MountedIsHeld, ReadMeansOne, OneGroupIsMeant, IsRegisterOf, RecordedHasHistory, RecordedIsMounted}
 use Rattle.group_mount.specs.Narrowing.{HasCopy}
 use Rattle.group_mount.specs.Renewing.{Renews}
 use Rattle.asm_images.proofs.Bare.{births_in, has_bare}
@@ -195,8 +195,8 @@ module _ (n : ℕ) (mount : MountReading) (source : Member) (groups : List Group
 
     -- ---- while claims are put
 
-    claimed_sound : (x : Image) → PutsRow (claim_gate id) mount.members (claim_spelling (claim_of mount)) old x → SoundBy id (disks_in slots x) groups completed begun
-    claimed_sound x row = claims_keep id (claim_of mount) is.is_a_claim mount.members slots inside groups completed begun old x long row history.sound
+    claimed_sound : (x : Image) → PutsRow (claim_gate id) mount.members (claim_spelling (mount_claim mount)) old x → SoundBy id (disks_in slots x) groups completed begun
+    claimed_sound x row = claims_keep id (mount_claim mount) is.is_a_claim mount.members slots inside groups completed begun old x long row history.sound
 
     -- ---- while the record is put
 
@@ -215,7 +215,7 @@ module _ (n : ℕ) (mount : MountReading) (source : Member) (groups : List Group
 
     module _ (x : Image) (claims : HasClaimed mount old x) where
       left_claims : LeavesUsers old x
-      left_claims = claims_leave id (claim_of mount) is.is_a_claim mount.members old x long claims.row
+      left_claims = claims_leave id (mount_claim mount) is.is_a_claim mount.members old x long claims.row
 
       sound_x : SoundBy id (disks_in slots x) groups completed begun
       sound_x = claimed_sound x claims.row
@@ -284,11 +284,11 @@ module _ (n : ℕ) (mount : MountReading) (source : Member) (groups : List Group
     record Lasts (x : Image) : Type 0 where
       sound_now : SoundBy id (disks_in slots x) groups (Some next) []
       leaves : LeavesUsers old x
-      taken : HasTaken mount source x
+      taken : HasTakenContent mount source x
 
     same_lasts : (x y : Image) → Same x y → Lasts x → Lasts y
     same_lasts x y same lasts = record {
-      sound_now = subst (λ (i : images.Image). SoundBy id i groups (Some next) []) (sym (same_is_same slots x y same)) lasts.sound_now;
+      sound_now = subst (λ (i : images.ImageBytes). SoundBy id i groups (Some next) []) (sym (same_is_same slots x y same)) lasts.sound_now;
       leaves = leaves_then old x y lasts.leaves (leaves_same x y same);
       taken = ap (λ (bytes : List ℕ). (metadata bytes).content) (same_disk x y source.slot (same.size source.slot) (same.byte source.slot)) ∙ lasts.taken;
     }
@@ -312,7 +312,7 @@ module _ (n : ℕ) (mount : MountReading) (source : Member) (groups : List Group
           let listed = disks_are_listed slots m.slot x (inside m among) in
           let change = range_change slots m.slot (region_start * block_size) region x y brings.elsewhere in
           let t = named_there x lasts.leaves source src.among src.named in
-          subst (λ (i : images.Image). SoundBy id i groups (Some next) []) (sym change.0)
+          subst (λ (i : images.ImageBytes). SoundBy id i groups (Some next) []) (sym change.0)
           (bringing_keeps id (disks_in slots x) groups next mount.content t.0.member m.slot (region_start * block_size) region brings.header (disk_bytes y m.slot)
           lasts.sound_now alive t.0.among t.1 (ap (λ (d : Metadata). d.content) t.0.disk ∙ lasts.taken) (λ same. brings.apart (sym t.0.slot ∙ same))
           (omega (arith, inside m among, listed.0)) (ap header_of listed.1 ∙ brings.header_is) (omega arith) (omega arith)
@@ -328,8 +328,8 @@ module _ (n : ℕ) (mount : MountReading) (source : Member) (groups : List Group
       }
 
     all_last : (x y : Image) → BringsAll mount source x y → Lasts x → Lasts y
-    all_last x y (none_yet z same) lasts = same_lasts x z same lasts
-    all_last x z (one_more a b m among row brings) lasts = brought_lasts a b m among brings (all_last x a row lasts)
+    all_last x y (none_brought_up z same) lasts = same_lasts x z same lasts
+    all_last x z (one_more_copy a b m among row brings) lasts = brought_lasts a b m among brings (all_last x a row lasts)
 
     -- the record is complete on an image: the content is still there
     recorded_lasts : (y : Image) → HasRecorded mount old y → Lasts y
@@ -339,7 +339,7 @@ module _ (n : ℕ) (mount : MountReading) (source : Member) (groups : List Group
           sound_now = recorded_sound y records;
           leaves = left_recorded y records;
           taken = records_content id next is.is_record mount.members x y (long_on x (left_claims x records.claimed)) records.row source.slot
-              ∙ claims_content id (claim_of mount) is.is_a_claim mount.members old x long records.claimed.row source.slot ∙ src.taken;
+              ∙ claims_content id (mount_claim mount) is.is_a_claim mount.members old x long records.claimed.row source.slot ∙ src.taken;
         }
 
     copying_lasts : (y : Image) → IsCopying mount source old y → Lasts y
@@ -351,7 +351,7 @@ module _ (n : ℕ) (mount : MountReading) (source : Member) (groups : List Group
         let on_took : (m : Member) → IsAmong records.took m → IsMemberOn slots register.id y m = λ m h.
         subst (λ (k : ℕ). IsMemberOn slots k y m) (sym of.group) (on_y y records m h) in
         record {
-          fits = subst (λ (k : ℕ). FitsIn slots k (Some next) [] y) (sym of.group) (recorded_sound y records).fits;
+          fits = subst (λ (k : ℕ). FitsHistory slots k (Some next) [] y) (sym of.group) (recorded_sound y records).fits;
           members = λ i m e. subst (λ (k : ℕ). IsMemberOn slots k y m) (sym of.group) (on y (left_recorded y records) m (of.members i m e));
           claimed = record {
             on = records.took;
@@ -466,12 +466,12 @@ pub recorded_is_mounted : RecordedIsMounted
 recorded_is_mounted = λ n mount source old new is read all records.
     let long : AreLong mount.members old = λ m h. long_enough n mount.id old mount.members read.members m h in
     let x = records.between in
-    let left = claims_leave mount.id (claim_of mount) is.is_a_claim mount.members old x long records.claimed.row in
+    let left = claims_leave mount.id (mount_claim mount) is.is_a_claim mount.members old x long records.claimed.row in
     let long_x : AreLong mount.members x = λ m h. omega (arith, long m h, left.size m.slot) in
     record {
-      copying = record { between = new; recorded = records; row = none_yet new (same-refl new) };
+      copying = record { between = new; recorded = records; row = none_brought_up new (same-refl new) };
       contents = λ m h named. records_content mount.id mount.next is.is_record mount.members x new long_x records.row m.slot
-          ∙ claims_content mount.id (claim_of mount) is.is_a_claim mount.members old x long records.claimed.row m.slot ∙ all m h named;
+          ∙ claims_content mount.id (mount_claim mount) is.is_a_claim mount.members old x long records.claimed.row m.slot ∙ all m h named;
     }
 
 pub mounted_is_held : MountedIsHeld

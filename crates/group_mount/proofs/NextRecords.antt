@@ -13,15 +13,15 @@ use Rattle.asm_placement.specs.Partners.{HasPartners, partner_set}
 use Rattle.asm_placement.proofs.Bits.{set_of_is}
 use Rattle.asm_placement.proofs.Membership.{among_filter, among_filtered, filter_out, map_among}
 use Rattle.directory_store.specs.change_directory.declared.copy.DirCopy.{DirCopy}
-use Rattle.directory_store.specs.Stores.{has_disk}
+use Rattle.directory_store.specs.Stores.{has_copy_of_disk}
 use Rattle.directory_store.proofs.Present.{has_of_disk}
 use Rattle.directory_store.proofs.ReadingCopies.{part_among}
 use Rattle.status_register.specs.Holders.{is_of}
-use Rattle.status_register.specs.Registered.{is_birth}
+use Rattle.status_register.specs.Registered.{is_same_birth}
 use Rattle.status_register.specs.declared.member.Member.{Member}
 use Rattle.status_table.proofs.Allowed.{entry_fits, parts_of}
 use Rattle.group_mount.specs.Loads.{copies_read}
-use Rattle.group_mount.specs.NextRecord.{IsNextRecord, MakesRecord, has_number, moded}
+use Rattle.group_mount.specs.NextRecord.{IsNextRecord, MakesRecord, has_entry_of_disk, moded}
 use Rattle.group_mount.specs.Quorum.{IsQuorum}
 use Rattle.group_mount.specs.Renewing.{Renews}
 use Rattle.group_mount.specs.Verdicts.{member_of}
@@ -60,22 +60,22 @@ all_from t (x ∷ xs) each = λ i. each x (inl refl) i && all_from t xs (λ d h.
 
 -- ---- entries
 
-birth_has : (es : List Entry) (m : Member) → is_of es m ≡ true → has_number es m.number ≡ true
+birth_has : (es : List Entry) (m : Member) → is_of es m ≡ true → has_entry_of_disk es m.number ≡ true
 unfolding entry_of
 birth_has [] m is = absurd (false≢true is)
 birth_has (e ∷ es) m is = go (e.number == m.number) (birth_has es m) is
   where
-    go : (b : Bool) → (is_of es m ≡ true → has_number es m.number ≡ true)
-        → is_birth (option_map (λ (x : Entry). x.birth) (cond b (Some e) (entry_of es m.number))) m.birth ≡ true → (b || has_number es m.number) ≡ true
+    go : (b : Bool) → (is_of es m ≡ true → has_entry_of_disk es m.number ≡ true)
+        → is_same_birth (option_map (λ (x : Entry). x.birth) (cond b (Some e) (entry_of es m.number))) m.birth ≡ true → (b || has_entry_of_disk es m.number) ≡ true
     go true rest is = refl
     go false rest is = rest is
 
-number_has : (es : List Entry) (d : ℕ) → has_number es d ≡ true → has_entry es d ≡ true
+number_has : (es : List Entry) (d : ℕ) → has_entry_of_disk es d ≡ true → has_entry es d ≡ true
 unfolding entry_of
 number_has [] d is = absurd (false≢true is)
 number_has (e ∷ es) d is = go (e.number == d) (number_has es d) is
   where
-    go : (b : Bool) → (has_number es d ≡ true → has_entry es d ≡ true) → (b || has_number es d) ≡ true → is_some (cond b (Some e) (entry_of es d)) ≡ true
+    go : (b : Bool) → (has_entry_of_disk es d ≡ true → has_entry es d ≡ true) → (b || has_entry_of_disk es d) ≡ true → is_some (cond b (Some e) (entry_of es d)) ≡ true
     go true rest is = refl
     go false rest is = rest is
 
@@ -105,29 +105,29 @@ module _ (q : Quorate) (state : BayState) (quorum : IsQuorum q state) where
     numbers = copy_number;
     entries = λ c among.
         let f = from c among in
-        ap (λ (x : DirCopy). has_number r.entries x.number) f.copy ∙ birth_has r.entries (member_of f.disk) f.entry;
+        ap (λ (x : DirCopy). has_entry_of_disk r.entries x.number) f.copy ∙ birth_has r.entries (member_of f.disk) f.entry;
   }
 
 -- the disks with copies have entries, also in other modes
-pub named_have : (q : Quorate) (marked now dirs : ℕ) → MakesRecord q → ((d : ℕ) → d < 64 → has_bit dirs d ≡ has_disk d q.store.copies)
+pub named_have : (q : Quorate) (marked now dirs : ℕ) → MakesRecord q → ((d : ℕ) → d < 64 → has_bit dirs d ≡ has_copy_of_disk d q.store.copies)
     → have_entries (map (moded q marked now) q.survey.value.entries) dirs ≡ true
 named_have q marked now dirs makes copies = all_from (has_entry (map (moded q marked now) q.survey.value.entries)) (elements dirs) (λ d h.
-    let is : has_disk d q.store.copies ≡ true = sym (copies d (element_small dirs d h)) ∙ element_bit dirs d h in
+    let is : has_copy_of_disk d q.store.copies ≡ true = sym (copies d (element_small dirs d h)) ∙ element_bit dirs d h in
     let c = has_of_disk d q.store.copies is in
     same_has (map (moded q marked now) q.survey.value.entries) q.survey.value.entries d (moded_all q marked now q.survey.value.entries)
-    ∙ number_has q.survey.value.entries d (ap (has_number q.survey.value.entries) (sym c.2) ∙ makes.entries c.0 c.1))
+    ∙ number_has q.survey.value.entries d (ap (has_entry_of_disk q.survey.value.entries) (sym c.2) ∙ makes.entries c.0 c.1))
 
 -- the same of the record as the code has it
 pub record_has : (q : Quorate) (marked now dirs : ℕ) (status after : Status) (copies : List DirCopy) → MakesRecord q → status ≡ q.survey.value
     → after ≡ record status { entries = map (moded q marked now) status.entries } → copies ≡ q.store.copies
-    → ((d : ℕ) → d < 64 → has_bit dirs d ≡ has_disk d copies) → have_entries after.entries dirs ≡ true
+    → ((d : ℕ) → d < 64 → has_bit dirs d ≡ has_copy_of_disk d copies) → have_entries after.entries dirs ≡ true
 record_has q marked now dirs status after copies makes same is all bits =
     ap (λ (x : Status). have_entries x.entries dirs) is ∙ ap (λ (x : Status). have_entries (map (moded q marked now) x.entries) dirs) same
-    ∙ named_have q marked now dirs makes (λ d lt. bits d lt ∙ ap (has_disk d) all)
+    ∙ named_have q marked now dirs makes (λ d lt. bits d lt ∙ ap (has_copy_of_disk d) all)
 
 -- ---- the disks of copies
 
-pub no_disks : (set : ℕ) (copies : List DirCopy) → set ≡ 0 → length copies < 1 → (d : ℕ) → has_bit set d ≡ has_disk d copies
+pub no_disks : (set : ℕ) (copies : List DirCopy) → set ≡ 0 → length copies < 1 → (d : ℕ) → has_bit set d ≡ has_copy_of_disk d copies
 no_disks set [] none few d = ap (λ (n : ℕ). has_bit n d) none ∙ set_of_is [] d
 no_disks set (c ∷ copies) none few d = absurd (omega (arith, few))
 

@@ -9,7 +9,7 @@ use Rattle.asm_formats.specs.Status.{Entry, entry_of}
 use Rattle.asm_formats.specs.Among.{IsAmong}
 use Rattle.asm_images.specs.RecordLaws.{bare}
 use Rattle.status_register.specs.Holders.{is_of}
-use Rattle.status_register.specs.Registered.{is_birth}
+use Rattle.status_register.specs.Registered.{is_same_birth}
 use Rattle.status_register.specs.declared.member.Member.{Member}
 use Rattle.group_mount.specs.Finding.{AreInOwnSlots}
 use Rattle.group_mount.specs.Missing.{has_units, has_units_of}
@@ -31,7 +31,7 @@ same_birth (Some x) None e = absurd cc
 same_birth (Some x) (Some y) e = ap (λ (b : Bare). Some b.1) (same_Some (bare x) (bare y) e)
 
 pub same_is_of : (xs ys : List Entry) (m : Member) → map bare xs ≡ map bare ys → is_of xs m ≡ is_of ys m
-same_is_of xs ys m e = ap (λ (o : Option ℕ). is_birth o m.birth) (same_birth (entry_of xs m.number) (entry_of ys m.number) (same_entry xs ys m.number e))
+same_is_of xs ys m e = ap (λ (o : Option ℕ). is_same_birth o m.birth) (same_birth (entry_of xs m.number) (entry_of ys m.number) (same_entry xs ys m.number e))
 
 any_bare : (h : Headed) (es : List Entry) → has_units es h ≡ list_any (λ (b : Bare). (h.header.number == b.0) && nat_le (b.2 * h.header.shape.au) h.size) (map bare es)
 any_bare h [] = refl

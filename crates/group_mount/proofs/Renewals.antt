@@ -13,7 +13,7 @@ use Rattle.status_register.specs.Answers.{Surveyed}
 use Rattle.status_register.specs.Holders.{attached_to, next_turn, numbered}
 use Rattle.status_register.proofs.Placing.{placed_is}
 use Rattle.status_register.specs.Registered.{Registered, AreNumbered, IsClaimAnswer, claim_of, registered}
-use Rattle.status_register.specs.History.{FitsIn}
+use Rattle.status_register.specs.History.{FitsHistory}
 use Rattle.status_register.specs.Keeping.{EpochStands, KeepsStanding}
 use Rattle.status_register.specs.SurveyLaws.{IsMemberOn}
 use Rattle.status_register.specs.Writes.{first_register}
@@ -206,7 +206,7 @@ any_register s t survey next ms kept standing content n slots source groups is n
       now = λ image left.
           let h = before.now.now image left in
           record {
-            fits = subst (λ (id : ℕ). FitsIn slots id (Some v) [] image) (sym is.group) h.fits;
+            fits = subst (λ (id : ℕ). FitsHistory slots id (Some v) [] image) (sym is.group) h.fits;
             members = λ i m at. subst (λ (id : ℕ). IsMemberOn slots id image m) (sym is.group) (on.now image left i m at);
             claimed = subst (λ (id : ℕ). EpochStands slots id v.epoch v image) (sym is.group) h.claimed;
           };

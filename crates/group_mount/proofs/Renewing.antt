@@ -8,10 +8,10 @@ use Rattle.asm_formats.specs.Status.{Status, entry_of, is_status}
 use Rattle.asm_formats.specs.Following.{Holder, FollowsSets, Follows, sets, sets_of, rank}
 use Rattle.asm_formats.proofs.Orders.{same_sets_follow}
 use Rattle.asm_formats.specs.Among.{IsAmong}
-use Rattle.asm_images.specs.Members.{Image, Member, all_members, within, statuses}
+use Rattle.asm_images.specs.Members.{ImageBytes, Member, all_members, within, statuses}
 use Rattle.asm_images.specs.Register.{Fits, current_records, base, is_enough}
 use Rattle.asm_images.specs.Copies.{is_kept}
-use Rattle.asm_images.specs.Stands.{Describes, HasUnits}
+use Rattle.asm_images.specs.Stands.{Describes, HasEntryUnits}
 use Rattle.asm_images.specs.Sound.{IsCovered, SoundBy}
 use Rattle.asm_images.specs.Steps.{CoversBirths, IsBegun}
 use Rattle.asm_images.specs.MountLaws.{HaveClaimed}
@@ -34,12 +34,12 @@ renewed_changes r s n = record {
   partners = n.partners;
 }
 
-pub renewed_is_covered : (id : ℕ) (image : Image) (groups : List Group) (r s : Status) → Renews r s → IsCovered id image (all_members id image) groups r
+pub renewed_is_covered : (id : ℕ) (image : ImageBytes) (groups : List Group) (r s : Status) → Renews r s → IsCovered id image (all_members id image) groups r
     → IsCovered id image (all_members id image) groups s
 renewed_is_covered id image groups r s n cover =
     modes_are_covered id image groups (record r { directories = s.directories }) s (renewed_changes r s n) (fewer_copies_are_covered id image groups r s.directories n.fewer cover)
 
-pub renewed_births : (id : ℕ) (image : Image) (groups : List Group) (completed : Option Status) (begun : List Status) (r s : Status) → SoundBy id image groups completed begun
+pub renewed_births : (id : ℕ) (image : ImageBytes) (groups : List Group) (completed : Option Status) (begun : List Status) (r s : Status) → SoundBy id image groups completed begun
     → IsAmong (statuses id (all_members id image)) r → Renews r s → CoversBirths completed begun s
 renewed_births id image groups completed begun r s sound stands n t e counts not_gone among =
     let f = births_in s.entries r.entries n.entries e among in
@@ -52,7 +52,7 @@ follows_base id ms (Some w) begun r s v fits same is (inl e) = same_sets_follow 
 follows_base id ms (Some w) begun r s v fits same is (inr h) = subst (λ (l : List (List Holder)). FollowsSets (sets v) l) (sym same) (fits.follow v r is h)
 follows_base id ms None begun r s v fits same is h = subst (λ (l : List (List Holder)). FollowsSets (sets v) l) (sym same) (fits.follow v r is h)
 
-pub renewed_begins : (id : ℕ) (image : Image) (groups : List Group) (completed : Option Status) (begun : List Status) (r s : Status) (holders : ℕ → Bool)
+pub renewed_begins : (id : ℕ) (image : ImageBytes) (groups : List Group) (completed : Option Status) (begun : List Status) (r s : Status) (holders : ℕ → Bool)
     → SoundBy id image groups completed begun → IsAmong (current_records completed begun) r → r.gone ≡ false → Renews r s → IsTrue (is_status s)
     → ((t : Status) → IsAmong (current_records completed begun) t → rank t < rank s)
     → IsTrue (is_enough r (within holders (all_members id image))) → HaveClaimed id (within holders (all_members id image)) s.epoch
@@ -70,7 +70,7 @@ renewed_begins id image groups completed begun r s holders sound counts not_gone
 
 -- ---- what a content describes under it
 
-pub described_renewed : (image : Image) (all : List Member) (r s : Status) (c : Content) (g : Group) → Renews r s → Describes image all all r c g → Describes image all all s c g
+pub described_renewed : (image : ImageBytes) (all : List Member) (r s : Status) (c : Content) (g : Group) → Renews r s → Describes image all all r c g → Describes image all all s c g
 described_renewed image all r s c g n d = record {
   distinct = d.distinct;
   disks = λ m h. let k = d.disks m h in record { claims = k.claims; statuses = k.statuses; directories = k.directories; name = k.name; shape = k.shape; units = units m k.units };
@@ -96,7 +96,7 @@ described_renewed image all r s c g n d = record {
       d.bytes f o b i inner copy file h m is cell lies hm (record { home = current.home; kept = n.kept h.disk m.header current.kept; fresh = current.fresh });
 }
   where
-    units : (m : Member) → HasUnits r m → HasUnits s m
+    units : (m : Member) → HasEntryUnits r m → HasEntryUnits s m
     units m have e is birth =
         let b = has_bare s.entries r.entries m.header.number e n.entries is in
         subst (λ (k : ℕ). k ≤ units_in m.header.shape m.disk.size) (sym (ap (λ (x : ℕ × ℕ × ℕ × Bool). x.2) b.same)) (have b.entry b.is (sym (ap (λ (x : ℕ × ℕ × ℕ × Bool). x.1) b.same) ∙ birth))

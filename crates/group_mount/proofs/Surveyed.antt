@@ -21,7 +21,7 @@ use Rattle.status_register.specs.declared.member.Member.{Member}
 use Rattle.status_register.proofs.Holding.{Apart}
 use Rattle.status_register.proofs.Taking.{kept_among}
 use Rattle.group_mount.specs.Finding.{AreInOwnSlots, AreThere}
-use Rattle.group_mount.specs.Surveying.{IsGoneOn, IsSurveyedNow, AreSurveyed, MembersCause, SurveyedIsRead, answer_of, refusal_of}
+use Rattle.group_mount.specs.Surveying.{IsGoneOn, IsSurveyedNow, AreSurveyed, MembersCause, SurveyedIsRead, answer_of, mount_error_of}
 use Rattle.group_mount.specs.declared.error.MountError.{MountError}
 use Rattle.group_mount.specs.declared.error.MountError.TheVariants as error
 use Rattle.std.specs.Option.{option_map}
@@ -180,7 +180,7 @@ module _ (s m t : BayState) {early later : ℕ → Type 0} (first : Runs early S
     now = now;
   }
 
-  pub members_cause : (e : SurveyError) → IsSurveyed id synced (Err e) m t → MembersCause id ms (refusal_of e) s t
+  pub members_cause : (e : SurveyError) → IsSurveyed id synced (Err e) m t → MembersCause id ms (mount_error_of e) s t
   members_cause (NoMajority seen need) (read, two, told) = (
     read,
     later_read read two,

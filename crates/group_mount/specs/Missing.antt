@@ -18,12 +18,12 @@ has_units_of h e = (h.header.number == e.number) && nat_le (e.units * h.header.s
 abbrev pub has_units : List Entry → Headed → Bool
 has_units entries h = list_any (has_units_of h) entries
 
-abbrev pub has_disk : ℕ → List Headed → Entry → Bool
-has_disk id hs e = list_any (is_disk_of id e) hs
+abbrev pub has_disk_of_entry : ℕ → List Headed → Entry → Bool
+has_disk_of_entry id hs e = list_any (is_disk_of id e) hs
 
 -- the entry's disk is missing: it would serve, and none of the images is that disk
 abbrev pub is_missing : ℕ → List Headed → Entry → Bool
-is_missing id hs e = serves e.mode && not (has_disk id hs e)
+is_missing id hs e = serves e.mode && not (has_disk_of_entry id hs e)
 
 -- the least number whose disk is missing; entries stand in the order of their numbers
 abbrev pub first_missing : ℕ → List Headed → List Entry → Option Entry

@@ -39,8 +39,8 @@ pub record MountReading : Type 0 where
   pub content : Content
 
 -- the claim of the new record's epoch
-abbrev pub claim_of : MountReading → Claim
-claim_of mount = record { id = mount.id; epoch = mount.next.epoch }
+abbrev pub mount_claim : MountReading → Claim
+mount_claim mount = record { id = mount.id; epoch = mount.next.epoch }
 
 -- the record names the directory copy on the disk, which is that of its number's entry
 abbrev pub NamesCopy : Status → Member → Type 0
@@ -52,14 +52,14 @@ pub record IsMount (mount : MountReading) : Type 0 where
   pub not_gone : mount.read.gone ≡ false
   pub group : mount.next.id ≡ mount.id
   pub is_record : IsTrue (is_status mount.next)
-  pub is_a_claim : IsTrue (is_claim (claim_of mount))
+  pub is_a_claim : IsTrue (is_claim (mount_claim mount))
   pub on_attached : (d : ℕ) → IsAmong (elements mount.next.directories) d
       → (m : Member) × IsAmong mount.members m × NamesCopy mount.next m × (m.number ≡ d)
   pub numbers : AreNumbered mount.members
 
 -- the disk has the content that is taken
-abbrev pub HasTaken : MountReading → Member → Image → Type 0
-HasTaken mount m image = (disk_in image m.slot).content ≡ Some mount.content
+abbrev pub HasTakenContent : MountReading → Member → Image → Type 0
+HasTakenContent mount m image = (disk_in image m.slot).content ≡ Some mount.content
 
 -- What a mount has read of an image of n slots: the attached disks are members; those that were read are a majority of each set of their greatest
 -- record; and no claim and no record on these is of the epoch that is claimed or of a later one.
@@ -75,10 +75,10 @@ pub record IsMountRead (n : ℕ) (mount : MountReading) (image : Image) : Type 0
 
 -- the new record's epoch is claimed on a majority of each set
 pub record HasClaimed (mount : MountReading) (old new : Image) : Type 0 where
-  pub row : PutsRow (claim_gate mount.id) mount.members (claim_spelling (claim_of mount)) old new
+  pub row : PutsRow (claim_gate mount.id) mount.members (claim_spelling (mount_claim mount)) old new
   pub took : List Member
   pub among : (m : Member) → IsAmong took m → IsAmong mount.members m
-  pub shown : (m : Member) → IsAmong took m → HasClaim (claim_spelling (claim_of mount)) m.slot new
+  pub shown : (m : Member) → IsAmong took m → HasClaim (claim_spelling (mount_claim mount)) m.slot new
   pub enough : missing took (Some mount.read) ≡ None
 
 -- and it stands on a majority of each set
@@ -102,8 +102,8 @@ pub record BringsUp (mount : MountReading) (m source : Member) (old new : Image)
 
 -- copies are being brought up, one after another, from a disk whose copy isn't touched
 pub data BringsAll (mount : MountReading) (source : Member) (old : Image) : Image → Type 0 where
-  none_yet : (x : Image) → Same old x → BringsAll mount source old x
-  one_more : (x y : Image) (m : Member) → IsAmong mount.members m → BringsAll mount source old x → BringsUp mount m source x y → BringsAll mount source old y
+  none_brought_up : (x : Image) → Same old x → BringsAll mount source old x
+  one_more_copy : (x y : Image) (m : Member) → IsAmong mount.members m → BringsAll mount source old x → BringsUp mount m source x y → BringsAll mount source old y
 
 -- copies are being brought up once the record is complete
 pub record IsCopying (mount : MountReading) (source : Member) (old new : Image) : Type 0 where
@@ -113,20 +113,20 @@ pub record IsCopying (mount : MountReading) (source : Member) (old new : Image) 
 
 -- While a group is mounted, its epoch is claimed, its record is written anew, and its copies are brought up, in this order.
 pub data MayMount (mount : MountReading) (source : Member) (old new : Image) : Type 0 where
-  claiming : PutsRow (claim_gate mount.id) mount.members (claim_spelling (claim_of mount)) old new → MayMount mount source old new
+  claiming : PutsRow (claim_gate mount.id) mount.members (claim_spelling (mount_claim mount)) old new → MayMount mount source old new
   recording : (between : Image) → HasClaimed mount old between → PutsRow (status_gate mount.id) mount.members (status_spelling mount.next) between new → MayMount mount source old new
   copying : IsCopying mount source old new → MayMount mount source old new
 
 -- It is mounted: each copy that the record names has the content.
 pub record HasMounted (mount : MountReading) (source : Member) (old new : Image) : Type 0 where
   pub copying : IsCopying mount source old new
-  pub contents : (m : Member) → IsAmong mount.members m → NamesCopy mount.next m → HasTaken mount m new
+  pub contents : (m : Member) → IsAmong mount.members m → NamesCopy mount.next m → HasTakenContent mount m new
 
 -- the disk is attached, the new record names its copy, and that has the content that is taken
 pub record IsSource (mount : MountReading) (m : Member) (image : Image) : Type 0 where
   pub among : IsAmong mount.members m
   pub named : NamesCopy mount.next m
-  pub taken : HasTaken mount m image
+  pub taken : HasTakenContent mount m image
 
 -- the disks of these entries, by number and birth: a member without such an entry is none of the group
 abbrev pub own : List Entry → List Member → List Member
@@ -190,7 +190,7 @@ RecordedHasHistory =
 
 -- each copy that the new record names has the content that is taken: none lags behind
 abbrev pub AllTaken : MountReading → Image → Type 0
-AllTaken mount image = (m : Member) → IsAmong mount.members m → NamesCopy mount.next m → HasTaken mount m image
+AllTaken mount image = (m : Member) → IsAmong mount.members m → NamesCopy mount.next m → HasTakenContent mount m image
 
 -- So it is mounted once the record is complete.
 abbrev pub RecordedIsMounted : Type 0

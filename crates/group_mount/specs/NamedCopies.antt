@@ -11,8 +11,8 @@ use Rattle.group_mount.specs.Verdicts.{has_slot, member_of}
 use Rattle.group_mount.specs.declared.finding.Headed.{Headed}
 
 -- the directory copy of a disk
-abbrev pub copy_of : Headed → DirCopy
-copy_of h = record { number = h.header.number; slot = h.slot; dir_blocks = h.header.shape.dir_blocks; sector = h.header.shape.sector }
+abbrev pub directory_copy_of : Headed → DirCopy
+directory_copy_of h = record { number = h.header.number; slot = h.slot; dir_blocks = h.header.shape.dir_blocks; sector = h.header.shape.sector }
 
 -- the disk is a member of the id that was read, the record names its copy, it is the disk of its number's entry with at least its units, and its image reaches to the end of the directory region
 abbrev pub is_named_copy : ℕ → List Member → Status → Headed → Bool
@@ -23,4 +23,4 @@ is_named_copy id read r h =
 -- the copies of these members of the id that were read and that the record names, in the order of the disks
 abbrev pub named_copies : ℕ → List Member → Status → List Headed → List DirCopy
 named_copies id read r [] = []
-named_copies id read r (h ∷ hs) = if is_named_copy id read r h then copy_of h ∷ named_copies id read r hs else named_copies id read r hs
+named_copies id read r (h ∷ hs) = if is_named_copy id read r h then directory_copy_of h ∷ named_copies id read r hs else named_copies id read r hs

@@ -10,19 +10,19 @@ use Rattle.asm_placement.specs.Partners.{with_partners}
 use Rattle.catalog.specs.catalog_tables.MarkedExtents.{HasNoneMarked, IsFirstMarked}
 use Rattle.catalog.specs.catalog_tables.Tables.{Tables}
 use Rattle.directory_store.specs.change_directory.declared.copy.DirCopy.{DirCopy}
-use Rattle.directory_store.specs.Stores.{has_disk}
+use Rattle.directory_store.specs.Stores.{has_copy_of_disk}
 use Rattle.group_mount.specs.Missing.{is_missing}
 use Rattle.group_mount.specs.declared.quorum.Quorate.{Quorate}
 
 -- the disk has an entry
-abbrev pub has_number : List Entry → ℕ → Bool
-has_number entries d = list_any (λ (e : Entry). e.number == d) entries
+abbrev pub has_entry_of_disk : List Entry → ℕ → Bool
+has_entry_of_disk entries d = list_any (λ (e : Entry). e.number == d) entries
 
 -- what the record of a mount is made from: the record that was read is one of the formats, and each disk with a copy has an entry
 pub record MakesRecord (q : Quorate) : Type 0 where
   pub status : IsTrue (is_status q.survey.value)
   pub numbers : (c : DirCopy) → IsAmong q.store.copies c → c.number < 64
-  pub entries : (c : DirCopy) → IsAmong q.store.copies c → has_number q.survey.value.entries c.number ≡ true
+  pub entries : (c : DirCopy) → IsAmong q.store.copies c → has_entry_of_disk q.survey.value.entries c.number ≡ true
 
 -- whether a stale copy of an extent lies on the disk
 abbrev pub IsMarkOf : Tables → ℕ → Bool → Type 0
@@ -31,19 +31,19 @@ IsMarkOf t d false = HasNoneMarked t d (0, 0)
 
 -- of the disks with entries the set has those on which a stale copy lies
 abbrev pub HasStaleDisks : Tables → List Entry → ℕ → Type 0
-HasStaleDisks t entries set = (d : ℕ) → d < 64 → has_number entries d ≡ true → IsMarkOf t d (has_bit set d)
+HasStaleDisks t entries set = (d : ℕ) → d < 64 → has_entry_of_disk entries d ≡ true → IsMarkOf t d (has_bit set d)
 
 -- the entry of a disk after a mount: a missing one is Offline since this second, with this repair time, and an Online one with a stale
 -- copy is Syncing
-abbrev pub entry_after : Bool → Bool → ℕ → ℕ → Entry → Entry
-entry_after missing marked now repair e =
+abbrev pub entry_after_mount : Bool → Bool → ℕ → ℕ → Entry → Entry
+entry_after_mount missing marked now repair e =
     if missing then record e { mode = Offline; since = now; repair = repair }
     else if is_online e.mode && marked then record e { mode = Syncing } else e
 
 -- the entry of a disk of the group, with these marked ones
 abbrev pub moded : Quorate → ℕ → ℕ → Entry → Entry
 moded q marked now e =
-    entry_after (is_missing q.id q.headed.items e) (has_bit marked e.number) now q.catalog.tables.templates.settings.attributes.repair e
+    entry_after_mount (is_missing q.id q.headed.items e) (has_bit marked e.number) now q.catalog.tables.templates.settings.attributes.repair e
 
 -- The record of the mount is the one that was read with other modes and their partners, and names the store's copies alone.
 pub record IsNextRecord (q : Quorate) (now : ℕ) (next : Status) : Type 0 where
@@ -51,7 +51,7 @@ pub record IsNextRecord (q : Quorate) (now : ℕ) (next : Status) : Type 0 where
   pub marks : HasStaleDisks q.catalog.tables q.survey.value.entries marked
   pub named : ℕ
   pub small : named < 2 ^ 64
-  pub copies : (d : ℕ) → d < 64 → has_bit named d ≡ has_disk d q.store.copies
+  pub copies : (d : ℕ) → d < 64 → has_bit named d ≡ has_copy_of_disk d q.store.copies
   pub next_is : next ≡ record q.survey.value {
     entries = with_partners (map (moded q marked now) q.survey.value.entries);
     directories = named;

@@ -11,7 +11,7 @@ use Rattle.asm_formats.specs.Status.{Status}
 use Rattle.asm_images.specs.Kept.{Kept, IsHeld, IsMemberIn}
 use Rattle.directory_store.specs.change_directory.declared.copy.DirCopy.{DirCopy}
 use Rattle.directory_store.specs.change_directory.Changes.{content_in}
-use Rattle.status_register.specs.Keeping.{Keeps}
+use Rattle.status_register.specs.Keeping.{FitsRegister}
 use Rattle.status_register.specs.declared.member.Member.{Member}
 use Rattle.group_mount.specs.Mounting.{Allows, DescribesIn}
 use Rattle.group_mount.specs.declared.error.MountError.{MountError}
@@ -53,7 +53,7 @@ pub record LeavesOneGroup (q : Quorate) (groups : List Group) (parts : Parts) (s
   -- what an image means has the name and the shape of the parts
   pub named : (g : Group) → NowOnly s (λ image. IsMeant q q.survey.value g image → HasNameOf parts g)
   -- the register keeps the history that begins with the record, whichever histories the images had before
-  pub history : (slots : ℕ) → q.slots ≤ slots → Keeps slots parts.register (Some parts.register.value) [] t
+  pub history : (slots : ℕ) → q.slots ≤ slots → FitsRegister slots parts.register (Some parts.register.value) [] t
   -- one turn of the epoch is used up
   pub turn : parts.register.turn ≡ 1
 

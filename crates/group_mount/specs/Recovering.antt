@@ -11,10 +11,10 @@ use Rattle.directory_store.specs.change_directory.declared.copy.DirCopy.{DirCopy
 use Rattle.directory_store.specs.Stores.{Keeps}
 use Rattle.status_register.specs.Answers.{Surveyed}
 use Rattle.status_register.specs.Holders.{is_of, numbered}
-use Rattle.status_register.specs.Keeping.{IsReady}
+use Rattle.status_register.specs.Keeping.{IsRegisterReady}
 use Rattle.status_register.specs.Reaching.{Reaches}
 use Rattle.status_register.specs.Registered.{AreNumbered, Registered, registered}
-use Rattle.status_register.specs.Rows.{AreApart}
+use Rattle.status_register.specs.Rows.{HaveOwnSlots}
 use Rattle.status_register.specs.Surveys.{AreRead, missing}
 use Rattle.status_register.specs.Tallies.{HaveSlots}
 use Rattle.status_register.specs.declared.member.Member.{Member}
@@ -69,11 +69,11 @@ pub record IsAnew (q : Quorate) (now : ℕ) (a : Anew) : Type 0 where
 -- their own
 pub record MayRenewRecord (survey : Surveyed) (next : Status) (ms : List Member) (state : BayState) : Type 0 where
   pub slots : HaveSlots state ms
-  pub apart : AreApart ms
+  pub apart : HaveOwnSlots ms
   pub numbers : AreNumbered ms
   pub enough : missing ms (Some next) ≡ None
   pub surveyed : HaveSlots state survey.members
-  pub own : AreApart survey.members
+  pub own : HaveOwnSlots survey.members
   pub small : AreNumbered survey.members
   pub status : IsTrue (is_status next)
   pub group : next.id ≡ survey.value.id
@@ -83,7 +83,7 @@ pub record MayRenewRecord (survey : Surveyed) (next : Status) (ms : List Member)
 pub record StandsAnew (register : Registered) (state : BayState) : Type 0 where
   pub status : IsTrue (is_status register.value)
   pub reached : Reaches register.members register.value
-  pub ready : IsReady register state
+  pub ready : IsRegisterReady register state
 
 -- ---- the parts
 
@@ -126,7 +126,7 @@ pub record IsRegisterAnew (q : Quorate) (next : Status) (register : Registered) 
   pub written : register.is_fresh ≡ false
   pub reached : Reaches register.members register.value
   pub members : (i : ℕ) (m : Member) → get_or register.members i None ≡ Some m → IsPlaced q register.value.entries i m
-  pub ready : IsReady register state
+  pub ready : IsRegisterReady register state
 
 -- The parts are those that were read, with the record written anew. They say the same: the tables are those of the store's records, with
 -- the units of the record's entries; the store's copies are those that the record names, each on its attached disk; of each attached disk

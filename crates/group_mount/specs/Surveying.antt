@@ -11,7 +11,7 @@ use Rattle.asm_formats.specs.Among.{IsAmong}
 use Rattle.asm_images.specs.Register.{greatest}
 use Rattle.status_register.specs.Answers.{Surveyed}
 use Rattle.status_register.specs.Registered.{AreNumbered}
-use Rattle.status_register.specs.Rows.{AreApart}
+use Rattle.status_register.specs.Rows.{HaveOwnSlots}
 use Rattle.status_register.specs.SurveyLaws.{IsMemberOn}
 use Rattle.status_register.specs.Surveys.{AreRead, records_on, first_damage, missing}
 use Rattle.status_register.specs.Tallies.{HaveSlots}
@@ -31,7 +31,7 @@ use Rattle.group_mount.specs.declared.error.MountError.TheVariants as error
 pub record IsSurveyedNow (n id : ℕ) (survey : Surveyed) (state : BayState) : Type 0 where
   pub id_is : survey.id ≡ id
   pub slots : HaveSlots state survey.members
-  pub apart : AreApart survey.members
+  pub apart : HaveOwnSlots survey.members
   pub numbers : AreNumbered survey.members
   pub durable : AreMembersDurable survey.members state
   pub not_gone : survey.value.gone ≡ false
@@ -49,14 +49,14 @@ pub record AreSurveyed (id : ℕ) (ms : List Member) (survey : Surveyed) (s t : 
   pub now : NowOnly t (IsSurveyOn survey)
 
 -- a refusal of a survey as one of a mount
-abbrev pub refusal_of : SurveyError → MountError
-refusal_of (survey_error.NoMajority seen need) = error.NoMajority seen need
-refusal_of (survey_error.Damaged slot block gone) = if gone then error.NoGroup else error.Damaged slot block
+abbrev pub mount_error_of : SurveyError → MountError
+mount_error_of (survey_error.NoMajority seen need) = error.NoMajority seen need
+mount_error_of (survey_error.Damaged slot block gone) = if gone then error.NoGroup else error.Damaged slot block
 
 -- an answer of a survey as one of a mount: a group that is gone is none
 abbrev pub answer_of : Result Surveyed SurveyError → Result Surveyed MountError
 answer_of (Ok survey) = if survey.value.gone then Err error.NoGroup else Ok survey
-answer_of (Err e) = Err (refusal_of e)
+answer_of (Err e) = Err (mount_error_of e)
 
 -- a majority of each set of the greatest record on these members was read, and it is marked gone
 pub record IsGoneOn (id : ℕ) (read : List Member) (image : Image) : Type 0 where

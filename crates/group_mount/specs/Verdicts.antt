@@ -97,15 +97,15 @@ calls_to_survey hs (id ∷ ids) = 8 * length (members_with id hs) + calls_to_sur
 -- ---- the choice
 
 -- the greater of two ids that are short
-abbrev pub greater_of : ShortId → Option ShortId → ShortId
-greater_of short None = short
-greater_of short (Some other) = if nat_lt short.id other.id then other else short
+abbrev pub greater_short_id : ShortId → Option ShortId → ShortId
+greater_short_id short None = short
+greater_short_id short (Some other) = if nat_lt short.id other.id then other else short
 
 -- one id more
 abbrev pub with_verdict : ℕ → Verdict → Choice → Choice
 with_verdict id Gone choice = choice
 with_verdict id (Whole damage) choice = record choice { whole = Some (record { id = id; damage = damage }); are_two = is_some choice.whole }
-with_verdict id (Short seen need) choice = record choice { short = Some (greater_of (record { id = id; seen = seen; need = need }) choice.short) }
+with_verdict id (Short seen need) choice = record choice { short = Some (greater_short_id (record { id = id; seen = seen; need = need }) choice.short) }
 
 -- the first id that is whole, whether there is another, and the greatest of those without a majority
 abbrev pub choice_of : List (ℕ × Verdict) → Choice

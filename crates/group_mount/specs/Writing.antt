@@ -19,7 +19,7 @@ use Rattle.status_register.specs.SurveyLaws.{IsMemberOn}
 use Rattle.status_register.specs.Surveys.{AreRead, missing}
 use Rattle.status_register.specs.Tallies.{IsSlotOf}
 use Rattle.status_register.specs.declared.member.Member.{Member}
-use Rattle.status_register.specs.Keeping.{Keeps}
+use Rattle.status_register.specs.Keeping.{FitsRegister}
 use Rattle.asm_images.specs.Kept.{IsHeld}
 use Rattle.group_mount.specs.Mounting.{Allows, AllTaken, HasRecorded, IsMount, MayMount, IsMountRead, IsSource, MeansOne, MountReading, kept_of}
 use Rattle.group_mount.specs.declared.writing.RenewError.{RenewError}
@@ -98,7 +98,7 @@ HoldsOneGroup mount s t =
 -- The register keeps the history that begins with the record.
 abbrev pub KeepsRegister : MountReading → Registered → BayState → BayState → Type 0
 KeepsRegister mount register s t =
-    (n slots : ℕ) (source : Member) (groups : List Group) → IsMount mount → IsReadNow n mount source groups s → n ≤ slots → Keeps slots register (Some mount.next) [] t
+    (n slots : ℕ) (source : Member) (groups : List Group) → IsMount mount → IsReadNow n mount source groups s → n ≤ slots → FitsRegister slots register (Some mount.next) [] t
 
 -- each disk that is attached to the register is a member
 abbrev pub AreMembersOn : ℕ → ℕ → Registered → Image → Type 0
@@ -108,4 +108,4 @@ AreMembersOn slots id register image = (i : ℕ) (m : Member) → get_or registe
 abbrev pub KeepsAnyRegister : MountReading → Registered → BayState → BayState → Type 0
 KeepsAnyRegister mount register s t =
     (n slots : ℕ) (source : Member) (groups : List Group) → IsMount mount → IsReadNow n mount source groups s → n ≤ slots → NowOnly t (AreMembersOn slots mount.id register)
-    → Keeps slots register (Some mount.next) [] t
+    → FitsRegister slots register (Some mount.next) [] t

@@ -6,7 +6,7 @@ ghost use Rattle.bay.specs.Image.{Same};
 ghost use Rattle.bay.specs.State.{KeepsAttached};
 ghost use Rattle.bay.specs.Moments.{Runs};
 ghost use Rattle.status_register.specs.declared.member.Member.{Member as Disk};
-ghost use Rattle.group_mount.specs.Verdicts.{AreAttached, Chooses, GrowsBy, IsJudged, IsSlotIn, calls_to_survey, greater_of, has_slot, ids_named, member_of, members_with, unread_by, unread_of, verdict_of, with_id, with_verdict};
+ghost use Rattle.group_mount.specs.Verdicts.{AreAttached, Chooses, GrowsBy, IsJudged, IsSlotIn, calls_to_survey, greater_short_id, has_slot, ids_named, member_of, members_with, unread_by, unread_of, verdict_of, with_id, with_verdict};
 
 use crate::finding::Headed;
 use asm_base::{Name, NoMemory};
@@ -189,7 +189,7 @@ fn judge<B: Bay>(
 
 /// The greater of two ids that are short.
 fn greater_of(short: ShortId, other: Option<ShortId>) -> ShortId
-    ensures { result ≡ greater_of short other }
+    ensures { result ≡ greater_short_id short other }
 {
     match other {
         Some(other) => if short.id < other.id { other } else { short },

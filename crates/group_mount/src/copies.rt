@@ -4,7 +4,7 @@ ghost use Rattle.std.specs.List.{list_any};
 ghost use Rattle.asm_formats.specs.Regions.{has_region};
 ghost use Rattle.status_register.specs.Holders.{is_of};
 ghost use Rattle.status_register.specs.declared.member.Member.{Member as Disk};
-ghost use Rattle.group_mount.specs.NamedCopies.{copy_of, is_named_copy, named_copies};
+ghost use Rattle.group_mount.specs.NamedCopies.{directory_copy_of, is_named_copy, named_copies};
 
 use crate::choosing::{has_slot, member_of};
 use crate::finding::Headed;
@@ -17,7 +17,7 @@ use std::alloc::Global;
 
 /// The directory copy of a disk.
 fn copy_of(headed: &Headed) -> DirCopy
-    ensures { result ≡ copy_of headed.now }
+    ensures { result ≡ directory_copy_of headed.now }
 {
     DirCopy {
         number: headed.header.number,

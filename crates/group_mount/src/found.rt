@@ -4,7 +4,7 @@ ghost use Rattle.std.specs.Prelude.{◌≡◌, ◌≤◌, ◌<◌, ◌+◌, ◌*
 ghost use Rattle.bay.specs.Image.{Same};
 ghost use Rattle.bay.specs.Moments.{Runs};
 ghost use Rattle.group_mount.specs.Finding.{AreThere, AttachedStays};
-ghost use Rattle.group_mount.specs.Founds.{FindCause, IsFound, is_held, not_held, short_refusal, taken, undamaged};
+ghost use Rattle.group_mount.specs.Founds.{FindCause, IsFound, is_held, not_held, short_refusal, id_of_choice, undamaged};
 ghost use Rattle.group_mount.specs.Recovering.{is_named, name_in};
 
 use crate::choosing::{Choice, ShortId, WholeId, choose, ids_named};
@@ -87,7 +87,7 @@ fn undamaged(whole: WholeId) -> Result<u64, MountError>
 
 /// The id that is mounted.
 fn taken(choice: &Choice) -> Result<u64, MountError>
-    ensures { result ≡ taken choice.now }
+    ensures { result ≡ id_of_choice choice.now }
 {
     if choice.are_two {
         return Err(MountError::TwoGroups);

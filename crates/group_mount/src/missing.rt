@@ -2,7 +2,7 @@
 ghost use Rattle.std.specs.Prelude.{◌≡◌, find};
 ghost use Rattle.std.specs.List.{list_any};
 ghost use Rattle.asm_placement.specs.Modes.{serves};
-ghost use Rattle.group_mount.specs.Missing.{first_missing, has_disk, has_units, has_units_of, is_disk_of, is_missing};
+ghost use Rattle.group_mount.specs.Missing.{first_missing, has_disk_of_entry, has_units, has_units_of, is_disk_of, is_missing};
 
 use crate::finding::Headed;
 use asm_base::Mode;
@@ -42,7 +42,7 @@ pub fn has_units(entries: &[PstEntry], headed: &Headed) -> bool
 
 /// Whether the disk of an entry is among these.
 fn has_disk(id: u64, headed: &[Headed], entry: PstEntry) -> bool
-    ensures { result ≡ has_disk id headed.now entry }
+    ensures { result ≡ has_disk_of_entry id headed.now entry }
 {
     headed.iter().any(|disk| is_disk_of(id, entry, disk))
 }

@@ -5,8 +5,8 @@ ghost use Rattle.asm_formats.specs.Sets.{has_bit};
 ghost use Rattle.asm_formats.specs.Status.{have_entries, is_entry, is_status};
 ghost use Rattle.asm_formats.specs.Among.{IsAmong};
 ghost use Rattle.directory_store.specs.change_directory.declared.copy.DirCopy.{DirCopy as Copy};
-ghost use Rattle.directory_store.specs.Stores.{has_disk};
-ghost use Rattle.group_mount.specs.NextRecord.{HasStaleDisks, IsMarkOf, IsNextRecord, MakesRecord, entry_after, has_number, moded};
+ghost use Rattle.directory_store.specs.Stores.{has_copy_of_disk};
+ghost use Rattle.group_mount.specs.NextRecord.{HasStaleDisks, IsMarkOf, IsNextRecord, MakesRecord, entry_after_mount, has_entry_of_disk, moded};
 
 use crate::missing::is_missing;
 use crate::quorum::Quorate;
@@ -34,7 +34,7 @@ fn is_numbered(entry: PstEntry, disk: u8) -> bool
 
 /// Whether a disk has an entry.
 fn has_number(entries: &[PstEntry], disk: u8) -> bool
-    ensures { result ≡ has_number entries.now disk }
+    ensures { result ≡ has_entry_of_disk entries.now disk }
 {
     entries.iter().any(|entry| is_numbered(*entry, disk))
 }
@@ -42,7 +42,7 @@ fn has_number(entries: &[PstEntry], disk: u8) -> bool
 /// The set with a disk that has an entry and a stale copy.
 fn with_mark(set: DiskSet, catalog: &Catalog, entries: &[PstEntry], disk: u8) -> DiskSet
     requires { disk < 64 }
-    ensures here { has_bit set disk ≡ false → has_number entries.now disk ≡ true → IsMarkOf catalog.now.tables disk (has_bit result disk) }
+    ensures here { has_bit set disk ≡ false → has_entry_of_disk entries.now disk ≡ true → IsMarkOf catalog.now.tables disk (has_bit result disk) }
     ensures others { (k : ℕ) → k < 64 → k ≢ disk → has_bit result k ≡ has_bit set k }
 {
     if has_number(entries, disk) && is_marked(catalog, disk) {
@@ -66,7 +66,7 @@ fn marked_disks(catalog: &Catalog, entries: &[PstEntry]) -> DiskSet
 /// The entry of a disk after a mount: one that would serve and is missing is Offline since this second, and an Online one
 /// with a stale copy is Syncing.
 fn entry_after(entry: PstEntry, missing: bool, marked: bool, now: u64, repair: u64) -> PstEntry
-    ensures value { result ≡ entry_after missing marked now repair entry }
+    ensures value { result ≡ entry_after_mount missing marked now repair entry }
     ensures kept { is_entry entry ≡ true → is_entry result ≡ true }
 {
     if missing {
@@ -122,7 +122,7 @@ fn with_modes(quorate: &Quorate, status: &PstRecord, marked: DiskSet, now: u64) 
 /// The disks of these copies.
 fn disks_of(copies: &[DirCopy]) -> DiskSet
     requires { (c : Copy) → IsAmong copies.now c → c.number < 64 }
-    ensures { (d : ℕ) → d < 64 → has_bit result d ≡ has_disk d copies.now }
+    ensures { (d : ℕ) → d < 64 → has_bit result d ≡ has_copy_of_disk d copies.now }
 {
     let [first, rest @ ..] = copies else {
         return DiskSet::empty();

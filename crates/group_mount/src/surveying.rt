@@ -7,7 +7,7 @@ ghost use Rattle.bay.specs.Moments.{Runs};
 ghost use Rattle.status_register.specs.Tallies.{HaveSlots, IsSlotOf};
 ghost use Rattle.status_register.specs.declared.member.Member.{Member as Disk};
 ghost use Rattle.group_mount.specs.Finding.{AreThere};
-ghost use Rattle.group_mount.specs.Surveying.{AreSurveyed, IsSurveyedNow, MembersCause, SurveyCause, answer_of, refusal_of};
+ghost use Rattle.group_mount.specs.Surveying.{AreSurveyed, IsSurveyedNow, MembersCause, SurveyCause, answer_of, mount_error_of};
 ghost use Rattle.group_mount.specs.Verdicts.{IsSlotIn, members_with};
 
 use crate::choosing::members_of;
@@ -20,7 +20,7 @@ use std::alloc::Global;
 
 /// The refusal of a survey as that of a mount: a group that is gone is none.
 fn refusal_of(error: SurveyError) -> MountError
-    ensures { result ≡ refusal_of error }
+    ensures { result ≡ mount_error_of error }
 {
     match error {
         SurveyError::NoMajority { seen, need } => MountError::NoMajority { seen, need },

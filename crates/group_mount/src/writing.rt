@@ -5,10 +5,10 @@ ghost use Rattle.asm_formats.specs.Status.{is_status};
 ghost use Rattle.bay.specs.Image.{ChangesOnly};
 ghost use Rattle.bay.specs.Moments.{Runs};
 ghost use Rattle.bay.specs.State.{KeepsAttached};
-ghost use Rattle.status_register.specs.Keeping.{IsReady};
+ghost use Rattle.status_register.specs.Keeping.{IsRegisterReady};
 ghost use Rattle.status_register.specs.Reaching.{Reaches};
 ghost use Rattle.status_register.specs.Registered.{AreNumbered};
-ghost use Rattle.status_register.specs.Rows.{AreApart};
+ghost use Rattle.status_register.specs.Rows.{HaveOwnSlots};
 ghost use Rattle.status_register.specs.Tallies.{HaveSlots, IsSlotOf};
 ghost use Rattle.group_mount.specs.Renewing.{Renews};
 ghost use Rattle.group_mount.specs.Writing.{EachMount, FrontOf, HasRenewed, HoldsOneGroup, KeepsGroups, KeepsRegister, RenewCause, RunsAsMount, RunsAsRecord, WritesAnew, renewed_register};
@@ -38,7 +38,7 @@ pub struct Renewed {
 /// in the end the record is complete.
 pub fn renew<B: Bay>(bay: &mut B, survey: Survey, next: &PstRecord) -> Result<Renewed, RenewError>
     requires slots { HaveSlots (B.state bay.old) survey.members }
-    requires apart { AreApart survey.members }
+    requires apart { HaveOwnSlots survey.members }
     requires numbers { AreNumbered survey.members }
     requires is_record { IsTrue (is_status next.now) }
     requires group { next.now.id ≡ survey.value.id }
@@ -74,7 +74,7 @@ fn write_anew<B: Bay>(
     requires is_record { IsTrue (is_status next.now) }
     requires group { next.now.id ≡ register.value.id }
     requires sets { sets next.now ≡ sets register.value }
-    requires ready { IsReady register (B.state bay.old) }
+    requires ready { IsRegisterReady register (B.state bay.old) }
     requires majority { Reaches register.members next.now }
     ensures answer { WritesAnew register next.now result (B.state bay.old) (B.state bay.new) }
     ensures allowed { IfOk result (λ renewed. IsTrue (is_status renewed.register.value)) }

@@ -17,7 +17,7 @@ use Rattle.asm_placement.specs.Partners.{HasPartners}
 use Rattle.asm_placement.specs.Naming.{is_birth}
 use Rattle.asm_placement.specs.Placed.{places_fit}
 use Rattle.asm_base.proofs.Exact.{some_is}
-use Rattle.asm_images.specs.Describing.{AreRegular, DescribesGroup, SameFile, has_info}
+use Rattle.asm_images.specs.Describing.{AreRegular, DescribesGroup, SameFile, has_info_in_items}
 use Rattle.catalog_laws.specs.file_directory.Files as heads
 use Rattle.catalog_laws.specs.file_directory.Files.{head_at}
 use Rattle.catalog_laws.specs.alias_tree.Trees.{tree_of}
@@ -57,16 +57,16 @@ same_all : (p q : status.Entry → Bool) (es : List status.Entry) → ((e : stat
 same_all p q [] same = refl
 same_all p q (e ∷ es) same = rw (same e, same_all p q es same) refl
 
-info_same : (t : Tables) (items : List Item) → AreItemsOf t items → (e : status.Entry) → has_info items e ≡ rules.has_info t e
+info_same : (t : Tables) (items : List Item) → AreItemsOf t items → (e : status.Entry) → has_info_in_items items e ≡ rules.has_info t e
 info_same t items is e = ap (is_birth e.birth) (infos_are t items is e.number)
 
-infos_same : (t : Tables) (items : List Item) (es : List status.Entry) → AreItemsOf t items → list_all (has_info items) es ≡ list_all (rules.has_info t) es
-infos_same t items es is = same_all (has_info items) (rules.has_info t) es (info_same t items is)
+infos_same : (t : Tables) (items : List Item) (es : List status.Entry) → AreItemsOf t items → list_all (has_info_in_items items) es ≡ list_all (rules.has_info t) es
+infos_same t items es is = same_all (has_info_in_items items) (rules.has_info t) es (info_same t items is)
 
 -- what is left of the record's entries
 record SuitEntries (r : Status) (items : List Item) (s : Shape) : Type 0 where
   fit : places_fit s r.entries items ≡ true
-  infos : list_all (has_info items) r.entries ≡ true
+  infos : list_all (has_info_in_items items) r.entries ≡ true
   regular : AreRegular r.entries items
   partners : HasPartners r.entries
 
@@ -144,7 +144,7 @@ module _ (r : Status) (items : List Item) (t : Tables) (g : Group) (a : AreTable
   -- ---- the next tables
 
   module _ (u : Tables) (next : List Item) (in_next : AreItemsOf u next) where
-    next_infos : u.disks ≡ t.disks → list_all (has_info next) r.entries ≡ true
+    next_infos : u.disks ≡ t.disks → list_all (has_info_in_items next) r.entries ≡ true
     next_infos same =
         infos_same u next r.entries in_next ∙ ap (λ (ds : List Disk). list_all (λ (e : status.Entry). is_birth e.birth (info_at ds e.number)) r.entries) same
         ∙ sym (infos_same t items r.entries is) ∙ d.disks
@@ -163,7 +163,7 @@ module _ (r : Status) (items : List Item) (t : Tables) (g : Group) (a : AreTable
 
     surplus : StandUnder r g.shape u → KeepsNames t u → DescribesGroup r next g
     surplus stand same =
-        let cells : HasCells u (cells_of g) = λ f head at. has_cells f head (ap (λ (files : List heads.File). head_at files f) (sym same.files) ∙ at) in
+        let cells : HasCells u (cells_of g) = λ f head at. has_cells f head (ap (λ (files : List heads.NumberedFile). head_at files f) (sym same.files) ∙ at) in
         subst (λ (h : Group). DescribesGroup r next h) (names_are_group g.name g.shape t u (cells_of g) same ∙ sym is_of_tables) (describe r next g.name g.shape u (cells_of g) stand in_next cells)
 
 pub described_is_of_tables : DescribedIsOfTables

@@ -15,7 +15,7 @@ use Rattle.asm_placement.specs.Naming.{is_pending}
 use Rattle.asm_placement.specs.Tables.{head_of, homes_in, home_of, is_extent, marks_in}
 use Rattle.asm_images.specs.Tables.{pending_of}
 use Rattle.asm_base.proofs.Exact.{some_is}
-use Rattle.catalog_laws.specs.file_directory.Files.{head_at, is_file}
+use Rattle.catalog_laws.specs.file_directory.Files.{head_at, is_file_number}
 use Rattle.catalog_laws.specs.extent_map.Extents as extents
 use Rattle.catalog_laws.specs.extent_map.Extents.{Chunked, chunk_at, has_extent, has_home}
 use Rattle.asm_base.specs.Chunks.{chunk_cmp}
@@ -24,7 +24,7 @@ use Rattle.catalog_laws.proofs.extent_map.Laws.{chunk_total}
 use Rattle.catalog_laws.proofs.extent_map.Numbering.{numbers_extents}
 use Rattle.catalog_laws.specs.staleness_directory.Marks.{marks_at}
 use Rattle.catalog_laws.specs.catalog_tables.Tables.{AreTables, Tables}
-use Rattle.catalog_laws.specs.catalog_tables.Rules.{HasExtents, KeepsRules, are_within, are_within_head, has_chunk, has_copies, has_marks, is_copied, is_due, is_owned, is_within, keeps_copies}
+use Rattle.catalog_laws.specs.catalog_tables.Rules.{HasExtents, KeepsRules, are_within, are_within_head, has_chunk, has_copies, has_marks, is_copied, head_has_extent, is_owned, is_home_within, keeps_copies}
 use Rattle.catalog_laws.specs.catalog_tables.Items.{AreItemsOf}
 use Rattle.catalog_laws.proofs.catalog.NumberedEntries.{passes_each}
 use Rattle.catalog_laws.proofs.catalog_tables.TableItems.{chunks_exact, each_of, found_is}
@@ -58,19 +58,19 @@ clash false e f = absurd cc
 
 -- ---- the homes of one extent
 
-not_there : (n k : ℕ) (hs : Homes) → is_within n hs k ≡ true → n ≤ k → get_or hs k None ≡ None
+not_there : (n k : ℕ) (hs : Homes) → is_home_within n hs k ≡ true → n ≤ k → get_or hs k None ≡ None
 not_there n k hs e le = is_none (get_or hs k None) (or_else (nat_lt k n) (not (is_some (get_or hs k None))) e (le-ltb k n le))
 
 within_copy : (n : ℕ) (hs : Homes) (copy : ℕ) → is_homes hs ≡ true → are_within n hs ≡ true → n ≤ copy → get_or hs copy None ≡ None
 within_copy n hs copy is e le =
-    let a = and_parts (is_within n hs 0) (is_within n hs 1 && is_within n hs 2) e in
-    let b = and_parts (is_within n hs 1) (is_within n hs 2) a.1 in
+    let a = and_parts (is_home_within n hs 0) (is_home_within n hs 1 && is_home_within n hs 2) e in
+    let b = and_parts (is_home_within n hs 1) (is_home_within n hs 2) a.1 in
     by copy le a.0 b.0 b.1
   where
     three : length hs ≡ 3
     three = eqb-true (length hs) 3 (and_parts (length hs == 3) _ is).0
 
-    by : (k : ℕ) → n ≤ k → is_within n hs 0 ≡ true → is_within n hs 1 ≡ true → is_within n hs 2 ≡ true → get_or hs k None ≡ None
+    by : (k : ℕ) → n ≤ k → is_home_within n hs 0 ≡ true → is_home_within n hs 1 ≡ true → is_home_within n hs 2 ≡ true → get_or hs k None ≡ None
     by zero le x y z = not_there n 0 hs x le
     by (suc zero) le x y z = not_there n 1 hs y le
     by (suc (suc zero)) le x y z = not_there n 2 hs z le
@@ -146,7 +146,7 @@ module _ (s : Shape) (t : Tables) (items : List Item) (k : KeepsRules s t) (is :
         let among = chunk_among f (i / chunk_len) homes at in
         let within : are_within_head (head_at t.files f) homes ≡ true = passes_each (keeps_copies t) t.extents k.redundancy ((f, i / chunk_len), homes) among in
         let all : list_all (are_within head.copies) homes ≡ true = ap (λ (o : Option FileHead). are_within_head o homes) (sym there) ∙ within in
-        within_at head.copies homes (i % chunk_len) copy (chunk_homes f (i / chunk_len) homes (each_of (λ (x : Chunked). is_item (extents.item_of x) ≡ true) t.extents ((f, i / chunk_len), homes) k.tables.extents.0.1 among)) all le
+        within_at head.copies homes (i % chunk_len) copy (chunk_homes f (i / chunk_len) homes (each_of (λ (x : Chunked). is_item (extents.item_of_chunk x) ≡ true) t.extents ((f, i / chunk_len), homes) k.tables.extents.0.1 among)) all le
 
   pub marks : (f c : ℕ) → is_some (homes_in items f c) ≡ is_some (marks_in items f c)
   marks f c = ap is_some (homes_are t items k.tables is f c) ∙ by (chunk_at t.extents (f, c)) refl (marks_at t.stale (f, c)) refl ∙ sym (ap is_some (marks_are t items k.tables is f c)) where
@@ -157,7 +157,7 @@ module _ (s : Shape) (t : Tables) (items : List Item) (k : KeepsRules s t) (is :
     by None e (Some ms) g = absurd (clash (is_some (chunk_at t.extents (f, c))) (passes_each (has_chunk t) t.stale k.chunks ((f, c), ms) (found_is chunk_order.chunk_cmp chunk_total chunks_exact (f, c) t.stale ms g)) (ap is_some e))
 
   pub all_copies : (cells : ℕ → List Cell) (f i copy : ℕ) (file : File) → HasCells t cells → maps.get (files_by_number cells t.files) f ≡ Some file
-      → layout.has_extent file.stripe s.au s.step (length file.cells) i ≡ true → copy < file.copies → is_some (home_of items f i copy) ≡ true
+      → layout.has_extent_by_size file.stripe s.au s.step (length file.cells) i ≡ true → copy < file.copies → is_some (home_of items f i copy) ≡ true
   all_copies cells f i copy file has at due lt = by (head_at t.files f) refl (sym (files_are cells t.files f) ∙ at) where
     by : (o : Option FileHead) → head_at t.files f ≡ o → file_at cells f o ≡ Some file → is_some (home_of items f i copy) ≡ true
     by None e none = absurd (none-some file none)
@@ -165,8 +165,8 @@ module _ (s : Shape) (t : Tables) (items : List Item) (k : KeepsRules s t) (is :
         let file_is : file_of_head head (cells f) ≡ file = some_is (file_of_head head (cells f)) file same in
         let below : copy < head.copies = subst (λ (x : File). copy < x.copies) (sym file_is) lt in
         let size : length (cells f) ≡ head.size = has f head e in
-        let here : layout.has_extent head.stripe s.au s.step (length (cells f)) i ≡ true = subst (λ (x : File). layout.has_extent x.stripe s.au s.step (length x.cells) i ≡ true) (sym file_is) due in
-        let by_size : is_due s head i ≡ true = subst (λ (n : ℕ). layout.has_extent head.stripe s.au s.step n i ≡ true) size here in
+        let here : layout.has_extent_by_size head.stripe s.au s.step (length (cells f)) i ≡ true = subst (λ (x : File). layout.has_extent_by_size x.stripe s.au s.step (length x.cells) i ≡ true) (sym file_is) due in
+        let by_size : head_has_extent s head i ≡ true = subst (λ (n : ℕ). layout.has_extent_by_size head.stripe s.au s.step n i ≡ true) size here in
         let full = each_of (HasExtents t s) t.files (f, head) k.extents (head_among t.files f head e) i by_size in
         let few = leb-true head.copies 3 (and_parts _ _ (head_is t f head k.tables e).copies).1 in
         ap is_some (home_at f i copy) ∙ at_extent head.copies (chunk_at t.extents (f, i / chunk_len)) (i % chunk_len) copy few below full
@@ -177,7 +177,7 @@ module _ (s : Shape) (t : Tables) (items : List Item) (k : KeepsRules s t) (is :
 
   pub owned : (cells : ℕ → List Cell) (f c : ℕ) → is_some (homes_in items f c) ≡ true → (is_some (maps.get (files_by_number cells t.files) f) || is_pending f (pending_of items)) ≡ true
   owned cells f c there = by (chunk_at t.extents (f, c)) refl (ap is_some (sym (homes_are t items k.tables is f c)) ∙ there) where
-    file : is_some (maps.get (files_by_number cells t.files) f) ≡ is_file t.files f
+    file : is_some (maps.get (files_by_number cells t.files) f) ≡ is_file_number t.files f
     file = ap is_some (files_are cells t.files f) ∙ same_some cells f (head_at t.files f)
 
     op : is_pending f (pending_of items) ≡ is_pending f t.operations.pending

@@ -9,7 +9,7 @@ use Rattle.asm_formats.specs.Items.{FileHead, Pending}
 use Rattle.asm_formats.proofs.Among.{among_map}
 use Rattle.asm_placement.specs.Naming.{is_pending}
 use Rattle.catalog_laws.specs.file_directory.Files as heads
-use Rattle.catalog_laws.specs.file_directory.Files.{head_at, is_file}
+use Rattle.catalog_laws.specs.file_directory.Files.{head_at, is_file_number}
 use Rattle.catalog_laws.specs.catalog.Numbers.{is_taken}
 use Rattle.catalog_laws.specs.catalog_tables.Rules.{KeepsRules}
 use Rattle.catalog_laws.specs.catalog_tables.Tables.{Tables}
@@ -29,7 +29,7 @@ pending_number (Some op) = op.file ∷ []
 
 -- those that are taken
 taken_numbers : Tables → List ℕ
-taken_numbers t = map (λ (x : heads.File). x.0) t.files ++ pending_number t.operations.pending
+taken_numbers t = map (λ (x : heads.NumberedFile). x.0) t.files ++ pending_number t.operations.pending
 
 one_pending : (o : Option Pending) → length (pending_number o) ≤ 1
 unfolding pending_number
@@ -40,7 +40,7 @@ one_pending (Some op) = omega arith
 few_taken : (t : Tables) → length (taken_numbers t) ≤ length t.files + 1
 unfolding taken_numbers
 few_taken t = by t.files t.operations.pending where
-  by : (files : List heads.File) (o : Option Pending) → length (map (λ (x : heads.File). x.0) files ++ pending_number o) ≤ length files + 1
+  by : (files : List heads.NumberedFile) (o : Option Pending) → length (map (λ (x : heads.NumberedFile). x.0) files ++ pending_number o) ≤ length files + 1
   by [] o = omega (arith, one_pending o)
   by (x ∷ files) o = omega (arith, by files o)
 
@@ -53,11 +53,11 @@ right_in : (xs ys : List ℕ) (k : ℕ) → IsAmong ys k → IsAmong (xs ++ ys) 
 right_in [] ys k h = h
 right_in (x ∷ xs) ys k h = inr (right_in xs ys k h)
 
-file_in : (files : List heads.File) (k : ℕ) → is_file files k ≡ true → IsAmong (map (λ (x : heads.File). x.0) files) k
+file_in : (files : List heads.NumberedFile) (k : ℕ) → is_file_number files k ≡ true → IsAmong (map (λ (x : heads.NumberedFile). x.0) files) k
 file_in files k e = by (head_at files k) refl e where
-  by : (o : Option FileHead) → head_at files k ≡ o → is_some o ≡ true → IsAmong (map (λ (x : heads.File). x.0) files) k
+  by : (o : Option FileHead) → head_at files k ≡ o → is_some o ≡ true → IsAmong (map (λ (x : heads.NumberedFile). x.0) files) k
   by None at some = absurd cc
-  by (Some head) at some = among_map (λ (x : heads.File). x.0) files (k, head) (head_among files k head at)
+  by (Some head) at some = among_map (λ (x : heads.NumberedFile). x.0) files (k, head) (head_among files k head at)
 
 operation_in : (o : Option Pending) (k : ℕ) → is_pending k o ≡ true → IsAmong (pending_number o) k
 unfolding pending_number
@@ -66,10 +66,10 @@ operation_in (Some op) k e = inl (sym (eqb-true op.file k e))
 
 taken_in : (t : Tables) (k : ℕ) → is_taken t k ≡ true → IsAmong (taken_numbers t) k
 unfolding taken_numbers
-taken_in t k e = by (is_file t.files k) refl e where
-  by : (b : Bool) → is_file t.files k ≡ b → (b || is_pending k t.operations.pending) ≡ true → IsAmong (map (λ (x : heads.File). x.0) t.files ++ pending_number t.operations.pending) k
-  by true is e = left_in (map (λ (x : heads.File). x.0) t.files) (pending_number t.operations.pending) k (file_in t.files k is)
-  by false is e = right_in (map (λ (x : heads.File). x.0) t.files) (pending_number t.operations.pending) k (operation_in t.operations.pending k e)
+taken_in t k e = by (is_file_number t.files k) refl e where
+  by : (b : Bool) → is_file_number t.files k ≡ b → (b || is_pending k t.operations.pending) ≡ true → IsAmong (map (λ (x : heads.NumberedFile). x.0) t.files ++ pending_number t.operations.pending) k
+  by true is e = left_in (map (λ (x : heads.NumberedFile). x.0) t.files) (pending_number t.operations.pending) k (file_in t.files k is)
+  by false is e = right_in (map (λ (x : heads.NumberedFile). x.0) t.files) (pending_number t.operations.pending) k (operation_in t.operations.pending k e)
 
 -- ---- numbers from one on
 

@@ -25,17 +25,17 @@ use Rattle.group_of.specs.Groups.{HasCells, file_of_head, files_by_number}
 abbrev pub file_at : (ℕ → List Cell) → ℕ → Option FileHead → Option File
 file_at cells f head = option_map (λ (h : FileHead). file_of_head h (cells f)) head
 
-listed : (cells : ℕ → List Cell) (files : List heads.File) (f : ℕ) → maps.find nat_cmp f (map (λ (x : heads.File). (x.0, file_of_head x.1 (cells x.0))) files) ≡ file_at cells f (head_at files f)
+listed : (cells : ℕ → List Cell) (files : List heads.NumberedFile) (f : ℕ) → maps.find nat_cmp f (map (λ (x : heads.NumberedFile). (x.0, file_of_head x.1 (cells x.0))) files) ≡ file_at cells f (head_at files f)
 listed cells [] f = refl
 listed cells (x ∷ files) f = by (is_at (nat_cmp f) x.0) refl (listed cells files f) where
-  by : (b : Bool) → is_at (nat_cmp f) x.0 ≡ b → maps.find nat_cmp f (map (λ (y : heads.File). (y.0, file_of_head y.1 (cells y.0))) files) ≡ file_at cells f (head_at files f)
-      → cond b (Some (file_of_head x.1 (cells x.0))) (maps.find nat_cmp f (map (λ (y : heads.File). (y.0, file_of_head y.1 (cells y.0))) files)) ≡ file_at cells f (cond b (Some x.1) (head_at files f))
+  by : (b : Bool) → is_at (nat_cmp f) x.0 ≡ b → maps.find nat_cmp f (map (λ (y : heads.NumberedFile). (y.0, file_of_head y.1 (cells y.0))) files) ≡ file_at cells f (head_at files f)
+      → cond b (Some (file_of_head x.1 (cells x.0))) (maps.find nat_cmp f (map (λ (y : heads.NumberedFile). (y.0, file_of_head y.1 (cells y.0))) files)) ≡ file_at cells f (cond b (Some x.1) (head_at files f))
   by true here rest = ap (λ (n : ℕ). Some (file_of_head x.1 (cells n))) (sym (number_is f x.0 here))
   by false other rest = rest
 
 -- a file of the group by its head
-pub files_are : (cells : ℕ → List Cell) (files : List heads.File) (f : ℕ) → maps.get (files_by_number cells files) f ≡ file_at cells f (head_at files f)
-files_are cells files f = maps.get-from_entries nat_cmp_total (map (λ (x : heads.File). (x.0, file_of_head x.1 (cells x.0))) files) f ∙ listed cells files f
+pub files_are : (cells : ℕ → List Cell) (files : List heads.NumberedFile) (f : ℕ) → maps.get (files_by_number cells files) f ≡ file_at cells f (head_at files f)
+files_are cells files f = maps.get-from_entries nat_cmp_total (map (λ (x : heads.NumberedFile). (x.0, file_of_head x.1 (cells x.0))) files) f ∙ listed cells files f
 
 pub record IsHead (head : FileHead) : Type 0 where
   pub copies : is_redundancy head.copies ≡ true
@@ -52,11 +52,11 @@ head_parts f head e =
     let h = and_parts (nat_lt 0 head.system) (nat_lt head.system (2 ^ 32) && nat_lt head.alias (2 ^ 32)) g.1 in
     record { copies = b.0; system = ltb-true 0 head.system h.0 }
 
-pub head_among : (files : List heads.File) (f : ℕ) (head : FileHead) → head_at files f ≡ Some head → IsAmong files (f, head)
+pub head_among : (files : List heads.NumberedFile) (f : ℕ) (head : FileHead) → head_at files f ≡ Some head → IsAmong files (f, head)
 head_among files f head e = found_is nat_cmp nat_cmp_total numbers_exact f files head e
 
 pub head_is : (t : Tables) (f : ℕ) (head : FileHead) → AreTables t → head_at t.files f ≡ Some head → IsHead head
-head_is t f head a e = head_parts f head (each_of (λ (x : heads.File). is_item (heads.item_of x) ≡ true) t.files (f, head) a.files.1 (head_among t.files f head e))
+head_is t f head a e = head_parts f head (each_of (λ (x : heads.NumberedFile). is_item (heads.item_of_file_head x) ≡ true) t.files (f, head) a.files.1 (head_among t.files f head e))
 
 same_file : (t : Tables) (cells : ℕ → List Cell) (f : ℕ) → AreTables t → HasCells t cells → (o : Option FileHead) → head_at t.files f ≡ o → SameFile o (file_at cells f o)
 same_file t cells f a has None e = tt

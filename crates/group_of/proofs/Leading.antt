@@ -8,13 +8,13 @@ use Rattle.asm_group.specs.Shape.{Shape}
 use Rattle.asm_group.specs.Group.{Cell, File, Group}
 use Rattle.asm_formats.specs.Items.{Item, Key}
 use Rattle.asm_formats.specs.Status.{Status}
-use Rattle.asm_base.specs.Records.{Entry}
+use Rattle.asm_base.specs.Records.{DirectoryRecord}
 use Rattle.asm_base.proofs.Exact.{some_is}
 use Rattle.asm_world.specs.Edits as world
 use Rattle.asm_world.specs.Files as bytes
 use Rattle.asm_world.specs.Settings as settings
 use Rattle.catalog_laws.specs.allocator.UnitMaps.{UnitMap}
-use Rattle.catalog_laws.specs.catalog.FilePlans.{removed, sized, with_size}
+use Rattle.catalog_laws.specs.catalog.FilePlans.{with_removal_pending, sized, with_size}
 use Rattle.catalog_laws.specs.catalog_tables.Items.{AreItemsOf}
 use Rattle.catalog_laws.specs.catalog.NamePlans.{made_file, named}
 use Rattle.catalog_laws.specs.catalog_tables.Placing.{HasUnits}
@@ -63,7 +63,7 @@ module _ (s : Status) (c : Catalogued) (g : Group) (d : IsDescribed s c g) where
   files_are = ap (λ (h : Group). h.files) (sym of_tables)
 
   -- tables to which a plan leads that leaves extents and disks
-  module _ (put : List Entry) (gone : List Key) (u : Tables) (p : IsPlan c put gone u) (extents : u.extents ≡ c.tables.extents) (disks : u.disks ≡ c.tables.disks) (cells : ℕ → List Cell) (has : HasCells u cells) where
+  module _ (put : List DirectoryRecord) (gone : List Key) (u : Tables) (p : IsPlan c put gone u) (extents : u.extents ≡ c.tables.extents) (disks : u.disks ≡ c.tables.disks) (cells : ℕ → List Cell) (has : HasCells u cells) where
     next_tables : KeepsPlaces s g.shape c.tables u
     next_tables = record {
       rules = subst (λ (shape : Shape). KeepsRules shape u) (sym d.shape) p.rules;
@@ -98,13 +98,13 @@ described_is_of_catalog s c g d = of_catalog s c g d
 pub tree_leads_on : TreeEditLeadsOn
 tree_leads_on s c g edit put gone d p =
     leads_on s c g d put gone (with_tree c.tables edit p.nodes) p.plan refl refl (cells_of g) (tree_keeps_cells c.tables edit p.nodes (cells_of g) (has_cells s c g d))
-    (sym (files_stay c.tables edit p.nodes (cells_of g)) ∙ files_are s c g d) (world.edited g edit)
-    (ap (λ (h : Group). world.edited h edit) (of_catalog s c g d) ∙ tree_is_worlds g.name c edit put gone (cells_of g) p)
+    (sym (files_stay c.tables edit p.nodes (cells_of g)) ∙ files_are s c g d) (world.edited_group g edit)
+    (ap (λ (h : Group). world.edited_group h edit) (of_catalog s c g d) ∙ tree_is_worlds g.name c edit put gone (cells_of g) p)
 
 pub template_leads_on : TemplateEditLeadsOn
 template_leads_on s c g edit put gone d p =
-    leads_on s c g d put gone (with_templates c.tables p.templates) p.plan refl refl (cells_of g) (has_cells s c g d) (files_are s c g d) (settings.templates_edited g edit)
-    (ap (λ (h : Group). settings.templates_edited h edit) (of_catalog s c g d) ∙ templates_are_worlds g.name c edit put gone (cells_of g) p)
+    leads_on s c g d put gone (with_templates c.tables p.templates) p.plan refl refl (cells_of g) (has_cells s c g d) (files_are s c g d) (settings.group_after_template_edit g edit)
+    (ap (λ (h : Group). settings.group_after_template_edit h edit) (of_catalog s c g d) ∙ templates_are_worlds g.name c edit put gone (cells_of g) p)
 
 pub attribute_leads_on : AttributeLeadsOn
 attribute_leads_on s c g attribute value put gone d p =
@@ -116,8 +116,8 @@ attribute_leads_on s c g attribute value put gone d p =
 pub removal_leads_on : RemovalLeadsOn
 removal_leads_on s c g f put gone d rules p owned =
     let plan = p.plan owned in
-    have_planned s c g d put gone (removed c.tables f p.head) plan refl refl (cells_of g) (removal_keeps_cells c.shape c.tables f p.head (cells_of g) rules (has_cells s c g d)) (world.without_file g f)
-    (removal_is_worlds g.name c.shape c.tables f p.head (cells_of g) rules p.file plan.rules ∙ ap (λ (h : Group). world.without_file h f) (sym (of_catalog s c g d)))
+    have_planned s c g d put gone (with_removal_pending c.tables f p.head) plan refl refl (cells_of g) (removal_keeps_cells c.shape c.tables f p.head (cells_of g) rules (has_cells s c g d)) (world.group_without_file g f)
+    (removal_is_worlds g.name c.shape c.tables f p.head (cells_of g) rules p.file plan.rules ∙ ap (λ (h : Group). world.group_without_file h f) (sym (of_catalog s c g d)))
 
 pub size_leads_on : SizeLeadsOn
 size_leads_on s c g f size put gone file cells d p owned at long =
@@ -144,7 +144,7 @@ new_name_leads_on s c g path size copies stripe put gone cells d p long =
     let new = cells_with (cells_of g) (made_file c.tables) cells in
     let u = named c.tables (made_file c.tables) (head_planned p) p.made in
     let has = put_has_cells c.tables u (made_file c.tables) (head_planned p) (cells_of g) new refl others (ap length there ∙ long) (has_cells s c g d) in
-    have_planned s c g d put gone u p.plan refl refl new has (bytes.with_file g p.name (made_file c.tables) (file_of_head (head_planned p) cells))
+    have_planned s c g d put gone u p.plan refl refl new has (bytes.group_with_file g p.name (made_file c.tables) (file_of_head (head_planned p) cells))
     (new_name_is_worlds g.name c path size copies stripe put gone (cells_of g) new p others
-    ∙ ap (λ (h : Group). bytes.with_file h p.name (made_file c.tables) (file_of_head (head_planned p) (new (made_file c.tables)))) (sym (of_catalog s c g d))
-    ∙ ap (λ (xs : List Cell). bytes.with_file g p.name (made_file c.tables) (file_of_head (head_planned p) xs)) there)
+    ∙ ap (λ (h : Group). bytes.group_with_file h p.name (made_file c.tables) (file_of_head (head_planned p) (new (made_file c.tables)))) (sym (of_catalog s c g d))
+    ∙ ap (λ (xs : List Cell). bytes.group_with_file g p.name (made_file c.tables) (file_of_head (head_planned p) xs)) there)

@@ -14,7 +14,7 @@ use Rattle.catalog_laws.specs.catalog.NameChecks.{check_causes}
 use Rattle.catalog_laws.specs.catalog.NamePlans.{filed_as, made_file, name_at, system_path}
 use Rattle.catalog_laws.proofs.NameLaws.{refuses_as_world}
 use Rattle.group_of.specs.Groups.{group_of}
-use Rattle.group_of.specs.Edits.{IsRefusedBeside, IsWorldsRefusal, full, no_memory, refused, worlds}
+use Rattle.group_of.specs.Edits.{IsRefusedBeside, IsWorldsRefusal, full, no_memory, same_refusal, worlds}
 use Rattle.group_of.specs.Files.{CheckIsWorlds, HasTemplate, NameRefusalIsWorlds, new_file_answer}
 use Rattle.group_of.proofs.NextNumbers.{next_number_is}
 use Rattle.group_of.proofs.Refusals.{leaves_too, refuses_too}
@@ -47,9 +47,9 @@ check_is_worlds name c path size template refusal cells rests there (inl memory)
 check_is_worlds name c path size template refusal cells rests there (inr (file, next, is)) = by (name_at path) there is where
   by : (o : Option NewName) → HasTemplate (group_of name c.shape c.tables cells) o template → first_cause (check_causes c.shape c.tables o size file) ≡ Some (said (λ n. []) refusal)
       → IsWorldsRefusal (new_file_answer (group_of name c.shape c.tables cells) o size template) refusal
-  by None there is = refused (answered _ (said (λ n. []) refusal) is)
+  by None there is = same_refusal (answered _ (said (λ n. []) refusal) is)
   by (Some new) there is =
-      refused (answered _ (said (λ n. []) refusal) (causes_are (group_of name c.shape c.tables cells) new size file template (next_number_is name c.shape c.tables file cells rests next) there ∙ is))
+      same_refusal (answered _ (said (λ n. []) refusal) (causes_are (group_of name c.shape c.tables cells) new size file template (next_number_is name c.shape c.tables file cells rests next) there ∙ is))
 
 pub name_refusal_is_worlds : NameRefusalIsWorlds
 unfolding group_of
@@ -57,11 +57,11 @@ name_refusal_is_worlds name c path size template refusal cells number there sect
 name_refusal_is_worlds name c path size template refusal cells number there sectors (inr (inl is)) = by (name_at path) there is where
   by : (o : Option NewName) → HasTemplate (group_of name c.shape c.tables cells) o template → filed_as c.tables o ≡ Err (said (λ n. []) refusal)
       → IsRefusedBeside (new_file_answer (group_of name c.shape c.tables cells) o size template) refusal
-  by None there is = worlds (refused (refuses_too (Some r.NoTemplate) (tree_of c.tables.nodes) tt (said (λ n. []) refusal) is))
+  by None there is = worlds (same_refusal (refuses_too (Some r.NoTemplate) (tree_of c.tables.nodes) tt (said (λ n. []) refusal) is))
   by (Some new) there is =
       let causes = causes_are (group_of name c.shape c.tables cells) new size (made_file c.tables) template number there
       ∙ passed (not (bytes.is_sectors (group_of name c.shape c.tables cells) size)) r.NotSectors (file_causes (tree_of c.tables.nodes) (system_path c.tables new)) (ap not sectors) in
-      worlds (refused (ap answer causes
+      worlds (same_refusal (ap answer causes
       ∙ refuses_too (first_cause (file_causes (tree_of c.tables.nodes) (system_path c.tables new))) (with_file (tree_of c.tables.nodes) (system_path c.tables new) (made_file c.tables)) tt (said (λ n. []) refusal) is))
 name_refusal_is_worlds name c path size template refusal cells number there sectors (inr (inr (need, free, is, lacks))) = by (name_at path) lacks.name_is there where
   by : (o : Option NewName) → o ≡ Some lacks.name → HasTemplate (group_of name c.shape c.tables cells) o template → IsRefusedBeside (new_file_answer (group_of name c.shape c.tables cells) o size template) refusal

@@ -31,7 +31,7 @@ use Rattle.group_of.proofs.HeadedFiles.{files_are}
 
 -- ---- one file put
 
-put_file : (fs : List heads.File) (f : ℕ) (head : FileHead) (cells new : ℕ → List Cell) → AreCellsButFor f cells new → files_by_number new (with_head fs f head) ≡ maps.insert (files_by_number cells fs) f (file_of_head head (new f))
+put_file : (fs : List heads.NumberedFile) (f : ℕ) (head : FileHead) (cells new : ℕ → List Cell) → AreCellsButFor f cells new → files_by_number new (with_head fs f head) ≡ maps.insert (files_by_number cells fs) f (file_of_head head (new f))
 put_file fs f head cells new others = same_files (files_by_number new (with_head fs f head)) (maps.insert (files_by_number cells fs) f (file_of_head head (new f))) (λ k.
     files_are new (with_head fs f head) k ∙ ap (files.file_at new k) (put_at f head fs k)
     ∙ by k (either (is_at (nat_cmp f) k))
@@ -70,17 +70,17 @@ resized_cells_are_long size cells =
 
 -- ---- a new file
 
-dir_is : (g : Group) (path : Path) → bytes.with_dir g path ≡ record g { tree = of_tree.with_dir g.tree path }
+dir_is : (g : Group) (path : Path) → bytes.group_with_dir g path ≡ record g { tree = of_tree.with_dir g.tree path }
 dir_is g path = by (tree.is_there g.tree path) refl where
-  by : (b : Bool) → tree.is_there g.tree path ≡ b → bytes.with_dir g path ≡ record g { tree = of_tree.with_dir g.tree path }
+  by : (b : Bool) → tree.is_there g.tree path ≡ b → bytes.group_with_dir g path ≡ record g { tree = of_tree.with_dir g.tree path }
   by true e = rw e refl
   by false e = rw e refl
 
 world_file : (g : Group) (file : bytes.NewName) (n : ℕ) (x : File)
-    → bytes.with_file g file n x ≡ record g { tree = of_tree.with_file g.tree (bytes.new_path file n x.incarnation) n; files = maps.insert g.files n x; next = bytes.next_incarnation g.next }
+    → bytes.group_with_file g file n x ≡ record g { tree = of_tree.with_file g.tree (bytes.new_path file n x.incarnation) n; files = maps.insert g.files n x; next = bytes.next_incarnation g.next }
 world_file g file n x =
-    let dirs = dir_is (bytes.with_dir g (file.db ∷ [])) (file.db ∷ file.type_name ∷ []) ∙ ap (λ (h : Group). record h { tree = of_tree.with_dir h.tree (file.db ∷ file.type_name ∷ []) }) (dir_is g (file.db ∷ [])) in
-    ap (λ (h : Group). record (world.with_node h (bytes.new_path file n x.incarnation) (System n)) { files = maps.insert g.files n x; next = bytes.next_incarnation g.next }) dirs
+    let dirs = dir_is (bytes.group_with_dir g (file.db ∷ [])) (file.db ∷ file.type_name ∷ []) ∙ ap (λ (h : Group). record h { tree = of_tree.with_dir h.tree (file.db ∷ file.type_name ∷ []) }) (dir_is g (file.db ∷ [])) in
+    ap (λ (h : Group). record (world.group_with_node h (bytes.new_path file n x.incarnation) (System n)) { files = maps.insert g.files n x; next = bytes.next_incarnation g.next }) dirs
 
 pub new_name_is_worlds : NewNameIsWorlds
 unfolding group_of
@@ -104,7 +104,7 @@ new_file_is_worlds name s t cells file by failgroups size system new = refl
 -- ---- the cells of a file that is put
 
 pub put_has_cells : PutHasCells
-put_has_cells t u f head cells new same others long has k h e = by (is_at (nat_cmp f) k) refl (sym (put_at f head t.files k) ∙ ap (λ (fs : List heads.File). head_at fs k) (sym same) ∙ e) where
+put_has_cells t u f head cells new same others long has k h e = by (is_at (nat_cmp f) k) refl (sym (put_at f head t.files k) ∙ ap (λ (fs : List heads.NumberedFile). head_at fs k) (sym same) ∙ e) where
   other : is_at (nat_cmp f) k ≡ false → k ≡ f → ⊥
   other miss same = apart (is_at (nat_cmp f) k) (subst (λ (n : ℕ). is_at (nat_cmp f) n ≡ true) (sym same) (number_itself f)) miss where
     apart : (b : Bool) → b ≡ true → b ≡ false → ⊥

@@ -11,7 +11,7 @@ use Rattle.asm_group.specs.Group.{Cell}
 use Rattle.asm_formats.specs.Items.{FileHead, Pending}
 use Rattle.asm_placement.specs.Naming.{is_pending}
 use Rattle.asm_world.specs.Files.{least_from}
-use Rattle.catalog_laws.specs.file_directory.Files.{head_at, is_file}
+use Rattle.catalog_laws.specs.file_directory.Files.{head_at, is_file_number}
 use Rattle.catalog_laws.specs.file_directory.Files as heads
 use Rattle.catalog_laws.specs.catalog.NamePlans.{made_file}
 use Rattle.catalog_laws.specs.catalog.Numbers.{IsNextFile, is_taken}
@@ -98,19 +98,19 @@ same_some : (cells : ℕ → List Cell) (f : ℕ) (o : Option FileHead) → is_s
 same_some cells f None = refl
 same_some cells f (Some head) = refl
 
-has_file : (cells : ℕ → List Cell) (files : List heads.File) (k : ℕ) → has (maps.entries (files_by_number cells files)) k ≡ is_file files k
+has_file : (cells : ℕ → List Cell) (files : List heads.NumberedFile) (k : ℕ) → has (maps.entries (files_by_number cells files)) k ≡ is_file_number files k
 unfolding has
 has_file cells files k = ap is_some (sym (maps.get-entries (files_by_number cells files) k)) ∙ ap is_some (files_are cells files k) ∙ same_some cells k (head_at files k)
 
-pub least_free : (cells : ℕ → List Cell) (files : List heads.File) (f : ℕ) → 256 ≤ f → ((k : ℕ) → 256 ≤ k → k < f → is_file files k ≡ true) → is_file files f ≡ false
+pub least_free : (cells : ℕ → List Cell) (files : List heads.NumberedFile) (f : ℕ) → 256 ≤ f → ((k : ℕ) → 256 ≤ k → k < f → is_file_number files k ≡ true) → is_file_number files f ≡ false
     → least_from 256 (maps.keys (files_by_number cells files)) ≡ f
 least_free cells files f low all free =
     least 256 f (maps.entries (files_by_number cells files)) (of_true _ (maps.entries_sorted (files_by_number cells files))) low
     (λ k from to. has_file cells files k ∙ all k from to) (has_file cells files f ∙ free)
 
 -- without a pending operation a number is taken by a file
-taken_is : (t : Tables) (k : ℕ) → t.operations.pending ≡ None → is_taken t k ≡ is_file t.files k
-taken_is t k rests = ap (λ (o : Option Pending). is_file t.files k || is_pending k o) rests ∙ or_none (is_file t.files k) where
+taken_is : (t : Tables) (k : ℕ) → t.operations.pending ≡ None → is_taken t k ≡ is_file_number t.files k
+taken_is t k rests = ap (λ (o : Option Pending). is_file_number t.files k || is_pending k o) rests ∙ or_none (is_file_number t.files k) where
   or_none : (b : Bool) → (b || false) ≡ b
   or_none true = refl
   or_none false = refl
@@ -140,4 +140,4 @@ next_number_is name s t f cells rests next = least_next s t f cells rests next
 pub made_number_is : MadeNumberIsWorlds
 unfolding group_of
 made_number_is name s t u cells rests next same =
-    ap (λ (files : List heads.File). least_from 256 (maps.keys (files_by_number cells files))) same ∙ least_next s t (made_file u) cells rests next
+    ap (λ (files : List heads.NumberedFile). least_from 256 (maps.keys (files_by_number cells files))) same ∙ least_next s t (made_file u) cells rests next

@@ -16,7 +16,7 @@ use Rattle.asm_placement.specs.Placed.{Placed, all_apart, are_apart, fits_entry,
 use Rattle.asm_base.specs.Records.{Ascend}
 use Rattle.catalog_laws.specs.extent_map.Extents as extents
 use Rattle.catalog_laws.specs.extent_map.Extents.{Chunked}
-use Rattle.asm_base.specs.Chunks.{chunk_cmp, is_before}
+use Rattle.asm_base.specs.Chunks.{chunk_cmp, is_chunk_before}
 use Rattle.catalog_laws.proofs.extent_map.Laws.{chunk_total}
 use Rattle.catalog_laws.specs.catalog_tables.Tables.{Tables}
 use Rattle.catalog_laws.specs.catalog_tables.Rules.{KeepsRules, are_on_disks, are_on_two, is_on_disks}
@@ -63,14 +63,14 @@ extent_of step f i (hs ∷ more) p h = elim (append_among (placed_copies f i (un
   | inr r ↦ wider f (suc i) (suc i + length more) i (i + length (hs ∷ more)) p (omega arith) (omega arith) (extent_of step f (suc i) more p r)
 ]
 
-long_chunk : (x : Chunked) → is_item (extents.item_of x) ≡ true → length x.1 ≡ 256
+long_chunk : (x : Chunked) → is_item (extents.item_of_chunk x) ≡ true → length x.1 ≡ 256
 unfolding is_item
 long_chunk x e =
     let a = and_parts (nat_lt x.0.0 (2 ^ 32)) (nat_lt (x.0.1 + 1) (2 ^ 32) && ((length x.1 == chunk_len) && list_all is_homes x.1)) e in
     let b = and_parts (nat_lt (x.0.1 + 1) (2 ^ 32)) ((length x.1 == chunk_len) && list_all is_homes x.1) a.1 in
     eqb-true (length x.1) 256 (and_parts (length x.1 == chunk_len) (list_all is_homes x.1) b.1).0
 
-right_homes : (x : Chunked) → is_item (extents.item_of x) ≡ true → list_all is_homes x.1 ≡ true
+right_homes : (x : Chunked) → is_item (extents.item_of_chunk x) ≡ true → list_all is_homes x.1 ≡ true
 unfolding is_item
 right_homes x e =
     let a = and_parts (nat_lt x.0.0 (2 ^ 32)) (nat_lt (x.0.1 + 1) (2 ^ 32) && ((length x.1 == chunk_len) && list_all is_homes x.1)) e in
@@ -174,7 +174,7 @@ later_chunk x y e same = by (nat_cmp x.0.0 y.0.0) refl e where
   by Equal is e = grind (arith, e)
   by Greater is e = absurd cc
 
-chunks_apart : (step : ℕ) (xs : List Chunked) → Ascend is_before xs → ((x : Chunked) → IsAmong xs x → is_item (extents.item_of x) ≡ true) → ((x : Chunked) → IsAmong xs x → is_on_disks x ≡ true) → AllPairs AreTwo (flat_map (homes_of step) xs)
+chunks_apart : (step : ℕ) (xs : List Chunked) → Ascend is_chunk_before xs → ((x : Chunked) → IsAmong xs x → is_item (extents.item_of_chunk x) ≡ true) → ((x : Chunked) → IsAmong xs x → is_on_disks x ≡ true) → AllPairs AreTwo (flat_map (homes_of step) xs)
 chunks_apart step [] up items disks = no_pair 0 0 0
 chunks_apart step (x ∷ xs) up items disks =
     joined AreTwo (homes_of step x) (flat_map (homes_of step) xs)
@@ -258,4 +258,4 @@ places s es t items ms k is units =
     taken = all_taken (flat_map (homes_of s.step) t.extents) (unused_maps s es) ms (unused_whole s es) long (sym (chunks_are_homes s.step t.extents (unused_maps s es)) ∙ units)
 
     two : AllPairs AreTwo (flat_map (homes_of s.step) t.extents)
-    two = chunks_apart s.step t.extents k.tables.extents.0.0 (λ x h. each_of (λ (y : Chunked). is_item (extents.item_of y) ≡ true) t.extents x k.tables.extents.0.1 h) (passes_each is_on_disks t.extents k.apart)
+    two = chunks_apart s.step t.extents k.tables.extents.0.0 (λ x h. each_of (λ (y : Chunked). is_item (extents.item_of_chunk y) ≡ true) t.extents x k.tables.extents.0.1 h) (passes_each is_on_disks t.extents k.apart)

@@ -18,7 +18,7 @@ use Rattle.asm_world.specs.Edits as world
 use Rattle.asm_world.specs.Settings as settings
 use Rattle.catalog_laws.specs.alias_tree.Trees.{tree_of}
 use Rattle.group_of.specs.Groups.{group_of}
-use Rattle.group_of.specs.Edits.{AttributeRefusalIsWorlds, TemplateRefusalIsWorlds, TreeRefusalIsWorlds, attribute_meant, full, no_memory, refused, worlds}
+use Rattle.group_of.specs.Edits.{AttributeRefusalIsWorlds, TemplateRefusalIsWorlds, TreeRefusalIsWorlds, attribute_meant, full, no_memory, same_refusal, worlds}
 use Rattle.group_of.proofs.EditedGroups.{done}
 
 abbrev cause_of : {A : Type 0} → r.Refusal → Result A r.Refusal → r.Refusal
@@ -38,17 +38,17 @@ pub tree_refusals : TreeRefusalIsWorlds
 unfolding group_of
 tree_refusals name c edit refusal cells (inl memory) = worlds (no_memory memory)
 tree_refusals name c edit refusal cells (inr (inl same)) =
-    worlds (refused (refuses_too (first_cause (tree.edit_causes (tree_of c.tables.nodes) edit)) (tree.changed (tree_of c.tables.nodes) edit) (world.changed (group_of name c.shape c.tables cells) edit) (said (λ n. []) refusal) same))
+    worlds (same_refusal (refuses_too (first_cause (tree.edit_causes (tree_of c.tables.nodes) edit)) (tree.changed (tree_of c.tables.nodes) edit) (world.changed_group (group_of name c.shape c.tables cells) edit) (said (λ n. []) refusal) same))
 tree_refusals name c edit refusal cells (inr (inr (is, lacks))) =
-    full 1 0 (world.changed (group_of name c.shape c.tables cells) edit) is (omega arith)
-    (leaves_too (first_cause (tree.edit_causes (tree_of c.tables.nodes) edit)) (tree.changed (tree_of c.tables.nodes) edit) lacks.done.0 (world.changed (group_of name c.shape c.tables cells) edit) lacks.done.1)
+    full 1 0 (world.changed_group (group_of name c.shape c.tables cells) edit) is (omega arith)
+    (leaves_too (first_cause (tree.edit_causes (tree_of c.tables.nodes) edit)) (tree.changed (tree_of c.tables.nodes) edit) lacks.done.0 (world.changed_group (group_of name c.shape c.tables cells) edit) lacks.done.1)
 
 pub template_refusals : TemplateRefusalIsWorlds
 unfolding group_of
 template_refusals name c edit refusal cells (inl memory) = no_memory memory
 template_refusals name c edit refusal cells (inr same) =
-    refused (refuses_too (first_cause (templates.template_causes c.shape.kind (templates_by_name c.tables.templates.templates) edit))
-    (templates.with_template_edit c.shape.kind (templates_by_name c.tables.templates.templates) edit) (settings.with_template_edit (group_of name c.shape c.tables cells) edit) (said (λ n. []) refusal) same)
+    same_refusal (refuses_too (first_cause (templates.template_causes c.shape.kind (templates_by_name c.tables.templates.templates) edit))
+    (templates.with_template_edit c.shape.kind (templates_by_name c.tables.templates.templates) edit) (settings.group_with_template_edit (group_of name c.shape c.tables cells) edit) (said (λ n. []) refusal) same)
 
 memory_said : (refusal : Refusal) → refusal ≡ cause.NoMemory → said (λ n. []) refusal ≡ r.NoMemory
 unfolding said
@@ -68,5 +68,5 @@ attribute_refusals name c attribute value refusal cells (inl memory) = no_memory
 attribute_refusals name c attribute value refusal cells (inr (is, none)) =
     let s = c.tables.templates.settings in
     let g = group_of name c.shape c.tables cells in
-    refused (ap (settings.with_attributes g attribute) (no_attributes s (settings.with_attribute s.attributes (attribute_meant attribute value)) none)
+    same_refusal (ap (settings.with_attributes g attribute) (no_attributes s (settings.with_attribute s.attributes (attribute_meant attribute value)) none)
     ∙ ap (λ (e : r.Refusal). Err e) (attribute_said refusal attribute is))

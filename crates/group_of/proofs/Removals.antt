@@ -14,12 +14,12 @@ use Rattle.asm_group.specs.Group.{Cell}
 use Rattle.asm_group.specs.TreeEdits as tree
 use Rattle.asm_formats.specs.Items.{FileHead, Node}
 use Rattle.asm_formats.specs.Nodes.{node_kind}
-use Rattle.asm_placement.specs.Naming.{is_directory, is_named_as, kind_eq, names_back}
-use Rattle.catalog_laws.specs.file_directory.Files.{head_at, without_file}
+use Rattle.asm_placement.specs.Naming.{is_kind_directory, is_named_as, kind_eq, names_back}
+use Rattle.catalog_laws.specs.file_directory.Files.{head_at, without_head}
 use Rattle.asm_base.specs.Records.{Ascend}
 use Rattle.catalog_laws.specs.alias_tree.Numbers.{is_name_of}
 use Rattle.catalog_laws.specs.alias_tree.Nodes as nodes
-use Rattle.catalog_laws.specs.alias_tree.Nodes.{node_at, without_node}
+use Rattle.catalog_laws.specs.alias_tree.Nodes.{node_at, without_numbered_node}
 use Rattle.catalog_laws.proofs.alias_edits.Growing.{NamesGone, unnamed_tree}
 use Rattle.catalog_laws.proofs.alias_tree.Keeping.{at_without, without_items}
 use Rattle.catalog_laws.proofs.alias_tree.Leading.{same_bool}
@@ -54,7 +54,7 @@ is_at_same : (m n : ℕ) → m ≡ n → is_at (nat_cmp m) n ≡ true
 is_at_same m n e = subst (λ (k : ℕ). is_at (nat_cmp m) k ≡ true) e (number_itself m)
 
 -- a node of such a kind is a name
-is_name_kind : (f file : ℕ) (a kd : NodeKind) → kind_eq a kd ≡ true → is_directory kd ≡ false → (file == f) ≡ true → tree.names_file f (node_kind a file) ≡ true
+is_name_kind : (f file : ℕ) (a kd : NodeKind) → kind_eq a kd ≡ true → is_kind_directory kd ≡ false → (file == f) ≡ true → tree.names_file f (node_kind a file) ≡ true
 is_name_kind f file Directory Directory e d g = absurd cc
 is_name_kind f file Directory System e d g = absurd cc
 is_name_kind f file Directory Alias e d g = absurd cc
@@ -75,14 +75,14 @@ module _ (s : Shape) (t : Tables) (f : ℕ) (head : FileHead) (k : KeepsRules s 
     up : Ascend nodes.is_before t.nodes
     up = k.tables.nodes.items.0
 
-    by : (b : Bool) → node_at (cond b (without_node t.nodes head.system) (without_node (without_node t.nodes head.system) head.alias)) m ≡ cond (gone b m) None (node_at t.nodes m)
+    by : (b : Bool) → node_at (cond b (without_numbered_node t.nodes head.system) (without_numbered_node (without_numbered_node t.nodes head.system) head.alias)) m ≡ cond (gone b m) None (node_at t.nodes m)
     by true = at_without t.nodes head.system m up ∙ once (is_at (nat_cmp head.system) m) (node_at t.nodes m)
     by false =
-        at_without (without_node t.nodes head.system) head.alias m (without_items t.nodes head.system k.tables.nodes.items).0
+        at_without (without_numbered_node t.nodes head.system) head.alias m (without_items t.nodes head.system k.tables.nodes.items).0
         ∙ ap (λ (o : Option Node). cond (is_at (nat_cmp head.alias) m) None o) (at_without t.nodes head.system m up)
         ∙ twice (is_at (nat_cmp head.system) m) (is_at (nat_cmp head.alias) m) (node_at t.nodes m)
 
-  by_kind : (m file : ℕ) (kd : NodeKind) → tree.names_file f (node_kind kd file) ≡ true → (is_directory kd || names_back kd m (head_at t.files file)) ≡ true → (m ≡ 0 → ⊥) → gone (head.alias == 0) m ≡ true
+  by_kind : (m file : ℕ) (kd : NodeKind) → tree.names_file f (node_kind kd file) ≡ true → (is_kind_directory kd || names_back kd m (head_at t.files file)) ≡ true → (m ≡ 0 → ⊥) → gone (head.alias == 0) m ≡ true
   by_kind m file Directory e back some = absurd cc
   by_kind m file System e back some =
       let at : head_at t.files file ≡ Some head = ap (head_at t.files) (eqb-true file f e) ∙ there in
@@ -100,7 +100,7 @@ module _ (s : Shape) (t : Tables) (f : ℕ) (head : FileHead) (k : KeepsRules s 
     by None at e = absurd cc
     by (Some x) at e = by_kind m x.file x.kind e (found_passes (rules.is_named_back t) t.nodes m x k.nodes at) (λ z. none-some x (sym (ap (node_at t.nodes) z ∙ no_root t.nodes k.tables.nodes) ∙ at))
 
-  named : (kd : NodeKind) (n : ℕ) → rules.names_file t f kd n ≡ true → (n ≡ 0 → ⊥) → is_directory kd ≡ false → is_name_of f (node_at t.nodes n) ≡ true
+  named : (kd : NodeKind) (n : ℕ) → rules.names_file_in_tables t f kd n ≡ true → (n ≡ 0 → ⊥) → is_kind_directory kd ≡ false → is_name_of f (node_at t.nodes n) ≡ true
   named kd n e some d = by (node_at t.nodes n) (rw (ne_eqb n 0 some) at e) where
     by : (o : Option Node) → is_named_as kd f o ≡ true → is_name_of f o ≡ true
     by None e = absurd cc
@@ -108,8 +108,8 @@ module _ (s : Shape) (t : Tables) (f : ℕ) (head : FileHead) (k : KeepsRules s 
 
   is_named : (m : ℕ) → gone (head.alias == 0) m ≡ true → is_name_of f (node_at t.nodes m) ≡ true
   is_named m e = by (is_at (nat_cmp head.system) m) refl (head.alias == 0) refl e where
-    names : (rules.names_file t f System head.system ≡ true) × (rules.names_file t f Alias head.alias ≡ true)
-    names = and_parts (rules.names_file t f System head.system) (rules.names_file t f Alias head.alias) (found_passes (rules.has_names t) t.files f head k.names there)
+    names : (rules.names_file_in_tables t f System head.system ≡ true) × (rules.names_file_in_tables t f Alias head.alias ≡ true)
+    names = and_parts (rules.names_file_in_tables t f System head.system) (rules.names_file_in_tables t f Alias head.alias) (found_passes (rules.has_names t) t.files f head k.names there)
 
     at_node : (n : ℕ) → n ≡ m → is_name_of f (node_at t.nodes n) ≡ true → is_name_of f (node_at t.nodes m) ≡ true
     at_node n same h = subst (λ (i : ℕ). is_name_of f (node_at t.nodes i) ≡ true) same h
@@ -133,9 +133,9 @@ module _ (s : Shape) (t : Tables) (f : ℕ) (head : FileHead) (k : KeepsRules s 
       parent x m at None e = ap (is_name_of f) e
       parent x m at (Some y) e = ap (is_name_of f) e ∙ no_name f y.file y.kind (k.tables.nodes.rule.parents m x y at e)
 
-  file_gone : (cells : ℕ → List Cell) → files_by_number cells (without_file t.files f) ≡ maps.remove (files_by_number cells t.files) f
-  file_gone cells = same_files (files_by_number cells (without_file t.files f)) (maps.remove (files_by_number cells t.files) f) (λ q.
-      files_are cells (without_file t.files f) q ∙ ap (files.file_at cells q) (gone_at f q t.files k.tables.files.0)
+  file_gone : (cells : ℕ → List Cell) → files_by_number cells (without_head t.files f) ≡ maps.remove (files_by_number cells t.files) f
+  file_gone cells = same_files (files_by_number cells (without_head t.files f)) (maps.remove (files_by_number cells t.files) f) (λ q.
+      files_are cells (without_head t.files f) q ∙ ap (files.file_at cells q) (gone_at f q t.files k.tables.files.0)
       ∙ by q (either (is_at (nat_cmp f) q))
       ∙ sym (maps.get-remove nat_cmp_total (files_by_number cells t.files) f q))
     where

@@ -86,7 +86,7 @@ marks_are_of_homes s t items k is f i copy e = ap is_some (home_by t items k.tab
   by (Some ms) m (Some homes) c bit =
       let among = found_is chunk_order.chunk_cmp chunk_total chunks_exact (f, i / chunk_len) t.stale ms m in
       let right : are_chunk_marks (Some homes) ms ≡ true = ap (λ (o : Option (List Homes)). are_chunk_marks o ms) (sym c) ∙ passes_each (is_marked_right t) t.stale k.stale ((f, i / chunk_len), ms) among in
-      let long = long_marks f (i / chunk_len) ms (each_of (λ (x : Marked). is_item (stale.item_of x) ≡ true) t.stale ((f, i / chunk_len), ms) k.tables.stale.1 among) in
+      let long = long_marks f (i / chunk_len) ms (each_of (λ (x : Marked). is_item (stale.item_of_marks x) ≡ true) t.stale ((f, i / chunk_len), ms) k.tables.stale.1 among) in
       let size = size_of t.extents (f, i / chunk_len) homes k.tables.extents.0.1 c in
       let here : has_bit (get_or ms (i % chunk_len) 0) copy ≡ true = ap (λ (o : Option (List ℕ)). has_bit (get_or (unwrap_or o []) (i % chunk_len) 0) copy) (sym m) ∙ bit in
       ap (λ (o : Option (List Homes)). is_some (get_or (get_or (unwrap_or o []) (i % chunk_len) []) copy None)) c

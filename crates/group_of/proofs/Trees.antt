@@ -11,9 +11,9 @@ use Rattle.asm_group.specs.declared.NodeKind.{NodeKind}
 use Rattle.asm_group.specs.declared.NodeKind.TheVariants.{Directory, System, Alias}
 use Rattle.asm_group.specs.Names.{Bytes, Path, folded}
 use Rattle.asm_formats.specs.Among.{IsAmong}
-use Rattle.asm_formats.specs.Items.{FileHead, Item, Node, key, file_item, chunk_item, disk_item, rebalance_item, pending_item, templates_item, node_item, settings_item, marks_item}
+use Rattle.asm_formats.specs.Items.{FileHead, Item, Node, item_key, file_item, chunk_item, disk_item, rebalance_item, pending_item, templates_item, node_item, settings_item, marks_item}
 use Rattle.asm_formats.specs.Nodes.{entry_of_node}
-use Rattle.asm_placement.specs.Naming.{is_directory, is_named_as, names_back}
+use Rattle.asm_placement.specs.Naming.{is_kind_directory, is_named_as, names_back}
 use Rattle.asm_placement.specs.Tables.{first_said, head_of, if_is}
 use Rattle.asm_images.specs.Tables.{node_of}
 use Rattle.asm_images.specs.Tree as images
@@ -42,7 +42,7 @@ abbrev tells_child : ℕ → Bytes → Item → Option (ℕ × Node)
 tells_child parent name (node_item n node) = if_is (is_it parent name node) (n, node)
 tells_child parent name _ = None
 
-child_said : (items : List Item) (parent : ℕ) (name : Bytes) → images.child items parent name ≡ first_said (tells_child parent name) items
+child_said : (items : List Item) (parent : ℕ) (name : Bytes) → images.child_node items parent name ≡ first_said (tells_child parent name) items
 child_said [] parent name = refl
 child_said (node_item n node ∷ items) parent name = ap (option_or (if_is (is_it parent name node) (n, node))) (child_said items parent name)
 child_said (i ∷ items) parent name = child_said items parent name
@@ -70,7 +70,7 @@ told parent name (marks_item f c m) z e = absurd cc
 module _ (t : Tables) (items : List Item) (a : AreTables t) (is : AreItemsOf t items) where
   node_there : (n : ℕ) (node : Node) → node_at t.nodes n ≡ Some node → IsAmong items (node_item n node)
   unfolding item_at
-  node_there n node e = is.from_table (key (node_item n node)) (node_item n node) (ap (option_map (node_item n)) e)
+  node_there n node e = is.from_table (item_key (node_item n node)) (node_item n node) (ap (option_map (node_item n)) e)
 
   node_back : (n : ℕ) (node : Node) → IsAmong items (node_item n node) → node_at t.nodes n ≡ Some node
   unfolding item_at
@@ -89,7 +89,7 @@ module _ (t : Tables) (items : List Item) (a : AreTables t) (is : AreItemsOf t i
       (record { node = z.1; at = at; parent_is = o.parent_is; name_is = o.name_is }, at)
 
   -- the child by the items is that by the nodes
-  children_are : (parent : ℕ) (name : Bytes) → images.child items parent name ≡ option_and_then (λ m. option_map (λ (node : Node). (m, node)) (node_at t.nodes m)) (child t.nodes parent name)
+  children_are : (parent : ℕ) (name : Bytes) → images.child_node items parent name ≡ option_and_then (λ m. option_map (λ (node : Node). (m, node)) (node_at t.nodes m)) (child t.nodes parent name)
   children_are parent name = child_said items parent name ∙ by (child t.nodes parent name) refl where
     by : (o : Option ℕ) → child t.nodes parent name ≡ o → first_said (tells_child parent name) items ≡ option_and_then (λ m. option_map (λ (node : Node). (m, node)) (node_at t.nodes m)) o
     by None e = first_none (tells_child parent name) items (λ j z h g. none-some z.0 (sym e ∙ child_at t.nodes parent name z.0 a.nodes (told_child parent name j z h g).0))
@@ -106,17 +106,17 @@ module _ (t : Tables) (items : List Item) (a : AreTables t) (is : AreItemsOf t i
 
   abbrev next : List Bytes → Option (ℕ × Node) → Option Node
   next names None = None
-  next names (Some c) = images.walk items c.0 (Some c.1) names
+  next names (Some c) = images.walk_to_node items c.0 (Some c.1) names
 
-  walk_step : (n : ℕ) (at : Option Node) (name : Bytes) (names : List Bytes) (o : Option (ℕ × Node)) → images.child items n name ≡ o → images.walk items n at (name ∷ names) ≡ next names o
+  walk_step : (n : ℕ) (at : Option Node) (name : Bytes) (names : List Bytes) (o : Option (ℕ × Node)) → images.child_node items n name ≡ o → images.walk_to_node items n at (name ∷ names) ≡ next names o
   walk_step n at name names None e = rw e refl
   walk_step n at name names (Some c) e = rw e refl
 
-  walks : (path : Path) (n : ℕ) (at : Option Node) → node_at t.nodes n ≡ at → images.walk items n at path ≡ option_and_then (λ m. node_at t.nodes m) (number_by t.nodes n path)
+  walks : (path : Path) (n : ℕ) (at : Option Node) → node_at t.nodes n ≡ at → images.walk_to_node items n at path ≡ option_and_then (λ m. node_at t.nodes m) (number_by t.nodes n path)
   walks [] n at e = sym e
   walks (name ∷ names) n at e = by (child t.nodes n name) refl (λ m o g. walks names m o g) where
-    by : (o : Option ℕ) → child t.nodes n name ≡ o → ((m : ℕ) (w : Option Node) → node_at t.nodes m ≡ w → images.walk items m w names ≡ option_and_then (λ k. node_at t.nodes k) (number_by t.nodes m names))
-        → images.walk items n at (name ∷ names) ≡ option_and_then (λ k. node_at t.nodes k) (option_and_then (λ m. number_by t.nodes m names) o)
+    by : (o : Option ℕ) → child t.nodes n name ≡ o → ((m : ℕ) (w : Option Node) → node_at t.nodes m ≡ w → images.walk_to_node items m w names ≡ option_and_then (λ k. node_at t.nodes k) (number_by t.nodes m names))
+        → images.walk_to_node items n at (name ∷ names) ≡ option_and_then (λ k. node_at t.nodes k) (option_and_then (λ m. number_by t.nodes m names) o)
     by None e rest = walk_step n at name names None (children_are n name ∙ ap (option_and_then (λ m. option_map (λ (node : Node). (m, node)) (node_at t.nodes m))) e)
     by (Some m) e rest =
         let c = child_found t.nodes n name m a.nodes e in
@@ -129,23 +129,23 @@ module _ (t : Tables) (items : List Item) (a : AreTables t) (is : AreItemsOf t i
 
   -- ---- rules
 
-  same_directory : (k : NodeKind) → is_directory k ≡ nodes.kind_is_directory k
+  same_directory : (k : NodeKind) → is_kind_directory k ≡ nodes.kind_is_directory k
   same_directory Directory = refl
   same_directory System = refl
   same_directory Alias = refl
 
-  same_reaches : (steps n : ℕ) → images.reaches_root items steps n ≡ nodes.reaches_root t.nodes steps n
+  same_reaches : (steps n : ℕ) → images.reaches_root_in_items items steps n ≡ nodes.reaches_root t.nodes steps n
   unfolding nodes.reaches_root
   same_reaches zero n = refl
   same_reaches (suc steps) n = by (node_at t.nodes n) refl (λ m. same_reaches steps m) where
-    by : (o : Option Node) → node_at t.nodes n ≡ o → ((m : ℕ) → images.reaches_root items steps m ≡ nodes.reaches_root t.nodes steps m) → images.reaches_root items (suc steps) n ≡ nodes.reaches_root t.nodes (suc steps) n
+    by : (o : Option Node) → node_at t.nodes n ≡ o → ((m : ℕ) → images.reaches_root_in_items items steps m ≡ nodes.reaches_root t.nodes steps m) → images.reaches_root_in_items items (suc steps) n ≡ nodes.reaches_root t.nodes (suc steps) n
     by None e rest = rw (nodes_are t items is n, e) refl
     by (Some node) e rest = rw (nodes_are t items is n, e) (ap (λ (b : Bool). eqb n 0 || b) (rest node.parent))
 
-  pub parents : (n : ℕ) (node parent : Node) → node_of items n ≡ Some node → node_of items node.parent ≡ Some parent → is_directory parent.kind ≡ true
+  pub parents : (n : ℕ) (node parent : Node) → node_of items n ≡ Some node → node_of items node.parent ≡ Some parent → is_kind_directory parent.kind ≡ true
   parents n node parent e f = same_directory parent.kind ∙ a.nodes.rule.parents n node parent (sym (nodes_are t items is n) ∙ e) (sym (nodes_are t items is node.parent) ∙ f)
 
-  pub rooted : (n : ℕ) (node : Node) → node_of items n ≡ Some node → images.reaches_root items (length items) n ≡ true
+  pub rooted : (n : ℕ) (node : Node) → node_of items n ≡ Some node → images.reaches_root_in_items items (length items) n ≡ true
   rooted n node e =
       let few = few_nodes t items a is in
       let more : length t.nodes + (length items - length t.nodes) ≡ length items = omega (arith, few) in
@@ -158,16 +158,16 @@ module _ (t : Tables) (items : List Item) (a : AreTables t) (is : AreItemsOf t i
 -- ---- nodes and files name each other
 
 module _ (s : Shape) (t : Tables) (items : List Item) (k : KeepsRules s t) (is : AreItemsOf t items) where
-  named_back : (n : ℕ) (node : Node) → images.is_named_back items n node ≡ rules.is_named_back t (n, node)
-  named_back n node = ap (λ (o : Option FileHead). is_directory node.kind || names_back node.kind n o) (heads_are t items k.tables is node.file)
+  named_back : (n : ℕ) (node : Node) → images.is_named_back_in_items items n node ≡ rules.is_named_back t (n, node)
+  named_back n node = ap (λ (o : Option FileHead). is_kind_directory node.kind || names_back node.kind n o) (heads_are t items k.tables is node.file)
 
-  names : (f : ℕ) (kind : NodeKind) (n : ℕ) → images.names_file items f kind n ≡ rules.names_file t f kind n
+  names : (f : ℕ) (kind : NodeKind) (n : ℕ) → images.names_file_in_items items f kind n ≡ rules.names_file_in_tables t f kind n
   names f kind n = ap (λ (o : Option Node). eqb n 0 || is_named_as kind f o) (nodes_are t items is n)
 
-  both_names : (f : ℕ) (head : FileHead) → head_of items f ≡ Some head → (rules.names_file t f System head.system ≡ true) × (rules.names_file t f Alias head.alias ≡ true)
+  both_names : (f : ℕ) (head : FileHead) → head_of items f ≡ Some head → (rules.names_file_in_tables t f System head.system ≡ true) × (rules.names_file_in_tables t f Alias head.alias ≡ true)
   both_names f head e =
       let p = found_passes (rules.has_names t) t.files f head k.names (sym (heads_are t items k.tables is f) ∙ e) in
-      and_parts (rules.names_file t f System head.system) (rules.names_file t f Alias head.alias) p
+      and_parts (rules.names_file_in_tables t f System head.system) (rules.names_file_in_tables t f Alias head.alias) p
 
   pub tree_rules : KeepsTreeRules items
   tree_rules = record {

@@ -5,7 +5,7 @@ use Rattle.asm_group.specs.Shape.{Shape}
 use Rattle.asm_group.specs.Group.{Cell, Group}
 use Rattle.asm_formats.specs.Items.{Item}
 use Rattle.asm_formats.specs.Status.{Status}
-use Rattle.asm_base.specs.Records.{Entry}
+use Rattle.asm_base.specs.Records.{DirectoryRecord}
 use Rattle.asm_placement.specs.Partners.{HasPartners}
 use Rattle.asm_images.specs.Describing.{DescribesGroup}
 use Rattle.catalog_laws.specs.allocator.UnitMaps.{UnitMap}
@@ -36,7 +36,7 @@ TablesDescribe =
 -- So do the record and the items of the records whose catalog the value is.
 abbrev pub CatalogDescribes : Type 0
 CatalogDescribes =
-    (r : Status) (content : List Entry) (items : List Item) (name : Bytes) (c : Catalogued) (cells : ℕ → List Cell) → IsCatalogOf content r.entries c → HasPartners r.entries → AreItemsIn content items
+    (r : Status) (content : List DirectoryRecord) (items : List Item) (name : Bytes) (c : Catalogued) (cells : ℕ → List Cell) → IsCatalogOf content r.entries c → HasPartners r.entries → AreItemsIn content items
     → HasCells c.tables cells → DescribesGroup r items (group_of name c.shape c.tables cells)
 
 -- the items of the tables describe the group under the record

@@ -10,7 +10,7 @@ use Rattle.asm_group.specs.TemplateEdits.{TemplateEdit}
 use Rattle.asm_group.specs.TreeEdits.{TreeEdit}
 use Rattle.asm_formats.specs.Items.{Key, Settings}
 use Rattle.asm_formats.specs.Status.{Status}
-use Rattle.asm_base.specs.Records.{Entry}
+use Rattle.asm_base.specs.Records.{DirectoryRecord}
 use Rattle.asm_base.specs.Refusals.{said}
 use Rattle.asm_base.specs.declared.refusal.Refusal.{Refusal}
 use Rattle.asm_base.specs.declared.refusal.Refusal.TheVariants as cause
@@ -18,7 +18,7 @@ use Rattle.asm_world.specs.Edits as world
 use Rattle.asm_world.specs.Settings as settings
 use Rattle.asm_world.specs.Statement.{Attribute}
 use Rattle.catalog_laws.specs.alias_tree.Nodes.{Numbered}
-use Rattle.catalog_laws.specs.template_directory.Meant.{IsRefusal}
+use Rattle.catalog_laws.specs.template_directory.Meant.{IsTemplateEditRefusal}
 use Rattle.catalog_laws.specs.catalog.FilePlans.{IsAttributePlan, IsAttributeRefusal}
 use Rattle.catalog_laws.specs.catalog.Plans.{IsTemplatePlan}
 use Rattle.catalog_laws.specs.catalog_tables.Tables.{Catalogued, Tables}
@@ -47,8 +47,8 @@ attribute_meant name value = record { name = name; value = value }
 -- The plan of an edit of the tree leads to the world's group after the edit, with the same cells.
 abbrev pub TreeEditIsWorlds : Type 0
 TreeEditIsWorlds =
-    (name : Bytes) (c : Catalogued) (edit : TreeEdit) (put : List Entry) (gone : List Key) (cells : ℕ → List Cell) (p : IsTreePlan c edit put gone)
-    → world.edited (group_of name c.shape c.tables cells) edit ≡ Ok (group_of name c.shape (with_tree c.tables edit p.nodes) cells)
+    (name : Bytes) (c : Catalogued) (edit : TreeEdit) (put : List DirectoryRecord) (gone : List Key) (cells : ℕ → List Cell) (p : IsTreePlan c edit put gone)
+    → world.edited_group (group_of name c.shape c.tables cells) edit ≡ Ok (group_of name c.shape (with_tree c.tables edit p.nodes) cells)
 
 abbrev pub TreeEditKeepsCells : Type 0
 TreeEditKeepsCells = (t : Tables) (edit : TreeEdit) (nodes : List Numbered) (cells : ℕ → List Cell) → HasCells t cells → HasCells (with_tree t edit nodes) cells
@@ -56,13 +56,13 @@ TreeEditKeepsCells = (t : Tables) (edit : TreeEdit) (nodes : List Numbered) (cel
 -- So does the plan of an edit of the templates.
 abbrev pub TemplateEditIsWorlds : Type 0
 TemplateEditIsWorlds =
-    (name : Bytes) (c : Catalogued) (edit : TemplateEdit) (put : List Entry) (gone : List Key) (cells : ℕ → List Cell) (p : IsTemplatePlan c edit put gone)
-    → settings.templates_edited (group_of name c.shape c.tables cells) edit ≡ Ok (group_of name c.shape (with_templates c.tables p.templates) cells)
+    (name : Bytes) (c : Catalogued) (edit : TemplateEdit) (put : List DirectoryRecord) (gone : List Key) (cells : ℕ → List Cell) (p : IsTemplatePlan c edit put gone)
+    → settings.group_after_template_edit (group_of name c.shape c.tables cells) edit ≡ Ok (group_of name c.shape (with_templates c.tables p.templates) cells)
 
 -- And so does the plan of an attribute that is set.
 abbrev pub AttributeIsWorlds : Type 0
 AttributeIsWorlds =
-    (name : Bytes) (c : Catalogued) (attribute value : Bytes) (put : List Entry) (gone : List Key) (cells : ℕ → List Cell) (p : IsAttributePlan c attribute value put gone)
+    (name : Bytes) (c : Catalogued) (attribute value : Bytes) (put : List DirectoryRecord) (gone : List Key) (cells : ℕ → List Cell) (p : IsAttributePlan c attribute value put gone)
     → settings.attribute_set (group_of name c.shape c.tables cells) (attribute_meant attribute value) ≡ Ok (group_of name c.shape (with_settings c.tables p.settings) cells)
 
 -- ---- of a group that the catalog's tables describe
@@ -78,17 +78,17 @@ pub record LeadsOn (s : Status) (u : Tables) (g : Group) (answer : Result Group 
 
 abbrev pub TreeEditLeadsOn : Type 0
 TreeEditLeadsOn =
-    (r : Status) (c : Catalogued) (g : Group) (edit : TreeEdit) (put : List Entry) (gone : List Key) → IsDescribed r c g → (p : IsTreePlan c edit put gone)
-    → LeadsOn r (with_tree c.tables edit p.nodes) g (world.edited g edit)
+    (r : Status) (c : Catalogued) (g : Group) (edit : TreeEdit) (put : List DirectoryRecord) (gone : List Key) → IsDescribed r c g → (p : IsTreePlan c edit put gone)
+    → LeadsOn r (with_tree c.tables edit p.nodes) g (world.edited_group g edit)
 
 abbrev pub TemplateEditLeadsOn : Type 0
 TemplateEditLeadsOn =
-    (r : Status) (c : Catalogued) (g : Group) (edit : TemplateEdit) (put : List Entry) (gone : List Key) → IsDescribed r c g → (p : IsTemplatePlan c edit put gone)
-    → LeadsOn r (with_templates c.tables p.templates) g (settings.templates_edited g edit)
+    (r : Status) (c : Catalogued) (g : Group) (edit : TemplateEdit) (put : List DirectoryRecord) (gone : List Key) → IsDescribed r c g → (p : IsTemplatePlan c edit put gone)
+    → LeadsOn r (with_templates c.tables p.templates) g (settings.group_after_template_edit g edit)
 
 abbrev pub AttributeLeadsOn : Type 0
 AttributeLeadsOn =
-    (r : Status) (c : Catalogued) (g : Group) (attribute value : Bytes) (put : List Entry) (gone : List Key) → IsDescribed r c g → (p : IsAttributePlan c attribute value put gone)
+    (r : Status) (c : Catalogued) (g : Group) (attribute value : Bytes) (put : List DirectoryRecord) (gone : List Key) → IsDescribed r c g → (p : IsAttributePlan c attribute value put gone)
     → LeadsOn r (with_settings c.tables p.settings) g (settings.attribute_set g (attribute_meant attribute value))
 
 -- ---- refusals
@@ -98,7 +98,7 @@ pub data IsWorldsRefusal {A : Type 0} (answer : Result A r.Refusal) (refusal : R
   -- want of memory, which may come at any time
   no_memory : said (λ n. []) refusal ≡ r.NoMemory → IsWorldsRefusal answer refusal
   -- the world refuses it by the same
-  refused : answer ≡ Err (said (λ n. []) refusal) → IsWorldsRefusal answer refusal
+  same_refusal : answer ≡ Err (said (λ n. []) refusal) → IsWorldsRefusal answer refusal
 
 -- The same of a plan that may make records.
 pub data IsRefusedBeside {A : Type 0} (answer : Result A r.Refusal) (refusal : Refusal) : Type 0 where
@@ -109,13 +109,13 @@ pub data IsRefusedBeside {A : Type 0} (answer : Result A r.Refusal) (refusal : R
 abbrev pub TreeRefusalIsWorlds : Type 0
 TreeRefusalIsWorlds =
     (name : Bytes) (c : Catalogued) (edit : TreeEdit) (refusal : Refusal) (cells : ℕ → List Cell) → IsTreeRefusal c edit refusal
-    → IsRefusedBeside (world.edited (group_of name c.shape c.tables cells) edit) refusal
+    → IsRefusedBeside (world.edited_group (group_of name c.shape c.tables cells) edit) refusal
 
 abbrev pub TemplateRefusalIsWorlds : Type 0
 TemplateRefusalIsWorlds =
     (name : Bytes) (c : Catalogued) (edit : TemplateEdit) (refusal : Refusal) (cells : ℕ → List Cell)
-    → IsRefusal (by_name.templates_edited c.shape.kind (templates_by_name c.tables.templates.templates) edit) refusal
-    → IsWorldsRefusal (settings.templates_edited (group_of name c.shape c.tables cells) edit) refusal
+    → IsTemplateEditRefusal (by_name.templates_edited c.shape.kind (templates_by_name c.tables.templates.templates) edit) refusal
+    → IsWorldsRefusal (settings.group_after_template_edit (group_of name c.shape c.tables cells) edit) refusal
 
 abbrev pub AttributeRefusalIsWorlds : Type 0
 AttributeRefusalIsWorlds =

@@ -10,12 +10,12 @@ use Rattle.asm_group.specs.Shape.{Shape, is_shape}
 use Rattle.asm_group.specs.Group.{Cell, File, Group, Template}
 use Rattle.asm_formats.specs.Items.{FileHead, Key, Pending}
 use Rattle.asm_formats.specs.Status.{Status}
-use Rattle.asm_base.specs.Records.{Entry}
+use Rattle.asm_base.specs.Records.{DirectoryRecord}
 use Rattle.asm_base.specs.declared.refusal.Refusal.{Refusal}
 use Rattle.asm_world.specs.Edits as world
 use Rattle.asm_world.specs.Files as bytes
 use Rattle.catalog_laws.specs.file_directory.Files.{head_at, with_head}
-use Rattle.catalog_laws.specs.catalog.FilePlans.{IsRemovalPlan, IsSizePlan, removed, sized}
+use Rattle.catalog_laws.specs.catalog.FilePlans.{IsRemovalPlan, IsSizePlan, with_removal_pending, sized}
 use Rattle.catalog_laws.specs.catalog.NameChecks.{IsCheckRefusal}
 use Rattle.catalog_laws.specs.catalog.NamePlans.{IsNamePlan, IsNameRefusal, made_file, name_at, named, new_head}
 use Rattle.catalog_laws.specs.catalog.Numbers.{IsNextFile}
@@ -37,7 +37,7 @@ SizeIsWorlds =
 -- The world's file of a path, cut or grown by zeros, has these other cells.
 abbrev pub ResizedHasCells : Type 0
 ResizedHasCells =
-    (g : Group) (path : Path) (f size : ℕ) (file : File) → world.file_at g path ≡ Some f → maps.get g.files f ≡ Some file → IsTrue (bytes.is_sectors g size)
+    (g : Group) (path : Path) (f size : ℕ) (file : File) → world.group_file_at g path ≡ Some f → maps.get g.files f ≡ Some file → IsTrue (bytes.is_sectors g size)
     → bytes.resized g path size ≡ Ok (bytes.with_file_cells g f file (bytes.resized_cells size file.cells))
 
 -- They are as many as the size says.
@@ -47,16 +47,16 @@ ResizedCellsAreLong = (size : ℕ) (cells : List Cell) → length (bytes.resized
 -- ---- a file comes
 
 -- the head that the plan of a file's name gives it
-abbrev pub head_planned : {c : Catalogued} {path : Path} {size copies : ℕ} {stripe : Stripe} {put : List Entry} {gone : List Key} → IsNamePlan c path size copies stripe put gone → FileHead
+abbrev pub head_planned : {c : Catalogued} {path : Path} {size copies : ℕ} {stripe : Stripe} {put : List DirectoryRecord} {gone : List Key} → IsNamePlan c path size copies stripe put gone → FileHead
 head_planned {c} {path} {size} {copies} {stripe} {put} {gone} p = new_head c.tables p.name size copies stripe p.filing.number
 
 -- The tables after the plan of a new file's name are those of the world's group with the file.
 abbrev pub NewNameIsWorlds : Type 0
 NewNameIsWorlds =
-    (name : Bytes) (c : Catalogued) (path : Path) (size copies : ℕ) (stripe : Stripe) (put : List Entry) (gone : List Key) (cells new : ℕ → List Cell)
+    (name : Bytes) (c : Catalogued) (path : Path) (size copies : ℕ) (stripe : Stripe) (put : List DirectoryRecord) (gone : List Key) (cells new : ℕ → List Cell)
     (p : IsNamePlan c path size copies stripe put gone) → AreCellsButFor (made_file c.tables) cells new
     → group_of name c.shape (named c.tables (made_file c.tables) (head_planned p) p.made) new
-    ≡ bytes.with_file (group_of name c.shape c.tables cells) p.name (made_file c.tables) (file_of_head (head_planned p) (new (made_file c.tables)))
+    ≡ bytes.group_with_file (group_of name c.shape c.tables cells) p.name (made_file c.tables) (file_of_head (head_planned p) (new (made_file c.tables)))
 
 -- It is the file that the world makes by a template, where it has the template's stripe and as many copies as the world gives it.
 abbrev pub NewFileIsWorlds : Type 0
@@ -112,8 +112,8 @@ NameRefusalIsWorlds =
 -- The tables without a file and its names are those of the world's group without it.
 abbrev pub RemovalIsWorlds : Type 0
 RemovalIsWorlds =
-    (name : Bytes) (s : Shape) (t : Tables) (f : ℕ) (head : FileHead) (cells : ℕ → List Cell) → KeepsRules s t → head_at t.files f ≡ Some head → KeepsRules s (removed t f head)
-    → group_of name s (removed t f head) cells ≡ world.without_file (group_of name s t cells) f
+    (name : Bytes) (s : Shape) (t : Tables) (f : ℕ) (head : FileHead) (cells : ℕ → List Cell) → KeepsRules s t → head_at t.files f ≡ Some head → KeepsRules s (with_removal_pending t f head)
+    → group_of name s (with_removal_pending t f head) cells ≡ world.group_without_file (group_of name s t cells) f
 
 -- ---- the cells then
 
@@ -123,26 +123,26 @@ PutHasCells =
     (t u : Tables) (f : ℕ) (head : FileHead) (cells new : ℕ → List Cell) → u.files ≡ with_head t.files f head → AreCellsButFor f cells new → length (new f) ≡ head.size → HasCells t cells → HasCells u new
 
 abbrev pub RemovalKeepsCells : Type 0
-RemovalKeepsCells = (s : Shape) (t : Tables) (f : ℕ) (head : FileHead) (cells : ℕ → List Cell) → KeepsRules s t → HasCells t cells → HasCells (removed t f head) cells
+RemovalKeepsCells = (s : Shape) (t : Tables) (f : ℕ) (head : FileHead) (cells : ℕ → List Cell) → KeepsRules s t → HasCells t cells → HasCells (with_removal_pending t f head) cells
 
 -- ---- of a group that the catalog's tables describe
 
 -- The tables without the file describe the group without it.
 abbrev pub RemovalLeadsOn : Type 0
 RemovalLeadsOn =
-    (r : Status) (c : Catalogued) (g : Group) (f : ℕ) (put : List Entry) (gone : List Key) → IsDescribed r c g → KeepsRules c.shape c.tables → (p : IsRemovalPlan c f put gone)
-    → AreOwned (removed c.tables f p.head) → HaveGroup r (removed c.tables f p.head) (world.without_file g f)
+    (r : Status) (c : Catalogued) (g : Group) (f : ℕ) (put : List DirectoryRecord) (gone : List Key) → IsDescribed r c g → KeepsRules c.shape c.tables → (p : IsRemovalPlan c f put gone)
+    → AreOwned (with_removal_pending c.tables f p.head) → HaveGroup r (with_removal_pending c.tables f p.head) (world.group_without_file g f)
 
 -- Those with another size of a file describe the group in which it has other cells, as many as the size says.
 abbrev pub SizeLeadsOn : Type 0
 SizeLeadsOn =
-    (r : Status) (c : Catalogued) (g : Group) (f size : ℕ) (put : List Entry) (gone : List Key) (file : File) (cells : List Cell) → IsDescribed r c g → (p : IsSizePlan c f size put gone)
+    (r : Status) (c : Catalogued) (g : Group) (f size : ℕ) (put : List DirectoryRecord) (gone : List Key) (file : File) (cells : List Cell) → IsDescribed r c g → (p : IsSizePlan c f size put gone)
     → AreOwned (sized c.tables f p.head size p.pending) → maps.get g.files f ≡ Some file → length cells ≡ size
     → HaveGroup r (sized c.tables f p.head size p.pending) (bytes.with_file_cells g f file cells)
 
 -- Those with a new file describe the group with the file, of as many cells.
 abbrev pub NewNameLeadsOn : Type 0
 NewNameLeadsOn =
-    (r : Status) (c : Catalogued) (g : Group) (path : Path) (size copies : ℕ) (stripe : Stripe) (put : List Entry) (gone : List Key) (cells : List Cell) → IsDescribed r c g
+    (r : Status) (c : Catalogued) (g : Group) (path : Path) (size copies : ℕ) (stripe : Stripe) (put : List DirectoryRecord) (gone : List Key) (cells : List Cell) → IsDescribed r c g
     → (p : IsNamePlan c path size copies stripe put gone) → length cells ≡ size
-    → HaveGroup r (named c.tables (made_file c.tables) (head_planned p) p.made) (bytes.with_file g p.name (made_file c.tables) (file_of_head (head_planned p) cells))
+    → HaveGroup r (named c.tables (made_file c.tables) (head_planned p) p.made) (bytes.group_with_file g p.name (made_file c.tables) (file_of_head (head_planned p) cells))

@@ -15,8 +15,8 @@ abbrev pub file_of_head : FileHead → List Cell → File
 file_of_head head cells = record { copies = head.copies; stripe = head.stripe; type_name = head.type_name; incarnation = head.incarnation; cells = cells }
 
 -- the files by their numbers: each head has a system node, as the formats ask
-abbrev pub files_by_number : (ℕ → List Cell) → List heads.File → ByNumber File
-files_by_number cells files = maps.from_entries (map (λ (x : heads.File). (x.0, file_of_head x.1 (cells x.0))) files)
+abbrev pub files_by_number : (ℕ → List Cell) → List heads.NumberedFile → ByNumber File
+files_by_number cells files = maps.from_entries (map (λ (x : heads.NumberedFile). (x.0, file_of_head x.1 (cells x.0))) files)
 
 -- The group of these tables, of this name and shape, whose files have these cells.
 unfoldable pub group_of : Bytes → Shape → Tables → (ℕ → List Cell) → Group

@@ -31,7 +31,7 @@ use Rattle.record_laws.proofs.catalog_laws.HavingItems.{have_items}
 use Rattle.record_laws.proofs.catalog_laws.ItemLists.{items_say}
 use Rattle.record_laws.specs.extent_copies.declared.extent.Extent.{Extent}
 use Rattle.record_laws.specs.extent_copies.Extents.{can_be_read_at, copy_of}
-use Rattle.record_laws.specs.extent_map.Extents.{absent, chunk_at, extent_at, has_home}
+use Rattle.record_laws.specs.extent_map.Extents.{absent_homes, chunk_at, extent_at, has_home}
 use Rattle.record_laws.specs.status_register.Surveys.{disk_in}
 use Rattle.record_laws.specs.group_engine.Mounts.{IsReady, MountedGroup, Mounts}
 use Rattle.record_laws.proofs.group_engine.Bytes.{mounted_holds}
@@ -45,7 +45,7 @@ use Rattle.group_pieces.proofs.Places.{IsPlaceAt, member_at, places_usable, size
 
 -- ---- what the tables say of a copy
 
-none_at : (k : ℕ) (h : Home) → get_or absent k None ≡ Some h → ⊥
+none_at : (k : ℕ) (h : Home) → get_or absent_homes k None ≡ Some h → ⊥
 none_at zero h is = none-some h is
 none_at (suc zero) h is = none-some h is
 none_at (suc (suc zero)) h is = none-some h is
@@ -55,14 +55,14 @@ none_at (suc (suc (suc k))) h is = none-some h is
 abbrev pub raw_homes : Tables → ℕ → ℕ → Homes
 raw_homes t f i = get_or (unwrap_or (chunk_at t.extents (f, i / chunk_len)) []) (i % chunk_len) []
 
-pub raw_home : (t : Tables) (f i k : ℕ) (h : Home) → get_or (unwrap_or (extent_at t.extents f i) absent) k None ≡ Some h → get_or (raw_homes t f i) k None ≡ Some h
+pub raw_home : (t : Tables) (f i k : ℕ) (h : Home) → get_or (unwrap_or (extent_at t.extents f i) absent_homes) k None ≡ Some h → get_or (raw_homes t f i) k None ≡ Some h
 raw_home t f i k h is = go (chunk_at t.extents (f, i / chunk_len)) is
   where
-    go : (o : Option (List Homes)) → get_or (unwrap_or (option_and_then (λ chunk. cond (has_home (get_or chunk (i % chunk_len) [])) (Some (get_or chunk (i % chunk_len) [])) None) o) absent) k None ≡ Some h
+    go : (o : Option (List Homes)) → get_or (unwrap_or (option_and_then (λ chunk. cond (has_home (get_or chunk (i % chunk_len) [])) (Some (get_or chunk (i % chunk_len) [])) None) o) absent_homes) k None ≡ Some h
         → get_or (get_or (unwrap_or o []) (i % chunk_len) []) k None ≡ Some h
     go None found = absurd (none_at k h found)
     go (Some w) found = cond_both (has_home (get_or w (i % chunk_len) [])) (Some (get_or w (i % chunk_len) [])) None
-        (λ (o : Option Homes). get_or (unwrap_or o absent) k None ≡ Some h → get_or (get_or w (i % chunk_len) []) k None ≡ Some h)
+        (λ (o : Option Homes). get_or (unwrap_or o absent_homes) k None ≡ Some h → get_or (get_or w (i % chunk_len) []) k None ≡ Some h)
         (λ yes at. at) (λ no none. absurd (none_at k h none)) found
 
 -- the items name the home

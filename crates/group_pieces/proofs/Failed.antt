@@ -9,7 +9,7 @@ use Rattle.asm_formats.specs.Among.{IsAmong}
 use Rattle.asm_images.specs.RecordLaws.{bare}
 use Rattle.record_laws.specs.status_table.Changes.{entries_with_partners, entry_with_offline, entry_with_partners, status_with_offline, status_with_partners}
 use Rattle.record_laws.specs.group_engine.NextRecords.{KeepsDisks}
-use Rattle.group_pieces.specs.Failing.{AreOffline, entry_failed, status_failed, taken_off}
+use Rattle.group_pieces.specs.Failing.{AreOffline, entry_failed, status_failed, offline_entry}
 
 abbrev Bare : Type 0
 Bare = ℕ × ℕ × ℕ × Bool
@@ -18,9 +18,9 @@ Bare = ℕ × ℕ × ℕ × Bool
 
 module _ (failed since repair : ℕ) where
   -- the entry of another disk stays
-  other_stays : (d : ℕ) (b : Bool) (e : Entry) → (e.number == d) ≡ false → entry_with_offline d since repair (cond b (taken_off since repair e) e) ≡ cond b (taken_off since repair e) e
-  other_stays d true e other = ap (λ (c : Bool). cond c (taken_off since repair (taken_off since repair e)) (taken_off since repair e)) other
-  other_stays d false e other = ap (λ (c : Bool). cond c (taken_off since repair e) e) other
+  other_stays : (d : ℕ) (b : Bool) (e : Entry) → (e.number == d) ≡ false → entry_with_offline d since repair (cond b (offline_entry since repair e) e) ≡ cond b (offline_entry since repair e) e
+  other_stays d true e other = ap (λ (c : Bool). cond c (offline_entry since repair (offline_entry since repair e)) (offline_entry since repair e)) other
+  other_stays d false e other = ap (λ (c : Bool). cond c (offline_entry since repair e) e) other
 
   -- below d + 1 it is the same as below d but for disk d
   below_more : (d : ℕ) (e : Entry) → (e.number == d) ≡ false → (nat_lt e.number (d + 1) && has_bit failed e.number) ≡ (nat_lt e.number d && has_bit failed e.number)
@@ -37,20 +37,20 @@ module _ (failed since repair : ℕ) where
       (λ (same : e.number ≡ d).
       let out : (nat_lt e.number d && has_bit failed e.number) ≡ false = ap (λ (b : Bool). b && has_bit failed e.number) (le-ltb e.number d (omega arith)) in
       let now : (nat_lt e.number (d + 1) && has_bit failed e.number) ≡ true = ap (λ (b : Bool). b && has_bit failed e.number) (lt-ltb e.number (d + 1) (omega arith)) ∙ ap (has_bit failed) same ∙ is in
-      ap (λ (b : Bool). entry_with_offline d since repair (cond b (taken_off since repair e) e)) out
-      ∙ ap (λ (b : Bool). cond b (taken_off since repair e) e) (eq-eqb e.number d same)
-      ∙ ap (λ (b : Bool). cond b (taken_off since repair e) e) (sym now))
+      ap (λ (b : Bool). entry_with_offline d since repair (cond b (offline_entry since repair e) e)) out
+      ∙ ap (λ (b : Bool). cond b (offline_entry since repair e) e) (eq-eqb e.number d same)
+      ∙ ap (λ (b : Bool). cond b (offline_entry since repair e) e) (sym now))
       (λ apart.
       let other : (e.number == d) ≡ false = ne_eqb e.number d apart in
-      other_stays d (nat_lt e.number d && has_bit failed e.number) e other ∙ ap (λ (b : Bool). cond b (taken_off since repair e) e) (sym (below_more d e other)))
+      other_stays d (nat_lt e.number d && has_bit failed e.number) e other ∙ ap (λ (b : Bool). cond b (offline_entry since repair e) e) (sym (below_more d e other)))
       (cases_eq e.number d)
 
   entry_same : (d : ℕ) (e : Entry) → has_bit failed d ≡ false → entry_failed failed d since repair e ≡ entry_failed failed (d + 1) since repair e
   entry_same d e is = ⊎_elim
       (λ (same : e.number ≡ d).
       let none : has_bit failed e.number ≡ false = ap (has_bit failed) same ∙ is in
-      ap (λ (b : Bool). cond b (taken_off since repair e) e) (and_none (nat_lt e.number d) (has_bit failed e.number) none ∙ sym (and_none (nat_lt e.number (d + 1)) (has_bit failed e.number) none)))
-      (λ apart. ap (λ (b : Bool). cond b (taken_off since repair e) e) (sym (below_more d e (ne_eqb e.number d apart))))
+      ap (λ (b : Bool). cond b (offline_entry since repair e) e) (and_none (nat_lt e.number d) (has_bit failed e.number) none ∙ sym (and_none (nat_lt e.number (d + 1)) (has_bit failed e.number) none)))
+      (λ apart. ap (λ (b : Bool). cond b (offline_entry since repair e) e) (sym (below_more d e (ne_eqb e.number d apart))))
       (cases_eq e.number d)
     where
       and_none : (a b : Bool) → b ≡ false → (a && b) ≡ false
@@ -66,7 +66,7 @@ module _ (failed since repair : ℕ) where
   entries_same d (e ∷ es) is = λ i. entry_same d e is i ∷ entries_same d es is i
 
   none_below : (e : Entry) → entry_failed failed 0 since repair e ≡ e
-  none_below e = ap (λ (b : Bool). cond b (taken_off since repair e) e) (ap (λ (b : Bool). b && has_bit failed e.number) (le-ltb e.number 0 (omega arith)))
+  none_below e = ap (λ (b : Bool). cond b (offline_entry since repair e) e) (ap (λ (b : Bool). b && has_bit failed e.number) (le-ltb e.number 0 (omega arith)))
 
   entries_none : (es : List Entry) → map (entry_failed failed 0 since repair) es ≡ es
   entries_none [] = refl
@@ -89,7 +89,7 @@ module _ (failed since repair : ℕ) where
   pub bare_failed : (d : ℕ) (e : Entry) → bare (entry_failed failed d since repair e) ≡ bare e
   bare_failed d e = go (nat_lt e.number d && has_bit failed e.number)
     where
-      go : (b : Bool) → bare (cond b (taken_off since repair e) e) ≡ bare e
+      go : (b : Bool) → bare (cond b (offline_entry since repair e) e) ≡ bare e
       go true = refl
       go false = refl
 
@@ -113,7 +113,7 @@ module _ (failed since repair : ℕ) where
   one_offline : (x e : Entry) → e ≡ entry_failed failed 64 since repair x → e.number < 64 → has_bit failed e.number ≡ true → (e.mode ≡ Offline) × (e.since ≡ since)
   one_offline x e is small bit = go (nat_lt x.number 64 && has_bit failed x.number) refl is
     where
-      go : (b : Bool) → (nat_lt x.number 64 && has_bit failed x.number) ≡ b → e ≡ cond b (taken_off since repair x) x → (e.mode ≡ Offline) × (e.since ≡ since)
+      go : (b : Bool) → (nat_lt x.number 64 && has_bit failed x.number) ≡ b → e ≡ cond b (offline_entry since repair x) x → (e.mode ≡ Offline) × (e.since ≡ since)
       go true of same = (ap (λ (y : Entry). y.mode) same, ap (λ (y : Entry). y.since) same)
       go false of same =
           let number : e.number ≡ x.number = ap (λ (y : Entry). y.number) same in

@@ -23,7 +23,7 @@ use Rattle.record_laws.proofs.Changing.{modes_join, modes_of_each}
 use Rattle.record_laws.proofs.Partners.{table_is_made, table_stays}
 use Rattle.record_laws.specs.group_engine.Mounts.{MountedGroup}
 use Rattle.record_laws.proofs.group_engine.Records.{record_parts}
-use Rattle.group_pieces.specs.Failing.{AreServing, FailsModes, entry_failed, is_dropping_in, status_failed, taken_off}
+use Rattle.group_pieces.specs.Failing.{AreServing, FailsModes, entry_failed, is_dropping_in, status_failed, offline_entry}
 use Rattle.group_pieces.specs.Copies.{HasOnlyFailedPlaces}
 use Rattle.group_pieces.specs.Usable.{extent_of, places_at}
 use Rattle.group_pieces.proofs.Failed.{bare_failed}
@@ -81,7 +81,7 @@ module _ (failed since repair : ℕ) (r : Status) (allowed : is_status r ≡ tru
   keeps_disk : AreServing r.entries failed → (e : Entry) → IsAmong r.entries e → KeepsDisk e (change e)
   keeps_disk serving e among = record { disk = bare_failed failed since repair 64 e; forced = go (nat_lt e.number 64 && has_bit failed e.number) refl }
     where
-      go : (b : Bool) → (nat_lt e.number 64 && has_bit failed e.number) ≡ b → is_forced e.mode ≡ true → is_forced (cond b (taken_off since repair e) e).mode ≡ true
+      go : (b : Bool) → (nat_lt e.number 64 && has_bit failed e.number) ≡ b → is_forced e.mode ≡ true → is_forced (cond b (offline_entry since repair e) e).mode ≡ true
       go true is forced = let p = and_parts (nat_lt e.number 64) (has_bit failed e.number) is in absurd (serving_unforced e.mode (entry_serves serving e among (ltb-true e.number 64 p.0) p.1) forced)
       go false is forced = forced
 
@@ -95,7 +95,7 @@ module _ (failed since repair : ℕ) (r : Status) (allowed : is_status r ≡ tru
       not_dropping true bit both is = absurd (true≢false (sym is ∙ both))
       not_dropping false bit both is = refl
 
-      go : (b : Bool) → (nat_lt e.number 64 && has_bit failed e.number) ≡ b → KeepsPlace e (cond b (taken_off since repair e) e)
+      go : (b : Bool) → (nat_lt e.number 64 && has_bit failed e.number) ≡ b → KeepsPlace e (cond b (offline_entry since repair e) e)
       go true is =
           let p = and_parts (nat_lt e.number 64) (has_bit failed e.number) is in
           let out = not_dropping (is_dropping e.mode) (has_bit failed e.number) (none_of (is_dropping_in failed) r.entries e none among) p.1 in

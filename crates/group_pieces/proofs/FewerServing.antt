@@ -16,7 +16,7 @@ use Rattle.record_laws.specs.status_table.Changes.{entries_with_partners, status
 use Rattle.record_laws.specs.group_engine.Commits.{turns_at_most}
 use Rattle.record_laws.specs.group_engine.Mounts.{MountedGroup}
 use Rattle.record_laws.specs.group_engine.Pending.{serving_in}
-use Rattle.group_pieces.specs.Failing.{AreServing, CostsFaults, FewerServe, entry_failed, status_failed, taken_off}
+use Rattle.group_pieces.specs.Failing.{AreServing, CostsFaults, FewerServe, entry_failed, status_failed, offline_entry}
 use Rattle.group_pieces.proofs.Steps.{on_ok}
 
 -- ---- the count
@@ -70,13 +70,13 @@ module _ (failed since repair : ℕ) (r : Status) where
   served_before : (e : Entry) → serves (change e).mode ≡ true → serves e.mode ≡ true
   served_before e = go (nat_lt e.number 64 && has_bit failed e.number)
     where
-      go : (b : Bool) → serves (cond b (taken_off since repair e) e).mode ≡ true → serves e.mode ≡ true
+      go : (b : Bool) → serves (cond b (offline_entry since repair e) e).mode ≡ true → serves e.mode ≡ true
       go true is = absurd (false≢true is)
       go false is = is
 
   is_off : (e : Entry) → e.number < 64 → has_bit failed e.number ≡ true → serves (change e).mode ≡ false
   is_off e small bit =
-      ap (λ (b : Bool). serves (cond b (taken_off since repair e) e).mode) (and_from (nat_lt e.number 64) (has_bit failed e.number) (lt-ltb e.number 64 small) bit)
+      ap (λ (b : Bool). serves (cond b (offline_entry since repair e) e).mode) (and_from (nat_lt e.number 64) (has_bit failed e.number) (lt-ltb e.number 64 small) bit)
 
   pub fewer_failed : (next : Status) → next ≡ status_failed r failed 64 since repair → FewerServe r failed next
   fewer_failed next is serving k small bit =

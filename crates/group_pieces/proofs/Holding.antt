@@ -24,7 +24,7 @@ use Rattle.asm_images.specs.Spans.{FitsIn}
 use Rattle.record_laws.proofs.catalog.MovePlans.{all_at, homes_allowed}
 use Rattle.record_laws.specs.catalog_tables.Rules.{homes_at, marks_of}
 use Rattle.record_laws.specs.catalog_tables.Tables.{AreTables, Tables}
-use Rattle.record_laws.specs.extent_map.Extents.{absent, chunk_at, extent_at, has_home}
+use Rattle.record_laws.specs.extent_map.Extents.{absent_homes, chunk_at, extent_at, has_home}
 use Rattle.record_laws.proofs.extent_map.FileEnds.{item_at}
 use Rattle.piece_laws.specs.Targets.{AreAllUnmarked, HaveBytes, start_of}
 use Rattle.piece_laws.specs.Rewriting.{Rewrites}
@@ -39,7 +39,7 @@ use Rattle.group_pieces.specs.Copies.{HaveBut, PlacesOf}
 use Rattle.group_pieces.specs.declared.writing.WriteError.{WriteError}
 use Rattle.group_pieces.specs.Held.{WritesHeld, piece_freed, piece_written}
 use Rattle.group_pieces.specs.Marking.{is_left, left_of, took}
-use Rattle.group_pieces.specs.Usable.{FitsExtent, extent_of, piece_of, place_at, places_at}
+use Rattle.group_pieces.specs.Usable.{FitsExtent, extent_of, piece_of, place_on_copy, places_at}
 use Rattle.group_pieces.proofs.Agreeing.{unmarked}
 use Rattle.group_pieces.proofs.Marked.{bit_left}
 use Rattle.group_pieces.proofs.Places.{size_is}
@@ -86,14 +86,14 @@ some_home hs (suc (suc zero)) h lt is =
 some_home hs (suc (suc (suc k))) h lt is = absurd (omega arith)
 
 -- the extent has the home that its chunk has
-pub extent_home : (t : Tables) (f i k : ℕ) (h : Home) → k < 3 → get_or (homes_at t f i) k None ≡ Some h → get_or (unwrap_or (extent_at t.extents f i) absent) k None ≡ Some h
+pub extent_home : (t : Tables) (f i k : ℕ) (h : Home) → k < 3 → get_or (homes_at t f i) k None ≡ Some h → get_or (unwrap_or (extent_at t.extents f i) absent_homes) k None ≡ Some h
 extent_home t f i k h lt has = by (chunk_at t.extents (f, i / chunk_len)) has
   where
     by : (o : Option (List Homes)) → get_or (get_or (unwrap_or o []) (i % chunk_len) []) k None ≡ Some h
-        → get_or (unwrap_or (option_and_then (λ chunk. cond (has_home (get_or chunk (i % chunk_len) [])) (Some (get_or chunk (i % chunk_len) [])) None) o) absent) k None ≡ Some h
+        → get_or (unwrap_or (option_and_then (λ chunk. cond (has_home (get_or chunk (i % chunk_len) [])) (Some (get_or chunk (i % chunk_len) [])) None) o) absent_homes) k None ≡ Some h
     by None is = absurd (none-some h is)
     by (Some w) is =
-        ap (λ (o : Option Homes). get_or (unwrap_or o absent) k None) (cond-true (has_home (get_or w (i % chunk_len) [])) (Some (get_or w (i % chunk_len) [])) None (some_home (get_or w (i % chunk_len) []) k h lt is)) ∙ is
+        ap (λ (o : Option Homes). get_or (unwrap_or o absent_homes) k None) (cond-true (has_home (get_or w (i % chunk_len) [])) (Some (get_or w (i % chunk_len) [])) None (some_home (get_or w (i % chunk_len) []) k h lt is)) ∙ is
 
 -- ---- copies that aren't left behind
 
@@ -117,12 +117,12 @@ not_left home mark (Some p) failed left has fresh = record {
 
 -- an unmarked copy that isn't left behind took the bytes
 pub copy_took : (m : MountedGroup) (x : ExtentId) (inner failed k : ℕ) (h : Home) → is_left m (extent_of m x) inner failed k ≡ false → get_or (extent_of m x).homes k None ≡ Some h
-    → has_bit (extent_of m x).marks k ≡ false → Took (place_at m (extent_of m x) inner k) failed
+    → has_bit (extent_of m x).marks k ≡ false → Took (place_on_copy m (extent_of m x) inner k) failed
 copy_took m x inner failed k h left home fresh =
-    not_left (is_some (get_or (extent_of m x).homes k None)) (has_bit (extent_of m x).marks k) (place_at m (extent_of m x) inner k) failed left (ap (λ (o : Option Home). is_some o) home) fresh
+    not_left (is_some (get_or (extent_of m x).homes k None)) (has_bit (extent_of m x).marks k) (place_on_copy m (extent_of m x) inner k) failed left (ap (λ (o : Option Home). is_some o) home) fresh
 
 pub all_took : (m : MountedGroup) (x : ExtentId) (inner failed k : ℕ) (h : Home) → k < 3 → left_of m x inner failed ≡ 0 → get_or (extent_of m x).homes k None ≡ Some h → has_bit (extent_of m x).marks k ≡ false
-    → Took (place_at m (extent_of m x) inner k) failed
+    → Took (place_on_copy m (extent_of m x) inner k) failed
 all_took m x inner failed k h few none = copy_took m x inner failed k h (sym (bit_left m x inner failed k few) ∙ ap (λ (n : ℕ). has_bit n k) none ∙ no_bit k)
 
 -- ---- while a piece is written

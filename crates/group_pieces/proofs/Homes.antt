@@ -20,7 +20,7 @@ use Rattle.asm_placement.proofs.Starts.{units_some}
 use Rattle.asm_images.proofs.UserBytes.{home_is_placed}
 use Rattle.record_laws.specs.allocator.UnitMaps.{UnitMap, unused, with_run}
 use Rattle.asm_base.proofs.Exact.{bind_some}
-use Rattle.record_laws.specs.extent_map.Extents.{absent, chunk_at, extent_at, has_home}
+use Rattle.record_laws.specs.extent_map.Extents.{absent_homes, chunk_at, extent_at, has_home}
 use Rattle.asm_base.specs.Chunks.{chunk_cmp}
 use Rattle.record_laws.proofs.extent_map.Laws.{chunk_total, same_chunk}
 use Rattle.record_laws.specs.catalog_tables.Items.{AreItemsOf}
@@ -40,14 +40,14 @@ chunk_apart w k all = ⊎_elim
     (λ le. ap are_on_disks (get_or_past w k [] le))
     (cases_lt k (length w))
 
-pub homes_apart : (t : Tables) (f i : ℕ) → first_wrong is_on_disks t.extents ≡ None → are_on_disks (unwrap_or (extent_at t.extents f i) absent) ≡ true
+pub homes_apart : (t : Tables) (f i : ℕ) → first_wrong is_on_disks t.extents ≡ None → are_on_disks (unwrap_or (extent_at t.extents f i) absent_homes) ≡ true
 homes_apart t f i right = go (chunk_at t.extents (f, i / chunk_len)) refl
   where
-    here : (h : Homes) → are_on_disks h ≡ true → are_on_disks (unwrap_or (cond (has_home h) (Some h) None) absent) ≡ true
-    here h ok = cond_both (has_home h) (Some h) None (λ (o : Option Homes). are_on_disks (unwrap_or o absent) ≡ true) (λ yes. ok) (λ no. refl)
+    here : (h : Homes) → are_on_disks h ≡ true → are_on_disks (unwrap_or (cond (has_home h) (Some h) None) absent_homes) ≡ true
+    here h ok = cond_both (has_home h) (Some h) None (λ (o : Option Homes). are_on_disks (unwrap_or o absent_homes) ≡ true) (λ yes. ok) (λ no. refl)
 
     go : (o : Option (List Homes)) → chunk_at t.extents (f, i / chunk_len) ≡ o
-        → are_on_disks (unwrap_or (option_and_then (λ chunk. cond (has_home (get_or chunk (i % chunk_len) [])) (Some (get_or chunk (i % chunk_len) [])) None) o) absent) ≡ true
+        → are_on_disks (unwrap_or (option_and_then (λ chunk. cond (has_home (get_or chunk (i % chunk_len) [])) (Some (get_or chunk (i % chunk_len) [])) None) o) absent_homes) ≡ true
     go None is = refl
     go (Some w) is = here (get_or w (i % chunk_len) []) (chunk_apart w (i % chunk_len) (right_at chunk_cmp same_chunk chunk_total is_on_disks t.extents (f, i / chunk_len) w right is))
 

@@ -7,7 +7,7 @@ use Rattle.std.proofs.lemmas.Option.{none-some}
 use Rattle.asm_base.specs.declared.kinds.ExtentId.{ExtentId}
 use Rattle.asm_formats.specs.Items.{Home, Homes, chunk_len}
 use Rattle.asm_formats.specs.Sets.{has_bit}
-use Rattle.record_laws.specs.extent_map.Extents.{absent, chunk_at, extent_at, has_home}
+use Rattle.record_laws.specs.extent_map.Extents.{absent_homes, chunk_at, extent_at, has_home}
 use Rattle.record_laws.specs.catalog.ExtentPlans.{MayMark}
 use Rattle.record_laws.specs.catalog_tables.Rules.{is_mark_of, homes_at}
 use Rattle.record_laws.specs.catalog_tables.Tables.{Tables}
@@ -78,16 +78,16 @@ is_there : (o : Option Home) → is_some o ≡ true → (h : Home) × (o ≡ Som
 is_there None none = absurd (false≢true none)
 is_there (Some h) some = (h, refl)
 
-chunk_there : (t : Tables) (f i k : ℕ) (h : Home) → get_or (unwrap_or (extent_at t.extents f i) absent) k None ≡ Some h → IsTrue (is_some (chunk_at t.extents (f, i / chunk_len)))
+chunk_there : (t : Tables) (f i k : ℕ) (h : Home) → get_or (unwrap_or (extent_at t.extents f i) absent_homes) k None ≡ Some h → IsTrue (is_some (chunk_at t.extents (f, i / chunk_len)))
 chunk_there t f i k h is = go (chunk_at t.extents (f, i / chunk_len)) is
   where
-    none_at : (j : ℕ) → get_or absent j None ≡ Some h → ⊥
+    none_at : (j : ℕ) → get_or absent_homes j None ≡ Some h → ⊥
     none_at zero e = none-some h e
     none_at (suc zero) e = none-some h e
     none_at (suc (suc zero)) e = none-some h e
     none_at (suc (suc (suc j))) e = none-some h e
 
-    go : (o : Option (List Homes)) → get_or (unwrap_or (option_and_then (λ chunk. cond (has_home (get_or chunk (i % chunk_len) [])) (Some (get_or chunk (i % chunk_len) [])) None) o) absent) k None ≡ Some h
+    go : (o : Option (List Homes)) → get_or (unwrap_or (option_and_then (λ chunk. cond (has_home (get_or chunk (i % chunk_len) [])) (Some (get_or chunk (i % chunk_len) [])) None) o) absent_homes) k None ≡ Some h
         → IsTrue (is_some o)
     go None found = absurd (none_at k found)
     go (Some w) found = refl

@@ -15,7 +15,7 @@ use Rattle.record_laws.proofs.catalog.MarkPlans.{are_marks}
 use Rattle.record_laws.specs.catalog_tables.Rules.{marks_of}
 use Rattle.record_laws.specs.catalog_tables.Tables.{AreTables, Tables}
 use Rattle.record_laws.proofs.catalog_tables.EntryLaws.{either, holds_at}
-use Rattle.record_laws.specs.staleness_directory.Marks.{Marked, item_of, marks_at}
+use Rattle.record_laws.specs.staleness_directory.Marks.{Marked, item_of_marks, marks_at}
 use Rattle.record_laws.proofs.extent_map.Laws.{chunk_total, same_chunk}
 use Rattle.record_laws.proofs.extent_map.Lookups.{key_is, put_here, put_other}
 use Rattle.record_laws.proofs.extent_map.Numbering.{found_self}
@@ -28,7 +28,7 @@ blank_marks None p lt = get_or-replicate 256 p 0 0 lt
 
 marks_long : (t : Tables) (k : Chunk) (o : Option (List ℕ)) → AreTables t → marks_at t.stale k ≡ o → length (unwrap_or o (replicate 256 0)) ≡ 256
 marks_long t k None are at = length-replicate {A = ℕ} 256 0
-marks_long t k (Some m) are at = (are_marks k.0 k.1 m (holds_at chunk_cmp same_chunk chunk_total (λ (x : Marked). is_item (item_of x) ≡ true) t.stale k m are.stale.1 at)).size
+marks_long t k (Some m) are at = (are_marks k.0 k.1 m (holds_at chunk_cmp same_chunk chunk_total (λ (x : Marked). is_item (item_of_marks x) ≡ true) t.stale k m are.stale.1 at)).size
 
 module _ (t : Tables) (are : AreTables t) (f i set : ℕ) where
   abbrev chunk : Chunk

@@ -5,7 +5,7 @@ use Rattle.bay.specs.State.{BayState, IsSound}
 use Rattle.asm_group.specs.Group.{Group, Known}
 use Rattle.asm_group.specs.Names.{Bytes}
 use Rattle.asm_group.specs.Shape.{Shape}
-use Rattle.asm_base.specs.Records.{Entry}
+use Rattle.asm_base.specs.Records.{DirectoryRecord}
 use Rattle.asm_base.specs.declared.kinds.ExtentId.{ExtentId}
 use Rattle.asm_formats.specs.Items.{Key}
 use Rattle.asm_formats.specs.Status.{Status}
@@ -47,7 +47,7 @@ settled_rewrites x inner bytes g = subst (λ (k : Group). Rewrites (piece_freed 
 
 module _ (n : ℕ) (m : MountedGroup) (s : BayState) (g : Group) (kept : Kept) (sound : IsSound s) (x : ExtentId) (inner : ℕ) (bytes : Bytes)
     (mounts : Mounts n m s (piece_freed x inner (length bytes) g) kept) (piece : FitsExtent m.catalog.shape x.index inner (length bytes)) (failed : ℕ)
-    (has : NowOnly s (HaveBut (places_at m x inner) failed bytes)) (put : List Entry) (gone : List Key) where
+    (has : NowOnly s (HaveBut (places_at m x inner) failed bytes)) (put : List DirectoryRecord) (gone : List Key) where
   abbrev h : Group
   h = piece_freed x inner (length bytes) g
 

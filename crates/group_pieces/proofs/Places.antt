@@ -19,7 +19,7 @@ use Rattle.record_laws.specs.group_engine.declared.attached.Attached.{Attached}
 use Rattle.record_laws.specs.group_engine.Mounts.{IsOwn, IsReady, IsWhole, MountedGroup, slot_at}
 use Rattle.group_pieces.specs.declared.copies.Place.{Place}
 use Rattle.group_pieces.specs.Copies.{AreCopyPlacesApart, AreUsable, IsSlotOfPlace, IsUsablePiece}
-use Rattle.group_pieces.specs.Usable.{AreNone, FitsExtent, at_home, extent_of, first_disk, in_image, on_disk, on_slot, place_at, places_in, size_at}
+use Rattle.group_pieces.specs.Usable.{AreNone, FitsExtent, at_home, extent_of, first_disk, in_image, on_disk, on_slot, place_on_copy, places_in, size_at}
 
 -- ---- a place is that of a copy
 
@@ -35,7 +35,7 @@ pub record IsPlaceAt (m : MountedGroup) (x : Extent) (inner k : ℕ) (p : Place)
   pub disk : p.disk ≡ home.disk
   pub byte : p.at ≡ home.unit * m.catalog.shape.au + inner
 
-pub place_is : (m : MountedGroup) (x : Extent) (inner k : ℕ) (p : Place) → place_at m x inner k ≡ Some p → IsPlaceAt m x inner k p
+pub place_is : (m : MountedGroup) (x : Extent) (inner k : ℕ) (p : Place) → place_on_copy m x inner k ≡ Some p → IsPlaceAt m x inner k p
 place_is m x inner k p is = cond_both (can_be_read_at m.register.value.entries x k) (at_home m (get_or x.homes k None) x.units inner) None (λ (o : Option Place). o ≡ Some p → IsPlaceAt m x inner k p)
     (λ readable found. by_home readable (get_or x.homes k None) refl found)
     (λ no none. absurd (none-some p none)) is
@@ -79,13 +79,13 @@ place_is m x inner k p is = cond_both (can_be_read_at m.register.value.entries x
 -- of which copy it is
 pub record IsSomePlace (m : MountedGroup) (x : Extent) (inner : ℕ) (p : Place) : Type 0 where
   pub copy : ℕ
-  pub is : place_at m x inner copy ≡ Some p
+  pub is : place_on_copy m x inner copy ≡ Some p
   pub at : IsPlaceAt m x inner copy p
 
 pub some_place : (m : MountedGroup) (x : Extent) (inner : ℕ) (p : Place) → IsAmong (places_in m x inner) (Some p) → IsSomePlace m x inner p
 some_place m x inner p h = ⊎_elim (λ zeroth. of 0 (sym zeroth)) (λ more. ⊎_elim (λ first. of 1 (sym first)) (λ last. ⊎_elim (λ second. of 2 (sym second)) (λ none. absurd none) last) more) h
   where
-    of : (k : ℕ) → place_at m x inner k ≡ Some p → IsSomePlace m x inner p
+    of : (k : ℕ) → place_on_copy m x inner k ≡ Some p → IsSomePlace m x inner p
     of k is = record { copy = k; is = is; at = place_is m x inner k p is }
 
 -- ---- an attached disk
@@ -185,7 +185,7 @@ module _ (m : MountedGroup) (s : BayState) (x : ExtentId) (inner n : ℕ) (whole
   pub places_usable : AreUsable (places_in m e inner) n s
   places_usable p among = let place = some_place m e inner p among in usable_at place.copy p place.at
 
-  two_apart : (a b : ℕ) (p q : Place) → are_on_two (get_or e.homes a None) (get_or e.homes b None) ≡ true → place_at m e inner a ≡ Some p → place_at m e inner b ≡ Some q → (p.slot ≢ q.slot) × (p.disk ≢ q.disk)
+  two_apart : (a b : ℕ) (p q : Place) → are_on_two (get_or e.homes a None) (get_or e.homes b None) ≡ true → place_on_copy m e inner a ≡ Some p → place_on_copy m e inner b ≡ Some q → (p.slot ≢ q.slot) × (p.disk ≢ q.disk)
   two_apart a b p q two is_p is_q =
       let at_p = place_is m e inner a p is_p in
       let at_q = place_is m e inner b q is_q in

@@ -8,7 +8,7 @@ use Rattle.bay.proofs.Calls.{leaves_begin, leaves_less, leaves_on}
 use Rattle.asm_group.specs.Group.{Group}
 use Rattle.asm_group.specs.Names.{Bytes}
 use Rattle.asm_group.specs.Shape.{Shape}
-use Rattle.asm_base.specs.Records.{Entry}
+use Rattle.asm_base.specs.Records.{DirectoryRecord}
 use Rattle.asm_base.specs.declared.kinds.ExtentId.{ExtentId}
 use Rattle.asm_base.specs.declared.refusal.Refusal.{Refusal}
 use Rattle.asm_formats.specs.Among.{IsAmong}
@@ -104,7 +104,7 @@ module _ (m : MountedGroup) (s : BayState) (sound : IsSound s) (x : ExtentId) (i
   held_without e = record { moments = still_moments; done = tt }
 
   -- the marks are committed
-  pub held_commit : (new : MountedGroup) (t : BayState) (put : List Entry) (gone : List Key) (answer : Result (Unit {0}) Refusal) → IsMounted m
+  pub held_commit : (new : MountedGroup) (t : BayState) (put : List DirectoryRecord) (gone : List Key) (answer : Result (Unit {0}) Refusal) → IsMounted m
       → IsPlan m.catalog put gone (with_marks_changed m.catalog.tables x.file x.index (left_of m x inner failed) 0) → CommitsPlan m put gone answer new s t → RecordsHeld m x inner failed answer new s t
   held_commit new t put gone answer mounted plan commits =
       let did = commits.held mounted in

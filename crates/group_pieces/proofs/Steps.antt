@@ -15,7 +15,7 @@ use Rattle.record_laws.proofs.group_engine.Causes.{nothing_kept}
 use Rattle.group_pieces.specs.declared.writing.WriteError.{WriteError}
 use Rattle.group_pieces.specs.declared.writing.WriteError.TheVariants as writes
 use Rattle.group_pieces.specs.Held.{PieceStays}
-use Rattle.group_pieces.specs.Pieces.{WritePieceCause, refusal_of}
+use Rattle.group_pieces.specs.Pieces.{WritePieceCause, write_refusal}
 use Rattle.group_pieces.specs.Writes.{IsWriteCause}
 
 -- the group takes the next call
@@ -53,7 +53,7 @@ shut_cause m x inner s t e = go m.access refl
     go access.Closed at shut = subst (λ (r : Refusal). WritePieceCause m x inner m s t r) (sym shut) tt
 
 -- where no copy took the bytes
-pub fault_cause : (old new : MountedGroup) (x : ExtentId) (inner : ℕ) (s t : BayState) (e : WriteError) → IsWriteCause old x inner s t e → WritePieceCause old x inner new s t (refusal_of x e)
+pub fault_cause : (old new : MountedGroup) (x : ExtentId) (inner : ℕ) (s t : BayState) (e : WriteError) → IsWriteCause old x inner s t e → WritePieceCause old x inner new s t (write_refusal x e)
 fault_cause old new x inner s t writes.Lost why = (refl, why)
 fault_cause old new x inner s t (writes.Fault disk) why = why
 

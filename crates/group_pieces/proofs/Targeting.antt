@@ -31,13 +31,13 @@ use Rattle.record_laws.specs.catalog_tables.Rules.{homes_at, marks_of}
 use Rattle.record_laws.specs.extent_copies.declared.extent.Extent.{Extent}
 use Rattle.record_laws.specs.status_register.declared.member.Member.{Member}
 use Rattle.piece_laws.specs.Targets.{AreTargets, HasBirth, RangesOf, SaysExtent, Target, start_of}
-use Rattle.record_laws.specs.group_engine.CommitSteps.{content_of}
+use Rattle.record_laws.specs.group_engine.CommitSteps.{content_of_items}
 use Rattle.record_laws.specs.group_engine.Mounts.{IsWhole, MountedGroup, Mounts}
 use Rattle.record_laws.proofs.group_engine.Calls.{image_of, items, was}
 use Rattle.record_laws.proofs.group_engine.Images.{is_committing}
 use Rattle.group_pieces.specs.declared.copies.Place.{Place}
 use Rattle.group_pieces.specs.Copies.{PlacesOf}
-use Rattle.group_pieces.specs.Usable.{FitsExtent, extent_of, piece_of, place_at, places_at}
+use Rattle.group_pieces.specs.Usable.{FitsExtent, extent_of, piece_of, place_on_copy, places_at}
 use Rattle.group_pieces.proofs.Agreeing.{raw_home}
 use Rattle.group_pieces.proofs.Places.{IsPlaceAt, member_at, place_is}
 
@@ -69,8 +69,8 @@ module _ (n : ℕ) (m : MountedGroup) (s : BayState) (g : Group) (kept : Kept) (
       let held = found_is_held q (within o.readable (all_members id (disks_in slots image))) o.content o.found in
       let among : IsAmong (all_members id (disks_in slots image)) held.0 = among_within o.readable (all_members id (disks_in slots image)) held.0 held.1 in
       let c = is_committing n m mounts.whole g mounts.represents.shape kept image of image (record { size = λ a. refl; byte = λ a j out. refl }) m.store.number m.store.number said said w (λ d h. inl (w d h)) slots in
-      let content : held.0.disk.content ≡ Some (content_of m.store.number said) = c.was held.0 among (subst (λ (z : Status). IsNamed z held.0.header) same_record held.2) in
-      let same : o.content ≡ content_of m.store.number said = same_Some o.content (content_of m.store.number said) (sym held.3 ∙ content) in
+      let content : held.0.disk.content ≡ Some (content_of_items m.store.number said) = c.was held.0 among (subst (λ (z : Status). IsNamed z held.0.header) same_record held.2) in
+      let same : o.content ≡ content_of_items m.store.number said = same_Some o.content (content_of_items m.store.number said) (sym held.3 ∙ content) in
       same_Some its said (sym o.decodes ∙ ap (λ (z : Content). z.items) same)
 
 -- ---- the copies of an extent
@@ -92,7 +92,7 @@ says_extent n m s g kept mounts x image left = record {
 -- the copy that has this place
 pub record IsTargetAt (m : MountedGroup) (x : ExtentId) (inner : ℕ) (t : Target) : Type 0 where
   pub place : Place
-  pub at : place_at m (extent_of m x) inner t.copy ≡ Some place
+  pub at : place_on_copy m (extent_of m x) inner t.copy ≡ Some place
   pub is : IsPlaceAt m (extent_of m x) inner t.copy place
   pub home : t.home ≡ is.home
   pub slot : t.slot ≡ place.slot
@@ -105,9 +105,9 @@ pub record IsTargetAt (m : MountedGroup) (x : ExtentId) (inner : ℕ) (t : Targe
 pub record Usables (m : MountedGroup) (x : ExtentId) (inner : ℕ) (ks : List ℕ) : Type 0 where
   pub targets : List Target
   pub each : (t : Target) → IsAmong targets t → IsTargetAt m x inner t × IsAmong ks t.copy
-  pub all : (k : ℕ) (p : Place) → IsAmong ks k → place_at m (extent_of m x) inner k ≡ Some p → (t : Target) × IsAmong targets t × (t.copy ≡ k)
+  pub all : (k : ℕ) (p : Place) → IsAmong ks k → place_on_copy m (extent_of m x) inner k ≡ Some p → (t : Target) × IsAmong targets t × (t.copy ≡ k)
 
-target_at : (m : MountedGroup) → IsWhole m → (x : ExtentId) (inner k : ℕ) (p : Place) → place_at m (extent_of m x) inner k ≡ Some p → (t : Target) × IsTargetAt m x inner t × (t.copy ≡ k)
+target_at : (m : MountedGroup) → IsWhole m → (x : ExtentId) (inner k : ℕ) (p : Place) → place_on_copy m (extent_of m x) inner k ≡ Some p → (t : Target) × IsTargetAt m x inner t × (t.copy ≡ k)
 target_at m whole x inner k p at =
     let is = place_is m (extent_of m x) inner k p at in
     let mem = member_at m whole is.home.disk p.slot is.slot in (
@@ -118,14 +118,14 @@ target_at m whole x inner k p at =
 
 pub usables : (m : MountedGroup) → IsWhole m → (x : ExtentId) (inner : ℕ) (ks : List ℕ) → Usables m x inner ks
 usables m whole x inner [] = record { targets = []; each = λ t h. absurd h; all = λ k p h at. absurd h }
-usables m whole x inner (k ∷ ks) = go (place_at m (extent_of m x) inner k) refl (usables m whole x inner ks)
+usables m whole x inner (k ∷ ks) = go (place_on_copy m (extent_of m x) inner k) refl (usables m whole x inner ks)
   where
-    go : (o : Option Place) → place_at m (extent_of m x) inner k ≡ o → Usables m x inner ks → Usables m x inner (k ∷ ks)
+    go : (o : Option Place) → place_on_copy m (extent_of m x) inner k ≡ o → Usables m x inner ks → Usables m x inner (k ∷ ks)
     go None is rest = record {
       targets = rest.targets;
       each = λ t h. let e = rest.each t h in (e.0, inr e.1);
       all = λ j p h at. ⊎_elim
-          (λ (here : j ≡ k). absurd (none-some p (sym is ∙ ap (λ (i : ℕ). place_at m (extent_of m x) inner i) (sym here) ∙ at)))
+          (λ (here : j ≡ k). absurd (none-some p (sym is ∙ ap (λ (i : ℕ). place_on_copy m (extent_of m x) inner i) (sym here) ∙ at)))
           (λ later. rest.all j p later at) h;
     }
     go (Some q) is rest =
@@ -200,18 +200,18 @@ module _ (n : ℕ) (m : MountedGroup) (s : BayState) (g : Group) (kept : Kept) (
       ap (λ (z : Shape). t.home.unit * z.au + inner) mounts.represents.shape ∙ ap (λ (h : Home). h.unit * m.catalog.shape.au + inner) is.home ∙ sym is.is.byte
 
   -- a place that a copy has is one of the places
-  pub among_places : (k : ℕ) (p : Place) → IsAmong three k → place_at m e inner k ≡ Some p → IsAmong (places_at m x inner) (Some p)
+  pub among_places : (k : ℕ) (p : Place) → IsAmong three k → place_on_copy m e inner k ≡ Some p → IsAmong (places_at m x inner) (Some p)
   among_places k p h at = ⊎_elim
-      (λ (z : k ≡ 0). inl (sym at ∙ ap (place_at m e inner) z))
-      (λ more. ⊎_elim (λ (o : k ≡ 1). inr (inl (sym at ∙ ap (place_at m e inner) o)))
-      (λ last. ⊎_elim (λ (w : k ≡ 2). inr (inr (inl (sym at ∙ ap (place_at m e inner) w)))) (λ none. absurd none) last) more) h
+      (λ (z : k ≡ 0). inl (sym at ∙ ap (place_on_copy m e inner) z))
+      (λ more. ⊎_elim (λ (o : k ≡ 1). inr (inl (sym at ∙ ap (place_on_copy m e inner) o)))
+      (λ last. ⊎_elim (λ (w : k ≡ 2). inr (inr (inl (sym at ∙ ap (place_on_copy m e inner) w)))) (λ none. absurd none) last) more) h
 
   -- a place is one of a copy of these numbers
-  number_of : (p : Place) → IsAmong (places_at m x inner) (Some p) → (k : ℕ) × IsAmong three k × (place_at m e inner k ≡ Some p)
+  number_of : (p : Place) → IsAmong (places_at m x inner) (Some p) → (k : ℕ) × IsAmong three k × (place_on_copy m e inner k ≡ Some p)
   number_of p h = ⊎_elim
-      (λ (z : Some p ≡ place_at m e inner 0). (0, inl refl, sym z))
-      (λ more. ⊎_elim (λ (o : Some p ≡ place_at m e inner 1). (1, inr (inl refl), sym o))
-      (λ last. ⊎_elim (λ (w : Some p ≡ place_at m e inner 2). (2, inr (inr (inl refl)), sym w)) (λ none. absurd none) last) more) h
+      (λ (z : Some p ≡ place_on_copy m e inner 0). (0, inl refl, sym z))
+      (λ more. ⊎_elim (λ (o : Some p ≡ place_on_copy m e inner 1). (1, inr (inl refl), sym o))
+      (λ last. ⊎_elim (λ (w : Some p ≡ place_on_copy m e inner 2). (2, inr (inr (inl refl)), sym w)) (λ none. absurd none) last) more) h
 
   -- the bytes of the places are those of the span in the copies
   pub in_ranges : (slot k : ℕ) → PlacesOf (places_at m x inner) len slot k → RangesOf g.shape (piece_of x inner len) targets slot k
@@ -220,7 +220,7 @@ module _ (n : ℕ) (m : MountedGroup) (s : BayState) (g : Group) (kept : Kept) (
       let number = number_of p inside.1 in
       let t = found.all number.0 p number.1 number.2 in
       let is = (found.each t.0 t.1).0 in
-      let same : is.place ≡ p = same_Some is.place p (sym is.at ∙ ap (place_at m e inner) t.2 ∙ number.2) in
+      let same : is.place ≡ p = same_Some is.place p (sym is.at ∙ ap (place_on_copy m e inner) t.2 ∙ number.2) in
       let start : start_of g.shape (piece_of x inner len) t.0 ≡ p.at = start_is t.0 t.1 ∙ ap (λ (q : Place). q.at) same in
       let range = inside.2 in (t.0, t.1, (range.0 ∙ sym (is.slot ∙ ap (λ (q : Place). q.slot) same), omega (arith, range.1, start), omega (arith, range.2, start)))
 

@@ -9,25 +9,25 @@ use Rattle.asm_formats.proofs.Fields.{passes_if_all}
 use Rattle.asm_placement.specs.Layout.{units_of}
 use Rattle.record_laws.specs.extent_copies.declared.extent.Extent.{Extent}
 use Rattle.record_laws.specs.extent_copies.Extents.{can_be_read_at}
-use Rattle.record_laws.specs.extent_copies.Usable.{is_usable_at, lies_in}
+use Rattle.record_laws.specs.extent_copies.Usable.{is_usable_at, is_home_in_disk_set}
 use Rattle.record_laws.specs.group_engine.Mounts.{MountedGroup, slot_at}
 use Rattle.group_pieces.specs.declared.copies.Place.{Place}
-use Rattle.group_pieces.specs.Usable.{FitsExtent, at_home, on_disk, place_at}
+use Rattle.group_pieces.specs.Usable.{FitsExtent, at_home, on_disk, place_on_copy}
 
 if_same : {A : Type 0} (b : Bool) (x : A) → cond b x x ≡ x
 if_same true x = refl
 if_same false x = refl
 
-pub no_copy : (m : MountedGroup) (x : Extent) (inner k : ℕ) → get_or x.homes k None ≡ None → place_at m x inner k ≡ None
+pub no_copy : (m : MountedGroup) (x : Extent) (inner k : ℕ) → get_or x.homes k None ≡ None → place_on_copy m x inner k ≡ None
 no_copy m x inner k none =
     ap (λ (o : Option Home). cond (can_be_read_at m.register.value.entries x k) (at_home m o x.units inner) None) none
     ∙ if_same (can_be_read_at m.register.value.entries x k) None
 
 pub found_copy : (m : MountedGroup) (x : Extent) (inner k : ℕ) (h : Home) → get_or x.homes k None ≡ Some h
-    → place_at m x inner k ≡ cond (can_be_read_at m.register.value.entries x k) (at_home m (Some h) x.units inner) None
+    → place_on_copy m x inner k ≡ cond (can_be_read_at m.register.value.entries x k) (at_home m (Some h) x.units inner) None
 found_copy m x inner k h is = ap (λ (o : Option Home). cond (can_be_read_at m.register.value.entries x k) (at_home m o x.units inner) None) is
 
-pub far_copy : (m : MountedGroup) (x : Extent) (inner k : ℕ) (h : Home) → get_or x.homes k None ≡ Some h → nat_lt h.disk 64 ≡ false → place_at m x inner k ≡ None
+pub far_copy : (m : MountedGroup) (x : Extent) (inner k : ℕ) (h : Home) → get_or x.homes k None ≡ Some h → nat_lt h.disk 64 ≡ false → place_on_copy m x inner k ≡ None
 far_copy m x inner k h is far =
     found_copy m x inner k h is
     ∙ ap (λ (o : Option Place). cond (can_be_read_at m.register.value.entries x k) o None) (cond_both (nat_lt h.disk 64) (on_disk m h x.units inner (slot_at m.disks h.disk)) None (λ o. o ≡ None) (λ yes. absurd (false≢true (sym far ∙ yes))) (λ no. refl))
@@ -37,19 +37,19 @@ far_copy m x inner k h is far =
 read_as : (alone : ℕ) (m : MountedGroup) (x : Extent) (k : ℕ) (h : Home) → get_or x.homes k None ≡ Some h → has_bit alone h.disk ≡ true
     → is_usable_at alone m.register.value.entries x k ≡ can_be_read_at m.register.value.entries x k
 read_as alone m x k h is bit =
-    ap (λ (b : Bool). can_be_read_at m.register.value.entries x k && b) (ap (lies_in alone) is ∙ bit) ∙ and_true (can_be_read_at m.register.value.entries x k)
+    ap (λ (b : Bool). can_be_read_at m.register.value.entries x k && b) (ap (is_home_in_disk_set alone) is ∙ bit) ∙ and_true (can_be_read_at m.register.value.entries x k)
   where
     and_true : (b : Bool) → (b && true) ≡ b
     and_true true = refl
     and_true false = refl
 
 pub unusable_copy : (alone : ℕ) (m : MountedGroup) (x : Extent) (inner k : ℕ) (h : Home) → get_or x.homes k None ≡ Some h → has_bit alone h.disk ≡ true
-    → is_usable_at alone m.register.value.entries x k ≡ false → place_at m x inner k ≡ None
+    → is_usable_at alone m.register.value.entries x k ≡ false → place_on_copy m x inner k ≡ None
 unusable_copy alone m x inner k h is bit unread =
     ap (λ (b : Bool). cond b (at_home m (get_or x.homes k None) x.units inner) None) (sym (read_as alone m x k h is bit) ∙ unread)
 
 pub usable_copy : (alone : ℕ) (m : MountedGroup) (x : Extent) (inner k : ℕ) (h : Home) → get_or x.homes k None ≡ Some h → has_bit alone h.disk ≡ true
-    → is_usable_at alone m.register.value.entries x k ≡ true → place_at m x inner k ≡ at_home m (Some h) x.units inner
+    → is_usable_at alone m.register.value.entries x k ≡ true → place_on_copy m x inner k ≡ at_home m (Some h) x.units inner
 usable_copy alone m x inner k h is bit read =
     ap (λ (b : Bool). cond b (at_home m (get_or x.homes k None) x.units inner) None) (sym (read_as alone m x k h is bit) ∙ read)
     ∙ ap (λ (o : Option Home). at_home m o x.units inner) is

@@ -11,12 +11,12 @@ use Rattle.record_laws.specs.group_engine.Mounts.{MountedGroup}
 use Rattle.record_laws.specs.group_engine.Pending.{serving_in, turns_with_faults}
 
 -- the entry Offline, since that second, for so many seconds until the disk is dropped
-abbrev pub taken_off : ℕ → ℕ → Entry → Entry
-taken_off since repair e = record e { mode = Offline; since = since; repair = repair }
+abbrev pub offline_entry : ℕ → ℕ → Entry → Entry
+offline_entry since repair e = record e { mode = Offline; since = since; repair = repair }
 
 -- the same where it is that of a disk of the set below a number, else as it was
 abbrev pub entry_failed : ℕ → ℕ → ℕ → ℕ → Entry → Entry
-entry_failed failed below since repair e = if nat_lt e.number below && has_bit failed e.number then taken_off since repair e else e
+entry_failed failed below since repair e = if nat_lt e.number below && has_bit failed e.number then offline_entry since repair e else e
 
 -- the record with the disks of a set below a number Offline
 abbrev pub status_failed : Status → ℕ → ℕ → ℕ → ℕ → Status

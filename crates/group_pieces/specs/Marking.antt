@@ -8,7 +8,7 @@ use Rattle.record_laws.specs.extent_copies.declared.extent.Extent.{Extent}
 use Rattle.record_laws.specs.group_of.Describing.{KeepsNames}
 use Rattle.record_laws.specs.group_engine.Mounts.{MountedGroup}
 use Rattle.group_pieces.specs.declared.copies.Place.{Place}
-use Rattle.group_pieces.specs.Usable.{extent_of, place_at}
+use Rattle.group_pieces.specs.Usable.{extent_of, place_on_copy}
 
 -- a copy at the place took the bytes: its disk isn't one of those that failed
 abbrev pub took : ℕ → Option Place → Bool
@@ -17,7 +17,7 @@ took failed (Some p) = not (has_bit failed p.disk)
 
 -- copy k is there and not marked, and didn't take the bytes
 abbrev pub is_left : MountedGroup → Extent → ℕ → ℕ → ℕ → Bool
-is_left m e inner failed k = is_some (get_or e.homes k None) && (not (has_bit e.marks k) && not (took failed (place_at m e inner k)))
+is_left m e inner failed k = is_some (get_or e.homes k None) && (not (has_bit e.marks k) && not (took failed (place_on_copy m e inner k)))
 
 abbrev pub bit_if : Bool → ℕ → ℕ
 bit_if b n = if b then n else 0

@@ -14,9 +14,9 @@ use Rattle.group_pieces.specs.Faults.{IsFault}
 use Rattle.group_pieces.specs.Usable.{AreNone, places_at}
 
 -- what a write answers where no copy took the bytes
-abbrev pub refusal_of : ExtentId → WriteError → Refusal
-refusal_of x writes.Lost = cause.Lost x
-refusal_of x (writes.Fault d) = cause.WriteFault (disk.Number d)
+abbrev pub write_refusal : ExtentId → WriteError → Refusal
+write_refusal x writes.Lost = cause.Lost x
+write_refusal x (writes.Fault d) = cause.WriteFault (disk.Number d)
 
 -- the slots of all usable copies failed, and the disk is that of the first
 abbrev pub PieceFault : MountedGroup → ExtentId → ℕ → BayState → BayState → DiskRef → Type 0

@@ -9,7 +9,7 @@ use Rattle.asm_formats.specs.Among.{IsAmong}
 use Rattle.asm_placement.specs.Layout.{units_of}
 use Rattle.asm_images.specs.Describing.{extent_size}
 use Rattle.asm_images.specs.Spans.{Span}
-use Rattle.record_laws.specs.extent_map.Extents.{absent, extent_at}
+use Rattle.record_laws.specs.extent_map.Extents.{absent_homes, extent_at}
 use Rattle.record_laws.specs.catalog_tables.Rules.{marks_of}
 use Rattle.record_laws.specs.extent_copies.declared.extent.Extent.{Extent}
 use Rattle.record_laws.specs.extent_copies.Extents.{can_be_read_at}
@@ -34,7 +34,7 @@ size_at disks k = option_map (λ (a : Attached). a.size) (get_or disks k None)
 abbrev pub extent_of : MountedGroup → ExtentId → Extent
 extent_of m x = record {
   id = x;
-  homes = unwrap_or (extent_at m.catalog.tables.extents x.file x.index) absent;
+  homes = unwrap_or (extent_at m.catalog.tables.extents x.file x.index) absent_homes;
   marks = marks_of m.catalog.tables x.file x.index;
   copies = 3;
   units = units_of m.catalog.shape.step x.index;
@@ -61,12 +61,12 @@ at_home m None units inner = None
 at_home m (Some h) units inner = if nat_lt h.disk 64 then on_disk m h units inner (slot_at m.disks h.disk) else None
 
 -- where it is on copy k, if that is usable: it isn't stale, and its disk serves
-abbrev pub place_at : MountedGroup → Extent → ℕ → ℕ → Option Place
-place_at m x inner k = if can_be_read_at m.register.value.entries x k then at_home m (get_or x.homes k None) x.units inner else None
+abbrev pub place_on_copy : MountedGroup → Extent → ℕ → ℕ → Option Place
+place_on_copy m x inner k = if can_be_read_at m.register.value.entries x k then at_home m (get_or x.homes k None) x.units inner else None
 
 -- where it is on the usable copies
 abbrev pub places_in : MountedGroup → Extent → ℕ → List (Option Place)
-places_in m x inner = place_at m x inner 0 ∷ place_at m x inner 1 ∷ place_at m x inner 2 ∷ []
+places_in m x inner = place_on_copy m x inner 0 ∷ place_on_copy m x inner 1 ∷ place_on_copy m x inner 2 ∷ []
 
 abbrev pub places_at : MountedGroup → ExtentId → ℕ → List (Option Place)
 places_at m x inner = places_in m (extent_of m x) inner
@@ -76,8 +76,8 @@ abbrev pub AreNone : List (Option Place) → Type 0
 AreNone places = (p : Place) → IsAmong places (Some p) → ⊥
 
 -- no copy of the extent is usable
-abbrev pub IsLost : MountedGroup → ExtentId → Type 0
-IsLost m x = AreNone (places_at m x 0)
+abbrev pub HasNoUsableCopy : MountedGroup → ExtentId → Type 0
+HasNoUsableCopy m x = AreNone (places_at m x 0)
 
 -- the disk of the first place that is there
 abbrev pub first_disk : List (Option Place) → Option ℕ

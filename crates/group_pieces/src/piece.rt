@@ -9,7 +9,7 @@ ghost use Rattle.group_pieces.specs.Failing.{AreOffline, CostsFaults};
 ghost use Rattle.group_pieces.specs.Faults.{AreRisen};
 ghost use Rattle.group_pieces.specs.Held.{PieceHeld, RecordsHeld};
 ghost use Rattle.group_pieces.specs.Marking.{AreMarked, MarksMore, left_of};
-ghost use Rattle.group_pieces.specs.Pieces.{WritePieceCause, refusal_of};
+ghost use Rattle.group_pieces.specs.Pieces.{WritePieceCause, write_refusal};
 ghost use Rattle.group_pieces.specs.Usable.{AreNone, FitsExtent, places_at};
 ghost use Rattle.group_pieces.specs.Written.{WritesPiece, IsPlain};
 
@@ -105,7 +105,7 @@ fn write_mounted<B: Bay>(
 
 /// What a write answers where no copy took the bytes.
 fn refusal_of(x: ExtentId, error: WriteError) -> Refusal
-    ensures { result ≡ refusal_of x error }
+    ensures { result ≡ write_refusal x error }
 {
     match error {
         WriteError::Lost => Refusal::Lost { extent: x },

@@ -3,7 +3,7 @@ ghost use Rattle.std.specs.Prelude.{◌≡◌, ◌+◌, ◌*◌, ◌<◌, ◌≤
 ghost use Rattle.asm_group.specs.Shape.{is_shape};
 ghost use Rattle.record_laws.specs.catalog_tables.Faults.{IsCatalog};
 ghost use Rattle.record_laws.specs.catalog_tables.Rules.{are_on_disks};
-ghost use Rattle.group_pieces.specs.Usable.{IsLost, at_home, extent_of, first_disk, on_disk, place_at, places_at, places_in};
+ghost use Rattle.group_pieces.specs.Usable.{HasNoUsableCopy, at_home, extent_of, first_disk, on_disk, place_on_copy, places_at, places_in};
 
 use crate::copies::Place;
 use asm_base::{DiskSet, ExtentId, Home, Homes, MOST_DISKS};
@@ -73,7 +73,7 @@ pub(crate) fn place(m: &Mounted, extent: &Extent, copy: u8, inner: u64) -> Optio
     requires short { inner < 2 ^ 32 }
     requires few { extent.now.units ≤ 16 }
     requires copy { copy < 3 }
-    ensures { result ≡ place_at m.now extent.now inner copy }
+    ensures { result ≡ place_on_copy m.now extent.now inner copy }
 {
     let home = extent.home(copy)?;
     if home.disk >= MOST_DISKS {
@@ -118,8 +118,8 @@ pub(crate) fn first_disk(places: &[Option<Place>]) -> Option<u8>
 /// Whether no copy of the extent is usable.
 pub fn is_lost(m: &Mounted, x: ExtentId) -> bool
     requires shape { IsTrue (is_shape m.now.catalog.shape) }
-    ensures yes { result ≡ true → IsLost m.now x }
-    ensures no { result ≡ false → IsLost m.now x → ⊥ }
+    ensures yes { result ≡ true → HasNoUsableCopy m.now x }
+    ensures no { result ≡ false → HasNoUsableCopy m.now x → ⊥ }
 {
     let places = usable_copies(m, x, 0);
     match first_disk(&places) {

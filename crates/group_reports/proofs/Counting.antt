@@ -12,7 +12,7 @@ use Rattle.catalog_laws.specs.catalog_tables.Rules.{blocks_used}
 use Rattle.catalog_laws.specs.catalog_tables.Tables.{Catalogued}
 use Rattle.extent_copies.specs.declared.extent.Extent.{Extent}
 use Rattle.group_reports.specs.declared.checking.Checked.{Checked}
-use Rattle.group_reports.specs.Extents.{all_extents, checked_of, chunk_extents, extent_there, extents_from, extents_in, lacks, with_extent}
+use Rattle.group_reports.specs.Extents.{all_extents, checked_of, chunk_extents, extent_there, extents_from, extents_in, lacks, with_extent_if_any}
 
 -- ---- room
 
@@ -21,16 +21,16 @@ few_chunks c n is e = omega (arith, is.rules.room, e)
 
 -- ---- extents one after the other
 
-pub with_one : (o : Option Extent) (xs : List Extent) → with_extent o xs ≡ with_extent o [] ++ xs
+pub with_one : (o : Option Extent) (xs : List Extent) → with_extent_if_any o xs ≡ with_extent_if_any o [] ++ xs
 with_one None xs = refl
 with_one (Some x) xs = refl
 
 pub row_more : (c : Catalogued) (f copies i k : ℕ) (xs : List Homes) (homes : Homes) → k < length xs → homes ≡ get_or xs k homes
-    → extents_from c f copies i (drop k xs) ≡ with_extent (extent_there c f copies i homes) [] ++ extents_from c f copies (i + 1) (drop (k + 1) xs)
+    → extents_from c f copies i (drop k xs) ≡ with_extent_if_any (extent_there c f copies i homes) [] ++ extents_from c f copies (i + 1) (drop (k + 1) xs)
 row_more c f copies i k xs homes within is =
     ap (extents_from c f copies i) (drop_more xs k homes within ∙ ap (λ (h : Homes). h ∷ drop (k + 1) xs) (sym is))
     ∙ with_one (extent_there c f copies i homes) (extents_from c f copies (suc i) (drop (k + 1) xs))
-    ∙ ap (λ (j : ℕ). with_extent (extent_there c f copies i homes) [] ++ extents_from c f copies j (drop (k + 1) xs)) (sym (add-one i))
+    ∙ ap (λ (j : ℕ). with_extent_if_any (extent_there c f copies i homes) [] ++ extents_from c f copies j (drop (k + 1) xs)) (sym (add-one i))
 
 pub row_end : (c : Catalogued) (f copies i k : ℕ) (xs : List Homes) → length xs ≤ k → extents_from c f copies i (drop k xs) ≡ []
 row_end c f copies i k xs past = ap (extents_from c f copies i) (drop_all k xs past)
@@ -99,11 +99,11 @@ pub chunks_counted : (es : List Entry) (c : Catalogued) (left : List Chunked) (t
 chunks_counted es c left t none so_far = counted_end es (all_extents c) (extents_in c left) t (ap (extents_in c) none) so_far
 
 pub row_counted : (es : List Entry) (c : Catalogued) (f copies first i k : ℕ) (xs : List Homes) (homes : Homes) (t one next : Checked) → k < length xs → homes ≡ get_or xs k homes
-    → one ≡ checked_of es (with_extent (extent_there c f copies i homes) []) → next ≡ record { extents = t.extents + one.extents; not_full = t.not_full + one.not_full }
+    → one ≡ checked_of es (with_extent_if_any (extent_there c f copies i homes) []) → next ≡ record { extents = t.extents + one.extents; not_full = t.not_full + one.not_full }
     → AreCounted es (extents_from c f copies first xs) (extents_from c f copies i (drop k xs)) t
     → AreCounted es (extents_from c f copies first xs) (extents_from c f copies (i + 1) (drop (k + 1) xs)) next
 row_counted es c f copies first i k xs homes t one next within is ran sum so_far =
-    counted_more es (extents_from c f copies first xs) (extents_from c f copies i (drop k xs)) (with_extent (extent_there c f copies i homes) []) (extents_from c f copies (i + 1) (drop (k + 1) xs)) t one next
+    counted_more es (extents_from c f copies first xs) (extents_from c f copies i (drop k xs)) (with_extent_if_any (extent_there c f copies i homes) []) (extents_from c f copies (i + 1) (drop (k + 1) xs)) t one next
     (row_more c f copies i k xs homes within is) ran sum so_far
 
 pub rows_counted : (es : List Entry) (c : Catalogued) (f copies first i k : ℕ) (xs : List Homes) (t : Checked) → length xs ≤ k
@@ -125,12 +125,12 @@ chunk_lost test c all left x homes found end same split is some so_far =
     found_here test (extents_in c all) (chunk_extents c (x.0, homes)) (extents_in c left) found end (chunk_more c all left x homes same split) is some so_far
 
 pub row_not_lost : (test : Extent → Bool) (c : Catalogued) (f copies i k : ℕ) (xs : List Homes) (homes : Homes) (found end : Option Extent) → k < length xs → homes ≡ get_or xs k homes
-    → found ≡ find test (with_extent (extent_there c f copies i homes) []) → is_some found ≡ false → find test (extents_from c f copies i (drop k xs)) ≡ end
+    → found ≡ find test (with_extent_if_any (extent_there c f copies i homes) []) → is_some found ≡ false → find test (extents_from c f copies i (drop k xs)) ≡ end
     → find test (extents_from c f copies (i + 1) (drop (k + 1) xs)) ≡ end
 row_not_lost test c f copies i k xs homes found end within same is none so_far =
-    not_yet test (extents_from c f copies i (drop k xs)) (with_extent (extent_there c f copies i homes) []) (extents_from c f copies (i + 1) (drop (k + 1) xs)) found end (row_more c f copies i k xs homes within same) is none so_far
+    not_yet test (extents_from c f copies i (drop k xs)) (with_extent_if_any (extent_there c f copies i homes) []) (extents_from c f copies (i + 1) (drop (k + 1) xs)) found end (row_more c f copies i k xs homes within same) is none so_far
 
 pub row_lost : (test : Extent → Bool) (c : Catalogued) (f copies i k : ℕ) (xs : List Homes) (homes : Homes) (found end : Option Extent) → k < length xs → homes ≡ get_or xs k homes
-    → found ≡ find test (with_extent (extent_there c f copies i homes) []) → is_some found ≡ true → find test (extents_from c f copies i (drop k xs)) ≡ end → found ≡ end
+    → found ≡ find test (with_extent_if_any (extent_there c f copies i homes) []) → is_some found ≡ true → find test (extents_from c f copies i (drop k xs)) ≡ end → found ≡ end
 row_lost test c f copies i k xs homes found end within same is some so_far =
-    found_here test (extents_from c f copies i (drop k xs)) (with_extent (extent_there c f copies i homes) []) (extents_from c f copies (i + 1) (drop (k + 1) xs)) found end (row_more c f copies i k xs homes within same) is some so_far
+    found_here test (extents_from c f copies i (drop k xs)) (with_extent_if_any (extent_there c f copies i homes) []) (extents_from c f copies (i + 1) (drop (k + 1) xs)) found end (row_more c f copies i k xs homes within same) is some so_far

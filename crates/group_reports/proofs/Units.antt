@@ -14,7 +14,7 @@ use Rattle.asm_placement.specs.Layout.{units_of}
 use Rattle.asm_placement.specs.Placed.{Placed, placed, placed_copies, placed_extents}
 use Rattle.asm_base.specs.Records.{Ascend}
 use Rattle.catalog_laws.specs.extent_map.Extents.{Chunked, chunks_from}
-use Rattle.asm_base.specs.Chunks.{Chunk, chunk_cmp, is_before}
+use Rattle.asm_base.specs.Chunks.{Chunk, chunk_cmp, is_chunk_before}
 use Rattle.catalog_laws.specs.catalog_tables.Items.{AreItemsOf}
 use Rattle.catalog_laws.specs.catalog_tables.Placing.{homes_of}
 use Rattle.catalog_laws.specs.catalog_tables.Tables.{AreTables, Catalogued}
@@ -110,7 +110,7 @@ lt_is f g o e = by (nat_cmp f g) refl e
     by Equal is e = let same : f ≡ g = ranked f g Equal (sym is) in omega arith
     by Greater is e = absurd cc
 
-rises : (xs : List Chunked) → Ascend is_before xs → Rise xs
+rises : (xs : List Chunked) → Ascend is_chunk_before xs → Rise xs
 rises [] up = tt
 rises (x ∷ []) up = (tt, tt)
 rises (x ∷ y ∷ ys) up =

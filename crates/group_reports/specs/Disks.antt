@@ -29,8 +29,8 @@ is_syncing _ = false
 abbrev pub is_counted : Entry → Bool
 is_counted e = not e.quorum && not (is_forced e.mode)
 
-abbrev pub counted : List Entry → List Entry
-counted es = filter is_counted es
+abbrev pub counted_disks : List Entry → List Entry
+counted_disks es = filter is_counted es
 
 -- free user units of a disk, by the map at the place of its number
 abbrev pub free_in : Option UnitMap → ℕ
@@ -49,7 +49,7 @@ offline_disks es = length (filter (λ (e : Entry). is_offline e.mode) es)
 
 -- the row of a group, where so many user units of a disk are free
 abbrev pub row_by : (Entry → ℕ) → Option ℕ → List Entry → GroupRow
-row_by free power es = record { rebalancing = is_some power; total = total (λ (e : Entry). e.units) (counted es); free = total free (counted es); offline = offline_disks es }
+row_by free power es = record { rebalancing = is_some power; total = total (λ (e : Entry). e.units) (counted_disks es); free = total free (counted_disks es); offline = offline_disks es }
 
 abbrev pub group_row : Catalogued → List Entry → GroupRow
 group_row c es = row_by (free_at c.units) c.tables.operations.rebalance es
@@ -65,38 +65,38 @@ abbrev pub failgroup_in : Option DiskInfo → Bytes
 failgroup_in None = []
 failgroup_in (Some info) = info.failgroup
 
-abbrev pub disk_name : Tables → ℕ → Bytes
-disk_name t d = name_in (info_at t.disks d)
+abbrev pub disk_name_in_tables : Tables → ℕ → Bytes
+disk_name_in_tables t d = name_in (info_at t.disks d)
 
 abbrev pub failgroup_name : Tables → ℕ → Bytes
 failgroup_name t d = failgroup_in (info_at t.disks d)
 
-abbrev pub disk_row : Catalogued → Entry → DiskRow
-disk_row c e = record {
+abbrev pub row_of_disk : Catalogued → Entry → DiskRow
+row_of_disk c e = record {
   number = e.number;
   mode = e.mode;
   failgroup = failgroup_name c.tables e.number;
   quorum = e.quorum;
   total = e.units;
   free = free_at c.units e;
-  name = disk_name c.tables e.number;
+  name = disk_name_in_tables c.tables e.number;
 }
 
 abbrev pub disk_rows : Catalogued → List Entry → List DiskRow
-disk_rows c es = map (disk_row c) es
+disk_rows c es = map (row_of_disk c) es
 
 -- ---- what comes by itself
 
-abbrev pub number_of : Option Entry → Option ℕ
-number_of e = option_map (λ (e : Entry). e.number) e
+abbrev pub number_of_entry_if_any : Option Entry → Option ℕ
+number_of_entry_if_any e = option_map (λ (e : Entry). e.number) e
 
 -- the least Syncing disk
 abbrev pub syncing : List Entry → Option ℕ
-syncing es = number_of (find (λ (e : Entry). is_syncing e.mode) es)
+syncing es = number_of_entry_if_any (find (λ (e : Entry). is_syncing e.mode) es)
 
 -- the time of an Offline disk is up
-abbrev pub is_due : ℕ → Entry → Bool
-is_due now e = is_offline e.mode && nat_le (e.since + e.repair) now
+abbrev pub is_repair_time_up : ℕ → Entry → Bool
+is_repair_time_up now e = is_offline e.mode && nat_le (e.since + e.repair) now
 
 -- the only directory copy of the set is on the disk
 abbrev pub holds_all : ℕ → ℕ → Bool
@@ -108,7 +108,7 @@ may_go c r d = not (holds_all r.directories d) && is_none (first_lost r.entries 
 
 -- the disk that expiry drops next at a time: the least of those whose time is up that may be dropped
 abbrev pub expiring : Catalogued → Status → ℕ → Option ℕ
-expiring c r now = number_of (find (λ (e : Entry). is_due now e && may_go c r e.number) r.entries)
+expiring c r now = number_of_entry_if_any (find (λ (e : Entry). is_repair_time_up now e && may_go c r e.number) r.entries)
 
 -- a rebalance is active with a power of at least 1
 abbrev pub is_moving : Option ℕ → Bool
@@ -121,8 +121,8 @@ is_moving (Some power) = nat_le 1 power
 abbrev pub below_of : Catalogued → Status → List ℕ → ℕ → GroupBelow
 below_of c r attached now = record {
   failgroups = serving_groups r.entries;
-  expiring = option_map (disk_name c.tables) (expiring c r now);
-  syncing = option_map (disk_name c.tables) (syncing r.entries);
+  expiring = option_map (disk_name_in_tables c.tables) (expiring c r now);
+  syncing = option_map (disk_name_in_tables c.tables) (syncing r.entries);
   moving = is_moving c.tables.operations.rebalance;
   attached = attached;
   row = group_row c r.entries;

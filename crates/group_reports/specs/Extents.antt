@@ -27,14 +27,14 @@ abbrev pub extent_there : Catalogued → ℕ → ℕ → ℕ → Homes → Optio
 extent_there c f copies i homes = if has_home homes && nat_lt i (2 ^ 32) then Some (extent_of c f copies i homes) else None
 
 -- one extent more, where it is there
-abbrev pub with_extent : Option Extent → List Extent → List Extent
-with_extent None xs = xs
-with_extent (Some x) xs = x ∷ xs
+abbrev pub with_extent_if_any : Option Extent → List Extent → List Extent
+with_extent_if_any None xs = xs
+with_extent_if_any (Some x) xs = x ∷ xs
 
 -- those of some homes that are there, by number from i on
 abbrev pub extents_from : Catalogued → ℕ → ℕ → ℕ → List Homes → List Extent
 extents_from c f copies i [] = []
-extents_from c f copies i (homes ∷ more) = with_extent (extent_there c f copies i homes) (extents_from c f copies (suc i) more)
+extents_from c f copies i (homes ∷ more) = with_extent_if_any (extent_there c f copies i homes) (extents_from c f copies (suc i) more)
 
 abbrev pub of_copies : (ℕ → List Extent) → Option ℕ → List Extent
 of_copies extents None = []
@@ -63,13 +63,13 @@ checked_of es xs = record { extents = length xs; not_full = count_by (lacks es) 
 -- ---- what is lost with a disk
 
 -- the home is on the disk
-abbrev pub lies_on : ℕ → Option Home → Bool
-lies_on d None = false
-lies_on d (Some h) = h.disk == d
+abbrev pub stands_on_disk : ℕ → Option Home → Bool
+stands_on_disk d None = false
+stands_on_disk d (Some h) = h.disk == d
 
 -- copy k is current, and not on the disk
 abbrev pub is_kept_elsewhere : List Entry → ℕ → Extent → ℕ → Bool
-is_kept_elsewhere es d x k = is_current_at es x k && not (lies_on d (home (copy_of x k)))
+is_kept_elsewhere es d x k = is_current_at es x k && not (stands_on_disk d (home (copy_of x k)))
 
 -- some copy of the extent passes
 abbrev pub has_copy : (ℕ → Bool) → Extent → Bool

@@ -5,7 +5,7 @@ ghost use Rattle.std.specs.List.{find};
 ghost use Rattle.extent_copies.specs.Extents.{copy_of};
 ghost use Rattle.extent_copies.specs.Usable.{first_passing, is_current_at};
 ghost use Rattle.asm_placement.specs.Copies.{home};
-ghost use Rattle.group_reports.specs.Extents.{all_extents, checked_of, chunk_extents, extent_there, extents_from, first_lost, has_copy, is_kept_elsewhere, is_only_on, lies_on, with_extent};
+ghost use Rattle.group_reports.specs.Extents.{all_extents, checked_of, chunk_extents, extent_there, extents_from, first_lost, has_copy, is_kept_elsewhere, is_only_on, stands_on_disk, with_extent_if_any};
 
 use crate::extents::{extent_there, most_chunks};
 use asm_base::{Home, Homes};
@@ -119,7 +119,7 @@ fn checked_one(
     homes: &Homes,
 ) -> Checked
     requires { copies ≤ 3 }
-    ensures checked { result ≡ checked_of disks.now (with_extent (extent_there catalog.now file copies index homes.now) []) }
+    ensures checked { result ≡ checked_of disks.now (with_extent_if_any (extent_there catalog.now file copies index homes.now) []) }
     ensures few { result.extents ≤ 1 }
     ensures fewer { result.not_full ≤ 1 }
 {
@@ -206,7 +206,7 @@ fn lost_there(
     homes: &Homes,
 ) -> Option<Extent>
     requires { copies ≤ 3 }
-    ensures { result ≡ find (is_only_on disks.now disk) (with_extent (extent_there catalog.now file copies index homes.now) []) }
+    ensures { result ≡ find (is_only_on disks.now disk) (with_extent_if_any (extent_there catalog.now file copies index homes.now) []) }
 {
     let Some(extent) = extent_there(catalog, file, copies, index, homes) else {
         return None;
@@ -261,7 +261,7 @@ fn is_copy_elsewhere(disks: &[PstEntry], disk: u8, extent: &Extent, copy: u8) ->
 }
 
 fn lies_on(disk: u8, home: Option<Home>) -> bool
-    ensures { result ≡ lies_on disk home }
+    ensures { result ≡ stands_on_disk disk home }
 {
     match home {
         None => false,

@@ -6,7 +6,7 @@ ghost use Rattle.asm_formats.specs.Items.{Item};
 ghost use Rattle.asm_placement.specs.Space.{total};
 ghost use Rattle.extent_copies.specs.partnership.UnitsOf.{AreUnitsOf};
 ghost use Rattle.group_reports.specs.Disks as specs;
-ghost use Rattle.group_reports.specs.Disks.{counted, free_at, free_in, group_row, is_counted, offline_disks, row_by};
+ghost use Rattle.group_reports.specs.Disks.{counted_disks, free_at, free_in, group_row, is_counted, offline_disks, row_by};
 
 use allocator::Units;
 use asm_base::Mode;
@@ -68,7 +68,7 @@ fn totals_by(power: Option<u16>, disks: &[PstEntry], units: &[Units]) -> GroupTo
 /// The units of the disks that count.
 fn units_of_all(disks: &[PstEntry]) -> u64
     requires { length disks.now ≤ 64 }
-    ensures total { result ≡ total (λ e. e.units) (counted disks.now) }
+    ensures total { result ≡ total (λ e. e.units) (counted_disks disks.now) }
     ensures small { result ≤ length disks.now * 2 ^ 32 }
 {
     match disks {
@@ -87,7 +87,7 @@ fn units_of_all(disks: &[PstEntry]) -> u64
 /// Their free user units.
 fn free_of_all(disks: &[PstEntry], units: &[Units]) -> u64
     requires { length disks.now ≤ 64 }
-    ensures total { result ≡ total (free_at units.now) (counted disks.now) }
+    ensures total { result ≡ total (free_at units.now) (counted_disks disks.now) }
     ensures small { result ≤ length disks.now * 2 ^ 32 }
 {
     match disks {

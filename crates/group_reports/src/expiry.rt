@@ -1,7 +1,7 @@
 //! What comes by itself in a group: the disk that expires next, the one that is written anew, and the rebalance.
 
 ghost use Rattle.std.specs.Prelude.{◌≡◌, ◌&&◌, ◌+◌, nat_le, find};
-ghost use Rattle.group_reports.specs.Disks.{expiring, holds_all, is_due, is_moving, is_syncing, may_go, number_of, syncing};
+ghost use Rattle.group_reports.specs.Disks.{expiring, holds_all, is_repair_time_up, is_moving, is_syncing, may_go, number_of_entry_if_any, syncing};
 
 use crate::checking::first_lost;
 use crate::disks::is_offline;
@@ -52,7 +52,7 @@ pub fn expiring(catalog: &Catalog, status: &PstRecord, now: u64) -> Option<u8>
 }
 
 fn first_expiring(catalog: &Catalog, status: &PstRecord, disks: &[PstEntry], now: u64) -> Option<u8>
-    ensures { result ≡ number_of (find (λ e. is_due now e && may_go catalog.now status.now e.number) disks.now) }
+    ensures { result ≡ number_of_entry_if_any (find (λ e. is_repair_time_up now e && may_go catalog.now status.now e.number) disks.now) }
 {
     for disk in disks {
         if is_due(disk, now) && may_go(catalog, status, disk.number) {
@@ -64,7 +64,7 @@ fn first_expiring(catalog: &Catalog, status: &PstRecord, disks: &[PstEntry], now
 
 /// Whether the time of an Offline disk is up.
 fn is_due(disk: &PstEntry, now: u64) -> bool
-    ensures { result ≡ is_due now disk.now }
+    ensures { result ≡ is_repair_time_up now disk.now }
 {
     is_offline(disk.mode) && has_passed(disk.since, disk.repair, now)
 }

@@ -5,9 +5,9 @@ ghost use Rattle.std.specs.Option.{option_map, option_to_list};
 ghost use Rattle.asm_base.specs.declared.refusal.Refusal.TheVariants as cause;
 ghost use Rattle.asm_group.specs.TreeEdits.{last_part, up};
 ghost use Rattle.asm_world.specs.Listings.{has_star};
-ghost use Rattle.asm_world.specs.Reports.{AliasName, Directory, SystemName};
+ghost use Rattle.asm_world.specs.Reports.{AliasName, Directory, ListedSystemName};
 ghost use Rattle.asmcmd.specs.Texts.{listed_row};
-ghost use Rattle.group_reports.specs.Listing.{AreRowsAt, AreRowsIn, AreRowsOf, AreRowsUnder, IsListCause, IsDueRefusal, if_missing, listed, node_row, path_to, refusal_in, row_at, rows_at, star};
+ghost use Rattle.group_reports.specs.Listing.{AreRowsAt, AreRowsIn, AreRowsOf, AreRowsUnder, IsListCause, IsDueRefusal, if_missing, listing_of_node, node_row, path_to, directory_refusal, row_at, rows_of_nodes, star};
 ghost use Rattle.group_reports.specs.Places.{directory_in, node_named};
 
 use crate::places::{directory_in, is_directory, node_named, path_at};
@@ -69,7 +69,7 @@ fn rows_matching(
     pattern: &[u8],
 ) -> Result<Vec<LsRow>, Refusal>
     ensures rows { IfOk result (λ rows. AreRowsIn catalog.now.tables group.now pattern.now (directory_in catalog.now.tables (node_named catalog.now.tables above.now)) rows.items) }
-    ensures cause { IfErr result (IsDueRefusal (refusal_in (directory_in catalog.now.tables (node_named catalog.now.tables above.now)))) }
+    ensures cause { IfErr result (IsDueRefusal (directory_refusal (directory_in catalog.now.tables (node_named catalog.now.tables above.now)))) }
 {
     let node = node_named(alloc, group, catalog, above).map_err(no_memory)?;
     let directory = directory_in(catalog, node)?;
@@ -130,7 +130,7 @@ fn rows_at(
     pattern: &[u8],
     numbers: &[u32],
 ) -> Result<Vec<LsRow>, NoMemory>
-    ensures { IfOk result (λ rows. rows.items ≡ rows_at catalog.now.tables group.now pattern.now numbers.now) }
+    ensures { IfOk result (λ rows. rows.items ≡ rows_of_nodes catalog.now.tables group.now pattern.now numbers.now) }
 {
     let mut rows = Vec::new(alloc);
     for number in numbers {
@@ -190,7 +190,7 @@ fn listed(
     catalog: &Catalog,
     node: &Node,
 ) -> Result<Option<LsRow>, NoMemory>
-    ensures { IfOk result (λ row. row ≡ option_map listed_row (listed catalog.now.tables group.now node.now)) }
+    ensures { IfOk result (λ row. row ≡ option_map listed_row (listing_of_node catalog.now.tables group.now node.now)) }
 {
     if let NodeKind::Directory = node.kind {
         return Ok(Some(directory_row(alloc, &node.name)?));
@@ -223,7 +223,7 @@ pub fn directory_row(alloc: Global, name: &Name) -> Result<LsRow, NoMemory>
 }
 
 fn system_row(alloc: Global, head: &FileHead, name: &Name) -> Result<LsRow, NoMemory>
-    ensures { IfOk result (λ row. row ≡ listed_row (SystemName head.now.type_name head.now.copies head.now.stripe name.now)) }
+    ensures { IfOk result (λ row. row ≡ listed_row (ListedSystemName head.now.type_name head.now.copies head.now.stripe name.now)) }
 {
     Ok(LsRow {
         kind: List::from_slice(alloc, head.kind.as_bytes())?,

@@ -72,7 +72,7 @@ pub fn disk_rows(
 }
 
 fn rows_of(alloc: Global, catalog: &Catalog, disks: &[PstEntry]) -> Result<Vec<DiskRow>, NoMemory>
-    ensures { IfOk result (λ rows. rows.items ≡ map (λ e. disk_row (specs.disk_row catalog.now e)) disks.now) }
+    ensures { IfOk result (λ rows. rows.items ≡ map (λ e. disk_row (specs.row_of_disk catalog.now e)) disks.now) }
 {
     let mut rows = Vec::new(alloc);
     for disk in disks {
@@ -85,7 +85,7 @@ fn rows_of(alloc: Global, catalog: &Catalog, disks: &[PstEntry]) -> Result<Vec<D
 }
 
 fn row_of(alloc: Global, catalog: &Catalog, disk: &PstEntry) -> Result<DiskRow, NoMemory>
-    ensures { IfOk result (λ row. row ≡ disk_row (specs.disk_row catalog.now disk.now)) }
+    ensures { IfOk result (λ row. row ≡ disk_row (specs.row_of_disk catalog.now disk.now)) }
 {
     Ok(DiskRow {
         number: disk.number as u64,
@@ -100,7 +100,7 @@ fn row_of(alloc: Global, catalog: &Catalog, disk: &PstEntry) -> Result<DiskRow, 
 
 /// The name of a disk by its record, and no bytes where it has none.
 pub fn disk_name(alloc: Global, catalog: &Catalog, disk: u8) -> Result<Text, NoMemory>
-    ensures { IfOk result (λ name. name ≡ specs.disk_name catalog.now.tables disk) }
+    ensures { IfOk result (λ name. name ≡ specs.disk_name_in_tables catalog.now.tables disk) }
 {
     match catalog.disk(disk) {
         Some(info) => List::from_slice(alloc, info.name.as_bytes()),

@@ -3,9 +3,9 @@
 ghost use Rattle.std.specs.Prelude.{◌≡◌, ◌++◌, [], map, flat_map, IfOk, OnOk};
 ghost use Rattle.std.specs.Option.{option_to_list};
 ghost use Rattle.asm_group.specs.Names.{folded};
-ghost use Rattle.asm_base.specs.Names.{path_text};
+ghost use Rattle.asm_base.specs.Names.{path_text_in_group};
 ghost use Rattle.file_directory.specs.declared.head.FileHead as declared;
-ghost use Rattle.group_reports.specs.Files.{folded_text, found_at, found_of_file, found_of_files, in_order, paths_found, placed_among};
+ghost use Rattle.group_reports.specs.Files.{folded_text, matching_node_path, found_of_file, found_of_files, paths_in_order, paths_found, placed_among};
 ghost use Rattle.group_reports.specs.Keyed.{keyed};
 
 use crate::files::next_file;
@@ -63,7 +63,7 @@ fn push_found(
     head: &FileHead,
     found: &mut Vec<Path>,
 ) -> Result<(), NoMemory>
-    ensures { OnOk result (found.new.items ≡ found.old.items ++ (option_to_list (found_at catalog.now.tables group.now dir.now pattern.now head.now.system) ++ option_to_list (found_at catalog.now.tables group.now dir.now pattern.now head.now.alias))) }
+    ensures { OnOk result (found.new.items ≡ found.old.items ++ (option_to_list (matching_node_path catalog.now.tables group.now dir.now pattern.now head.now.system) ++ option_to_list (matching_node_path catalog.now.tables group.now dir.now pattern.now head.now.alias))) }
 {
     let system = found_at(alloc, group, catalog, dir, pattern, head.system)?;
     push_path(found, system)?;
@@ -93,7 +93,7 @@ fn found_at(
     pattern: &[u8],
     number: u32,
 ) -> Result<Option<Path>, NoMemory>
-    ensures { IfOk result (λ path. path ≡ found_at catalog.now.tables group.now dir.now pattern.now number) }
+    ensures { IfOk result (λ path. path ≡ matching_node_path catalog.now.tables group.now dir.now pattern.now number) }
 {
     let Some(node) = catalog.node(number) else {
         return Ok(None);
@@ -107,7 +107,7 @@ fn found_at(
 
 /// The paths in the order of their texts without case.
 fn in_order(alloc: Global, paths: Vec<Path>) -> Result<Vec<Path>, NoMemory>
-    ensures { IfOk result (λ sorted. sorted.items ≡ in_order paths.items) }
+    ensures { IfOk result (λ sorted. sorted.items ≡ paths_in_order paths.items) }
 {
     let places = placed(alloc, paths)?;
     values_of(alloc, places)

@@ -1,7 +1,7 @@
 //! What the files below a directory take: du.
 
 ghost use Rattle.std.specs.Prelude.{◌≡◌, ◌≤◌, ◌<◌, ◌+◌, ◌^◌, IfOk};
-ghost use Rattle.group_reports.specs.Files.{if_file_below, mirrored_of, size_of, usage_of};
+ghost use Rattle.group_reports.specs.Files.{if_file_below, mirrored_of, file_size, directory_usage};
 
 use crate::files::next_file;
 use crate::places::path_below;
@@ -49,7 +49,7 @@ pub fn usage_below(
     catalog: &Catalog,
     dir: &[Name],
 ) -> Result<Taken, NoMemory>
-    ensures { IfOk result (λ usage. usage ≡ usage_of catalog.now group.now dir.now catalog.now.tables.files) }
+    ensures { IfOk result (λ usage. usage ≡ directory_usage catalog.now group.now dir.now catalog.now.tables.files) }
 {
     let mut usage = Taken::none();
     let mut least = 0;
@@ -69,7 +69,7 @@ fn usage_of_file(
     number: u32,
     head: &FileHead,
 ) -> Result<Taken, NoMemory>
-    ensures used { IfOk result (λ usage. usage.used ≡ if_file_below catalog.now.tables group.now dir.now size_of (number, head.now)) }
+    ensures used { IfOk result (λ usage. usage.used ≡ if_file_below catalog.now.tables group.now dir.now file_size (number, head.now)) }
     ensures mirrored { IfOk result (λ usage. usage.mirrored ≡ if_file_below catalog.now.tables group.now dir.now (mirrored_of catalog.now) (number, head.now)) }
     ensures small { IfOk result (λ usage. usage.used ≤ 2 ^ 64) }
     ensures few { IfOk result (λ usage. usage.mirrored ≤ 2 ^ 78) }

@@ -3,8 +3,8 @@ use Rattle.std.proofs.Common.{◌≡◌, ℕ, ◌<◌, Bool, true, false, List, 
 use Rattle.std.specs.Prelude.{if◌then◌else◌, codes, is_some}
 use Rattle.std.specs.Option.{option_map}
 use Rattle.std.proofs.lemmas.Bool.{or_parts}
-use Rattle.asm_grammar.specs.Word.{Word, Key, fit, fits}
-use Rattle.asm_grammar.specs.Syntax.{Syntax, Then, Maybe, Many, Value}
+use Rattle.asm_grammar.specs.Word.{Word, Keyword, fit, fits}
+use Rattle.asm_grammar.specs.Syntax.{SyntaxRule, Then, Maybe, Many, Value}
 use Rattle.asm_grammar.specs.Reading.{Outcome, Took, Failed, ◌>>=◌, mapped, parse, leads, miss}
 use Rattle.asm_grammar.specs.Reading.{first as heads}
 use Rattle.asm_grammar.proofs.Again.{many_is}
@@ -121,8 +121,8 @@ fit_none w text e = by (fit w text) e where
 pub no_group : (rest : List ℕ) (left : ℕ) (next : List ℕ) (l : ℕ) → mapped maybe_failgroup_of (parse (Maybe g.failgroup) rest left) ≡ Took None next l → mapped failgroups_of (parse g.failgroups rest left) ≡ Failed l
 no_group rest left next l e =
     let a = absent rest left next l e in
-    let p = or_parts (fits (Key (codes "QUORUM")) rest) _ a.leads in
-    let q = or_parts (fits (Key (codes "REGULAR")) rest) _ p.1 in
-    let r = or_parts (fits (Key (codes "FAILGROUP")) rest) _ q.1 in
-    let t = or_parts (fits (Key (codes "DISK")) rest) _ r.1 in
-    rw (fit_none (Key (codes "QUORUM")) rest p.0, fit_none (Key (codes "REGULAR")) rest q.0, fit_none (Key (codes "FAILGROUP")) rest r.0, fit_none (Key (codes "DISK")) rest t.0) (ap (λ z. Failed z) a.left_is)
+    let p = or_parts (fits (Keyword (codes "QUORUM")) rest) _ a.leads in
+    let q = or_parts (fits (Keyword (codes "REGULAR")) rest) _ p.1 in
+    let r = or_parts (fits (Keyword (codes "FAILGROUP")) rest) _ q.1 in
+    let t = or_parts (fits (Keyword (codes "DISK")) rest) _ r.1 in
+    rw (fit_none (Keyword (codes "QUORUM")) rest p.0, fit_none (Keyword (codes "REGULAR")) rest q.0, fit_none (Keyword (codes "FAILGROUP")) rest r.0, fit_none (Keyword (codes "DISK")) rest t.0) (ap (λ z. Failed z) a.left_is)

@@ -4,38 +4,38 @@ use Rattle.asm_grammar.specs.Reading.{Outcome, Took, Failed, ◌>>=◌, mapped, 
 use Rattle.asm_grammar.specs.Syntax.{Maybe, Value}
 use Rattle.asm_world.specs.Grammar as g
 use Rattle.asm_world.specs.Statement as s
-use Rattle.group_sql.specs.Choices.{added_at, added_disks_at, group_at, groups_after, groups_at, other_added_at, rebalance_at}
+use Rattle.group_sql.specs.Choices.{added_at, added_disks_at, failgroup_at, failgroups_after, groups_at, other_added_at, rebalance_at}
 use Rattle.group_sql.specs.Rows.{groups_from, maybe_rebalance_of}
 use Rattle.group_sql.proofs.Failgroups as lists
 use Rattle.group_sql.proofs.Added as added
 use Rattle.group_sql.proofs.Ties.{other_added_is}
 
-pub no_more : (front : List s.NewFailgroup) (rest : List ℕ) (left : ℕ) (next : List ℕ) (l : ℕ) → group_at rest left ≡ Took None next l → groups_after front rest left ≡ Took front next l
-unfolding group_at groups_after
+pub no_more : (front : List s.NewFailgroup) (rest : List ℕ) (left : ℕ) (next : List ℕ) (l : ℕ) → failgroup_at rest left ≡ Took None next l → failgroups_after front rest left ≡ Took front next l
+unfolding failgroup_at failgroups_after
 no_more front rest left next l e = lists.no_more front rest left next l e
 
-pub one_more : (front : List s.NewFailgroup) (rest : List ℕ) (left : ℕ) (x : s.NewFailgroup) (next : List ℕ) (l : ℕ) → group_at rest left ≡ Took (Some x) next l → groups_after front rest left ≡ groups_after (front ++ x ∷ []) next l
-unfolding group_at groups_after
+pub one_more : (front : List s.NewFailgroup) (rest : List ℕ) (left : ℕ) (x : s.NewFailgroup) (next : List ℕ) (l : ℕ) → failgroup_at rest left ≡ Took (Some x) next l → failgroups_after front rest left ≡ failgroups_after (front ++ x ∷ []) next l
+unfolding failgroup_at failgroups_after
 one_more front rest left x next l e = lists.one_more front rest left x next l e
 
-pub bad : (front : List s.NewFailgroup) (rest : List ℕ) (left l : ℕ) → group_at rest left ≡ Failed l → groups_after front rest left ≡ Failed l
-unfolding group_at groups_after
+pub bad : (front : List s.NewFailgroup) (rest : List ℕ) (left l : ℕ) → failgroup_at rest left ≡ Failed l → failgroups_after front rest left ≡ Failed l
+unfolding failgroup_at failgroups_after
 bad front rest left l e = lists.bad front rest left l e
 
-pub falls : (rest : List ℕ) (left : ℕ) (x : s.NewFailgroup) (next : List ℕ) (l : ℕ) → group_at rest left ≡ Took (Some x) next l → length next < length rest
-unfolding group_at
+pub falls : (rest : List ℕ) (left : ℕ) (x : s.NewFailgroup) (next : List ℕ) (l : ℕ) → failgroup_at rest left ≡ Took (Some x) next l → length next < length rest
+unfolding failgroup_at
 falls rest left x next l e = lists.falls rest left x next l e
 
-pub groups_are : (rest : List ℕ) (left : ℕ) (x : s.NewFailgroup) (next : List ℕ) (l : ℕ) → group_at rest left ≡ Took (Some x) next l → groups_at rest left ≡ groups_after (x ∷ []) next l
-unfolding group_at groups_at groups_after
+pub groups_are : (rest : List ℕ) (left : ℕ) (x : s.NewFailgroup) (next : List ℕ) (l : ℕ) → failgroup_at rest left ≡ Took (Some x) next l → groups_at rest left ≡ failgroups_after (x ∷ []) next l
+unfolding failgroup_at groups_at failgroups_after
 groups_are rest left x next l e = lists.groups_are rest left x next l e
 
-pub no_group : (rest : List ℕ) (left : ℕ) (next : List ℕ) (l : ℕ) → group_at rest left ≡ Took None next l → groups_at rest left ≡ Failed l
-unfolding group_at groups_at
+pub no_group : (rest : List ℕ) (left : ℕ) (next : List ℕ) (l : ℕ) → failgroup_at rest left ≡ Took None next l → groups_at rest left ≡ Failed l
+unfolding failgroup_at groups_at
 no_group rest left next l e = lists.no_group rest left next l e
 
-pub bad_group : (rest : List ℕ) (left l : ℕ) → group_at rest left ≡ Failed l → groups_at rest left ≡ Failed l
-unfolding group_at groups_at
+pub bad_group : (rest : List ℕ) (left l : ℕ) → failgroup_at rest left ≡ Failed l → groups_at rest left ≡ Failed l
+unfolding failgroup_at groups_at
 bad_group rest left l e = lists.bad_group rest left l e
 
 -- ADD
@@ -50,14 +50,14 @@ unfolding rebalance_at
 disks_added (Took groups r l) = rebalanced groups (parse (Maybe g.rebalance) r l)
 disks_added (Failed l) = refl
 
-pub added_is : (text : List ℕ) (left : ℕ) (x : s.NewFailgroup) (next : List ℕ) (l : ℕ) → group_at text left ≡ Took (Some x) next l → added_at text left ≡ added_disks_at x next l
-unfolding group_at added_at added_disks_at groups_after
+pub added_is : (text : List ℕ) (left : ℕ) (x : s.NewFailgroup) (next : List ℕ) (l : ℕ) → failgroup_at text left ≡ Took (Some x) next l → added_at text left ≡ added_disks_at x next l
+unfolding failgroup_at added_at added_disks_at failgroups_after
 added_is text left x next l e = added.added_is text left x next l e ∙ disks_added (groups_from (x ∷ []) next l)
 
-pub bad_added : (text : List ℕ) (left l : ℕ) → group_at text left ≡ Failed l → added_at text left ≡ Failed l
-unfolding group_at added_at
+pub bad_added : (text : List ℕ) (left l : ℕ) → failgroup_at text left ≡ Failed l → added_at text left ≡ Failed l
+unfolding failgroup_at added_at
 bad_added text left l e = added.bad_added text left l e
 
-pub other_is : (text : List ℕ) (left : ℕ) (next : List ℕ) (l : ℕ) → group_at text left ≡ Took None next l → added_at text left ≡ other_added_at next l
-unfolding group_at added_at
+pub other_is : (text : List ℕ) (left : ℕ) (next : List ℕ) (l : ℕ) → failgroup_at text left ≡ Took None next l → added_at text left ≡ other_added_at next l
+unfolding failgroup_at added_at
 other_is text left next l e = added.other_is text left next l e ∙ other_added_is next l

@@ -5,7 +5,7 @@ use Rattle.asm_grammar.specs.Reading.{Took, Failed, mapped, parse}
 use Rattle.asm_grammar.specs.Reads.{items_from, items_of}
 use Rattle.asm_grammar.proofs.Lists as lists
 use Rattle.asm_world.specs.Grammar as g
-use Rattle.asm_world.specs.Meaning.{dropped_of, disk_of, attribute_of}
+use Rattle.asm_world.specs.Meaning.{dropped_of, new_disk_of, attribute_of}
 use Rattle.asm_world.specs.Statement as s
 use Rattle.group_sql.specs.Rows.{dropped_disk}
 
@@ -53,24 +53,24 @@ drops_from = lists.list_from dropped_disk dropped_of 44 (g.semicolon ∷ []) ref
 
 -- NEW DISKS
 
-pub no_more_disks : (front : List s.NewDisk) (rest : List ℕ) (left : ℕ) → fit (Mark 44) rest ≡ None → items_from g.disk disk_of 44 front rest left ≡ Took front rest (min left (length rest - near (Mark 44) rest))
-no_more_disks = lists.no_more g.disk disk_of 44 (g.semicolon ∷ []) refl
+pub no_more_disks : (front : List s.NewDisk) (rest : List ℕ) (left : ℕ) → fit (Mark 44) rest ≡ None → items_from g.disk new_disk_of 44 front rest left ≡ Took front rest (min left (length rest - near (Mark 44) rest))
+no_more_disks = lists.no_more g.disk new_disk_of 44 (g.semicolon ∷ []) refl
 
 pub one_more_disk : (front : List s.NewDisk) (rest behind : List ℕ) (left : ℕ) (x : s.NewDisk) (next : List ℕ) (l : ℕ) → fit (Mark 44) rest ≡ Some (tt, behind)
-    → mapped disk_of (parse g.disk behind left) ≡ Took x next l → items_from g.disk disk_of 44 front rest left ≡ items_from g.disk disk_of 44 (front ++ x ∷ []) next l
-one_more_disk = lists.and_more g.disk disk_of 44 (g.semicolon ∷ []) refl
+    → mapped new_disk_of (parse g.disk behind left) ≡ Took x next l → items_from g.disk new_disk_of 44 front rest left ≡ items_from g.disk new_disk_of 44 (front ++ x ∷ []) next l
+one_more_disk = lists.and_more g.disk new_disk_of 44 (g.semicolon ∷ []) refl
 
 pub bad_disk : (front : List s.NewDisk) (rest behind : List ℕ) (left l : ℕ) → fit (Mark 44) rest ≡ Some (tt, behind)
-    → mapped disk_of (parse g.disk behind left) ≡ Failed l → items_from g.disk disk_of 44 front rest left ≡ Failed l
-bad_disk = lists.bad_more g.disk disk_of 44 (g.semicolon ∷ []) refl
+    → mapped new_disk_of (parse g.disk behind left) ≡ Failed l → items_from g.disk new_disk_of 44 front rest left ≡ Failed l
+bad_disk = lists.bad_more g.disk new_disk_of 44 (g.semicolon ∷ []) refl
 
 pub disk_falls : (rest behind : List ℕ) (left : ℕ) (x : s.NewDisk) (next : List ℕ) (l : ℕ) → fit (Mark 44) rest ≡ Some (tt, behind)
-    → mapped disk_of (parse g.disk behind left) ≡ Took x next l → length next < length rest
-disk_falls = lists.item_falls g.disk disk_of 44 (g.semicolon ∷ []) refl
+    → mapped new_disk_of (parse g.disk behind left) ≡ Took x next l → length next < length rest
+disk_falls = lists.item_falls g.disk new_disk_of 44 (g.semicolon ∷ []) refl
 
-pub disks_from : (rest : List ℕ) (left : ℕ) (x : s.NewDisk) (next : List ℕ) (l : ℕ) → mapped disk_of (parse g.disk rest left) ≡ Took x next l
-    → mapped (λ v. items_of disk_of v) (parse (g.listed g.disk) rest left) ≡ items_from g.disk disk_of 44 (x ∷ []) next l
-disks_from = lists.list_from g.disk disk_of 44 (g.semicolon ∷ []) refl
+pub disks_from : (rest : List ℕ) (left : ℕ) (x : s.NewDisk) (next : List ℕ) (l : ℕ) → mapped new_disk_of (parse g.disk rest left) ≡ Took x next l
+    → mapped (λ v. items_of new_disk_of v) (parse (g.listed g.disk) rest left) ≡ items_from g.disk new_disk_of 44 (x ∷ []) next l
+disks_from = lists.list_from g.disk new_disk_of 44 (g.semicolon ∷ []) refl
 
 -- ATTRIBUTES
 

@@ -12,13 +12,13 @@ use Rattle.group_sql.specs.declared.reading.ReadError.TheVariants.{Syntax, NoMem
 use Rattle.group_sql.specs.declared.statement.Statement.{Statement}
 
 -- What the text says as a statement, or else how many of its bytes begin one.
-unfoldable pub asked : Bytes → Result s.Statement ℕ
-asked text = result_of statement_of (whole g.statement g.semicolon text)
+unfoldable pub statement_or_front : Bytes → Result s.Statement ℕ
+statement_or_front text = result_of statement_of (whole g.statement g.semicolon text)
 
 -- What reading by the grammar of statements gives, unless memory was wanted.
 abbrev pub IsStatementRead : Result Statement ReadError → Bytes → Type 0
-IsStatementRead (Ok x) text = asked text ≡ Ok (statement_said x)
-IsStatementRead (Err (Syntax at)) text = asked text ≡ Err at
+IsStatementRead (Ok x) text = statement_or_front text ≡ Ok (statement_said x)
+IsStatementRead (Err (Syntax at)) text = statement_or_front text ≡ Err at
 IsStatementRead (Err NoMemory) text = Unit {0}
 
 -- The text says no statement, and so many of its bytes, and no more, begin one.

@@ -23,7 +23,7 @@ maybe_kind_said kind = option_map kind_said kind
 abbrev pub kind_and_name : Option FailgroupKind × Bytes → Option s.FailgroupKind × Bytes
 kind_and_name (kind, name) = (maybe_kind_said kind, name)
 
-abbrev pub disks_said : Disks → s.Disks
+abbrev pub disks_said : Disks → s.NamedDisks
 disks_said (Named names) = s.Named names
 disks_said (InFailgroup kind name) = s.InFailgroup (maybe_kind_said kind) name
 

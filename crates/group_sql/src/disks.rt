@@ -4,8 +4,8 @@ ghost use Rattle.std.specs.Prelude.{◌≡◌, ◌∷◌, []};
 ghost use Rattle.asm_grammar.specs.Reads.{items_from, items_of, reads};
 ghost use Rattle.asm_grammar.specs.Syntax.{Maybe};
 ghost use Rattle.asm_world.specs.Grammar as g;
-ghost use Rattle.asm_world.specs.Meaning.{behind, disk_of, dropped_of, failgroups_of, some_disks_of};
-ghost use Rattle.group_sql.specs.Choices.{group_at, groups_after, groups_at, in_group_at};
+ghost use Rattle.asm_world.specs.Meaning.{behind, new_disk_of, dropped_of, failgroups_of, some_disks_of};
+ghost use Rattle.group_sql.specs.Choices.{failgroup_at, failgroups_after, groups_at, in_group_at};
 ghost use Rattle.group_sql.specs.Readers.{GivesPart};
 ghost use Rattle.group_sql.specs.Rows.{disks_in, dropped_disk, group_and_disks, group_name_and_disks, maybe_name, named_in};
 ghost use Rattle.group_sql.specs.Said.{disks_said, kind_and_name};
@@ -96,7 +96,7 @@ fn named<'a>(alloc: Global, place: &mut Place<'a>) -> Result<Option<Name>, ReadE
 /// A disk's path and its options.
 #[tactic(auto, unfolding(crate::specs::Choices::forced_at, crate::specs::Choices::size_at))]
 fn read_disk<'a>(alloc: Global, place: &mut Place<'a>) -> Result<NewDisk, ReadError>
-    ensures { GivesPart (λ d. d) result place.new (reads g.disk disk_of place.old) }
+    ensures { GivesPart (λ d. d) result place.new (reads g.disk new_disk_of place.old) }
 {
     let path = read_text(alloc, place)?;
     let name = named(alloc, place)?;
@@ -117,7 +117,7 @@ fn more_disks<'a>(
     disks: &mut List<NewDisk>,
     place: &mut Place<'a>,
 ) -> Result<(), ReadError>
-    ensures { GivesPart (λ _. disks.new) result place.new (items_from g.disk disk_of 44 disks.old place.old.rest.now place.old.left) }
+    ensures { GivesPart (λ _. disks.new) result place.new (items_from g.disk new_disk_of 44 disks.old place.old.rest.now place.old.left) }
 {
     while takes_mark(place, b',') {
         let disk = read_disk(alloc, place)?;
@@ -129,7 +129,7 @@ fn more_disks<'a>(
 /// A disk, and others behind commas.
 #[tactic(auto, using(crate::proofs::Items::disks_from))]
 fn read_disks<'a>(alloc: Global, place: &mut Place<'a>) -> Result<List<NewDisk>, ReadError>
-    ensures { GivesPart (λ ds. ds) result place.new (reads (g.listed g.disk) (λ v. items_of disk_of v) place.old) }
+    ensures { GivesPart (λ ds. ds) result place.new (reads (g.listed g.disk) (λ v. items_of new_disk_of v) place.old) }
 {
     let mut disks = List::new(alloc);
     let disk = read_disk(alloc, place)?;
@@ -182,7 +182,7 @@ pub fn try_failgroup<'a>(
     alloc: Global,
     place: &mut Place<'a>,
 ) -> Result<Option<NewFailgroup>, ReadError>
-    ensures { GivesPart (λ f. f) result place.new (group_at place.old.rest.now place.old.left) }
+    ensures { GivesPart (λ f. f) result place.new (failgroup_at place.old.rest.now place.old.left) }
 {
     if takes(place, b"QUORUM") {
         let group = disks_behind_kind(alloc, true, place)?;
@@ -214,7 +214,7 @@ fn more_failgroups<'a>(
     groups: &mut List<NewFailgroup>,
     place: &mut Place<'a>,
 ) -> Result<(), ReadError>
-    ensures { GivesPart (λ _. groups.new) result place.new (groups_after groups.old place.old.rest.now place.old.left) }
+    ensures { GivesPart (λ _. groups.new) result place.new (failgroups_after groups.old place.old.rest.now place.old.left) }
 {
     while let Some(group) = try_failgroup(alloc, place)? {
         push(groups, group)?;
@@ -228,7 +228,7 @@ pub fn failgroups_behind<'a>(
     first: NewFailgroup,
     place: &mut Place<'a>,
 ) -> Result<List<NewFailgroup>, ReadError>
-    ensures { GivesPart (λ fs. fs) result place.new (groups_after (first ∷ []) place.old.rest.now place.old.left) }
+    ensures { GivesPart (λ fs. fs) result place.new (failgroups_after (first ∷ []) place.old.rest.now place.old.left) }
 {
     let mut groups = List::new(alloc);
     push(&mut groups, first)?;

@@ -3,7 +3,7 @@
 ghost use Rattle.asm_grammar.specs.Syntax.{Maybe};
 ghost use Rattle.asm_world.specs.Grammar as g;
 ghost use Rattle.asm_world.specs.Meaning.{words_of};
-ghost use Rattle.group_sql.specs.Choices.{redundancy_at, stripe_at, template_at, words_at};
+ghost use Rattle.group_sql.specs.Choices.{redundancy_at, stripe_at, template_with_words_at, words_at};
 ghost use Rattle.group_sql.specs.Readers.{FindsPart, GivesPart};
 ghost use Rattle.asm_grammar.specs.Reads.{reads};
 ghost use Rattle.group_sql.specs.Redundancies.{redundancy_said};
@@ -79,7 +79,7 @@ pub fn template<'a>(
     alloc: Global,
     place: &mut Place<'a>,
 ) -> Result<(Name, TemplateWords), ReadError>
-    ensures { GivesPart (λ t. t) result place.new (template_at place.old.rest.now place.old.left) }
+    ensures { GivesPart (λ t. t) result place.new (template_with_words_at place.old.rest.now place.old.left) }
 {
     let name = read_name(alloc, place)?;
     expect(place, b"ATTRIBUTES")?;

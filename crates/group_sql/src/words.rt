@@ -16,7 +16,7 @@ use std::alloc::Global;
 
 /// Takes the keyword, where it is next.
 pub fn takes<'a>(place: &mut Place<'a>, word: &[u8]) -> bool
-    ensures { Tries (w.Key word.now) tt place.old result place.new }
+    ensures { Tries (w.Keyword word.now) tt place.old result place.new }
 {
     let (found, next) = try_key(*place, word);
     *place = next;
@@ -25,7 +25,7 @@ pub fn takes<'a>(place: &mut Place<'a>, word: &[u8]) -> bool
 
 /// The keyword is next.
 pub fn expect<'a>(place: &mut Place<'a>, word: &[u8]) -> Result<(), ReadError>
-    ensures { GivesPart (λ u. u) result place.new (parse (One (w.Key word.now)) place.old.rest.now place.old.left) }
+    ensures { GivesPart (λ u. u) result place.new (parse (One (w.Keyword word.now)) place.old.rest.now place.old.left) }
 {
     *place = key(*place, word)?;
     Ok(())

@@ -11,7 +11,7 @@ use Rattle.bay_mem.specs.MemState.{IsQuiet}
 use Rattle.group_engine.specs.Frames.{StaysAttached}
 use Rattle.new_groups.specs.group_disks.FirstParts.{IsNewlyMounted}
 use Rattle.new_groups.specs.group_disks.Mounting.{IsMountedBy}
-use Rattle.group_engine.specs.Making.{closed}
+use Rattle.group_engine.specs.Making.{access_after_closing}
 use Rattle.group_engine.specs.Members.{HasImage, LetsGo}
 use Rattle.group_engine.specs.Mounts.{MountedGroup, Takes}
 use Rattle.group_engine.specs.Own.{KeepsGroup}
@@ -72,7 +72,7 @@ attached_takes m s t slot others has run = same_takes m {s = s} {t = t} (record 
 
 -- ---- the end of calls
 
-pub closed_takes : (m : MountedGroup) (s : BayState) → Takes (record m { access = closed m.access }) s
+pub closed_takes : (m : MountedGroup) (s : BayState) → Takes (record m { access = access_after_closing m.access }) s
 closed_takes m s mounted = absurd (closed_takes_none m mounted)
 
 -- ---- groups that are made and found

@@ -3,7 +3,7 @@ use Rattle.std.specs.Prelude.{◌≡◌, ⊤, List}
 use Rattle.asm_group.specs.Names.{Bytes}
 use Rattle.asm_formats.specs.Among.{IsAmong}
 use Rattle.asm_world.specs.Reply.{Event, Expired, ExpiryEnds, Moved, Synced}
-use Rattle.asm_world.specs.Run.{Move, Starts, Expires, Answers, Slices, Rests, Stops, Phase, Expiring, Slicing, mounted_groups, slices_of}
+use Rattle.asm_world.specs.Run.{SessionMove, Starts, Expires, Answers, Slices, Rests, Stops, Phase, Expiring, Slicing, mounted_groups, slices_of}
 use Rattle.asm_world.specs.Text.{event_text}
 use Rattle.asm_world.specs.World.{SessionEntry}
 use Rattle.disk_modes.specs.group_engine.Mounts.{MountedGroup}
@@ -28,7 +28,7 @@ phase_at BeforeText entries = Expiring (mounted_groups entries)
 phase_at AfterReply entries = Slicing (slices_of (mounted_groups entries))
 
 -- an event that comes then, as a move
-abbrev pub move_at : TurnMoment → Event → Move
+abbrev pub move_at : TurnMoment → Event → SessionMove
 move_at BeforeText event = Expires event
 move_at AfterReply event = Slices event
 
@@ -41,7 +41,7 @@ IsEventOf name AfterReply (Synced group disk how) = group ≡ name
 IsEventOf name when another = ⊥
 
 -- a move of such a time: an event, or the end for want of memory
-abbrev pub IsTurnMove : TurnMoment → Move → Type 0
+abbrev pub IsTurnMove : TurnMoment → SessionMove → Type 0
 IsTurnMove BeforeText (Expires event) = ⊤
 IsTurnMove AfterReply (Slices event) = ⊤
 IsTurnMove when Stops = ⊤

@@ -2,13 +2,13 @@
 use Rattle.std.proofs.Common.{◌≡◌, Bool, false, Option, Some, None, sym, ap, ◌∙◌, inl, inr, ◌⊎◌}
 use Rattle.std.proofs.lemmas.Bool.{true≢false}
 use Rattle.std.proofs.lemmas.Option.{none-some}
-use Rattle.asm_base.specs.asm_formats.Items.{Item, Key, key}
+use Rattle.asm_base.specs.asm_formats.Items.{Item, Key, item_key}
 use Rattle.asm_base.proofs.Exact.{some_is}
 use Rattle.asm_base.proofs.ItemTables.{AreEntries, IsEntry}
 
 -- the item is that of an entry, or has a key of another kind and is no entry
 abbrev pub IsKnown : {X : Type 0} → (Key → Bool) → (X → Item) → (Item → Option X) → Item → Type 0
-IsKnown {X} is_mine item_of entry_of i = ((x : X) × (i ≡ item_of x)) ⊎ ((is_mine (key i) ≡ false) × (entry_of i ≡ None))
+IsKnown {X} is_mine item_of entry_of i = ((x : X) × (i ≡ item_of x)) ⊎ ((is_mine (item_key i) ≡ false) × (entry_of i ≡ None))
 
 pub entry_by : {X : Type 0} (is_mine : Key → Bool) (item_of : X → Item) (entry_of : Item → Option X) → ((i : Item) → IsKnown is_mine item_of entry_of i)
     → ((x : X) → entry_of (item_of x) ≡ Some x) → IsEntry item_of entry_of

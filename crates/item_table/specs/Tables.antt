@@ -9,7 +9,7 @@ use Rattle.std.specs.Map.{lookup, remove_entry}
 use Rattle.std.specs.Option.{option_map}
 use Rattle.asm_base.specs.asm_formats.Items.{Item}
 use Rattle.asm_base.specs.asm_formats.Values.{value}
-use Rattle.asm_base.specs.Records.{Entry, add_item}
+use Rattle.asm_base.specs.Records.{DirectoryRecord, add_item}
 use Rattle.asm_base.specs.Tables.{IsItemTable, entry_of_record, item_record}
 
 -- what is kept at a key
@@ -30,17 +30,17 @@ without_key cmp table key = remove_entry (is_at (cmp key)) table
 abbrev pub from_key : {K T : Type 0} → (K → K → Ordering) → List (K × T) → K → List (K × T)
 from_key cmp table key = entries_between cmp (Included key) Unbounded table
 
-abbrev pub is_before : {K : Type 0} → (K → K → Ordering) → K → K → Bool
-is_before cmp j k = is_lt (cmp j k)
+abbrev pub is_key_before : {K : Type 0} → (K → K → Ordering) → K → K → Bool
+is_key_before cmp j k = is_lt (cmp j k)
 
 -- the keys ascend, and each entry is an item of the formats
 abbrev pub IsTable : {K T : Type 0} → (K → K → Ordering) → (K × T → Item) → List (K × T) → Type 0
-IsTable cmp item_of table = IsItemTable (is_before cmp) item_of table
+IsTable cmp item_of table = IsItemTable (is_key_before cmp) item_of table
 
 -- ---- records
 
 -- the record of an entry
-abbrev pub record_of : {X : Type 0} → (X → Item) → X → Entry
+abbrev pub record_of : {X : Type 0} → (X → Item) → X → DirectoryRecord
 record_of item_of x = item_record (item_of x)
 
 -- the value of the record of a key
@@ -48,5 +48,5 @@ abbrev pub bytes_at : {K T : Type 0} → (K → K → Ordering) → (K × T → 
 bytes_at cmp item_of table key = option_map value (option_map (λ kept. item_of (key, kept)) (at_key cmp table key))
 
 -- the table with the entry of one record more, where it comes behind the others
-abbrev pub add : {K T : Type 0} → (K → K → Ordering) → (Item → Option (K × T)) → List (K × T) → Entry → Option (List (K × T))
-add cmp entry_of table e = add_item (is_before cmp) (entry_of_record entry_of) table e
+abbrev pub add_record : {K T : Type 0} → (K → K → Ordering) → (Item → Option (K × T)) → List (K × T) → DirectoryRecord → Option (List (K × T))
+add_record cmp entry_of table e = add_item (is_key_before cmp) (entry_of_record entry_of) table e

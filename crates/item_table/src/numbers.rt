@@ -7,11 +7,11 @@ use crate::listed::Listed;
 use crate::table::KeyTable;
 
 impl<T: Listed<u32>> KeyTable<u32, T> {
-    ghost use Rattle.item_table.specs.Numbers.{IsFreeFrom, IsLeastFrom, has_number};
+    ghost use Rattle.item_table.specs.Numbers.{IsFreeNumberFrom, IsLeastNumberFrom, has_number};
 
     /// The least number that is there and isn't below `least`.
     pub fn least_from(&self, least: u32) -> Option<u32>
-        ensures found { IfSome result (IsLeastFrom self.now least) }
+        ensures found { IfSome result (IsLeastNumberFrom self.now least) }
         ensures none { IfNone result ((k : ℕ) → least ≤ k → has_number self.now k ≡ false) }
     {
         match self.map.range(least..).next() {
@@ -22,7 +22,7 @@ impl<T: Listed<u32>> KeyTable<u32, T> {
 
     /// The least number that isn't below `least` and that is free, or None where there is none.
     pub fn free_from(&self, least: u32) -> Option<u32>
-        ensures found { IfSome result (IsFreeFrom self.now least) }
+        ensures found { IfSome result (IsFreeNumberFrom self.now least) }
         ensures none { IfNone result ((k : ℕ) → least ≤ k → k < 2 ^ 32 → IsTrue (has_number self.now k)) }
     {
         let mut free = least;

@@ -33,7 +33,7 @@ impl<K: Ord + Copy + Drop, T: Listed<K>> Model for KeyTable<K, T> {
 }
 
 impl<K: Ord + Copy + Drop, T: Listed<K>> KeyTable<K, T> {
-    ghost use Rattle.item_table.specs.Tables.{IsTable, add, at_key, bytes_at, from_key, has_key, is_before, record_of, with_key, without_key};
+    ghost use Rattle.item_table.specs.Tables.{IsTable, add_record, at_key, bytes_at, from_key, has_key, is_key_before, record_of, with_key, without_key};
 
     pub fn new(alloc: Global) -> KeyTable<K, T>
         ensures { result ≡ [] }
@@ -148,7 +148,7 @@ impl<K: Ord + Copy + Drop, T: Listed<K>> KeyTable<K, T> {
 
     #[tactic(auto, using(asm_base::proofs::Tables::read_taken, asm_base::proofs::Tables::read_refused), unfolding(asm_base::specs::Records::read_from))]
     fn read(alloc: Global, records: &Records) -> Result<Option<KeyTable<K, T>>, NoMemory>
-        ensures { IfOk result (λ read. read ≡ read_from T.is_mine (add K.cmp T.entry_of) [] records.now) }
+        ensures { IfOk result (λ read. read ≡ read_from T.is_mine (add_record K.cmp T.entry_of) [] records.now) }
     {
         let mut table = KeyTable::new(alloc);
         for (key, value) in records.iter() {
@@ -161,7 +161,7 @@ impl<K: Ord + Copy + Drop, T: Listed<K>> KeyTable<K, T> {
 
     /// Takes up one record more, or passes over one of another kind. `false` where it doesn't follow.
     fn take_up(&mut self, alloc: Global, key: Key, value: &Value) -> Result<bool, NoMemory>
-        ensures { IfOk result (λ taken. (if T.is_mine key then add K.cmp T.entry_of self.old (key, value.now) else Some self.old)
+        ensures { IfOk result (λ taken. (if T.is_mine key then add_record K.cmp T.entry_of self.old (key, value.now) else Some self.old)
             ≡ (if taken then Some self.new else None)) }
     {
         if !T::is_mine(key) {
@@ -180,7 +180,7 @@ impl<K: Ord + Copy + Drop, T: Listed<K>> KeyTable<K, T> {
 
     /// Whether a key comes behind the last one.
     fn ends_before(&self, key: K) -> bool
-        ensures ends { result ≡ ends_below (is_before K.cmp) self.now key }
+        ensures ends { result ≡ ends_below (is_key_before K.cmp) self.now key }
         ensures table { IsTable K.cmp T.item_of self.now }
     {
         match self.map.last_key_value() {

@@ -16,13 +16,13 @@ use Rattle.disk_modes.specs.Effects.{entry_forced}
 use Rattle.group_pieces.proofs.group_engine.Records.{record_parts}
 use Rattle.group_pieces.specs.group_engine.Mounts.{MountedGroup}
 use Rattle.group_mount.specs.Missing.{is_missing}
-use Rattle.group_mount.specs.NextRecord.{IsMarkOf, entry_after, has_number, moded}
+use Rattle.group_mount.specs.NextRecord.{IsMarkOf, entry_after_mount, has_entry_of_disk, moded}
 use Rattle.group_mount.proofs.NextRecords.{makes}
 use Rattle.group_mount.specs.declared.finding.Headed.{Headed}
 use Rattle.group_mount.specs.declared.quorum.Quorate.{Quorate}
-use Rattle.group_pieces.specs.Failing.{entry_failed, taken_off}
+use Rattle.group_pieces.specs.Failing.{entry_failed, offline_entry}
 use Rattle.asm_group.specs.Modes.{is_offline}
-use Rattle.disk_modes.specs.group_reports.Disks.{is_due, may_go, number_of}
+use Rattle.disk_modes.specs.group_reports.Disks.{is_repair_time_up, may_go, number_of_entry_if_any}
 use Rattle.mode_laws.specs.Events.{EntryChange, ModeChange, ModeEvent, by_expiry, by_fault, by_mark, by_missing}
 use Rattle.mode_laws.specs.Others.{FailedServe, ExpiryChanges, ExpiryTakes, FailedAreTaken, FailedChanges, MountChanges, MountFinds, WriteFailed, TakingOverChanges, a_mark, is_away, repair_at}
 use Rattle.mode_laws.specs.Statements.{group_entries}
@@ -40,19 +40,19 @@ find_passes {A} t (y ∷ xs) x is = go (t y) refl is (find_passes t xs x)
     go true passes is rest = let same = same_Some y x is in (inl (sym same), ap t (sym same) ∙ sym passes)
     go false passes is rest = let later = rest is in (inr later.0, later.1)
 
-found_number : (o : Option Entry) (d : ℕ) → number_of o ≡ Some d → (e : Entry) × (o ≡ Some e) × (e.number ≡ d)
+found_number : (o : Option Entry) (d : ℕ) → number_of_entry_if_any o ≡ Some d → (e : Entry) × (o ≡ Some e) × (e.number ≡ d)
 found_number None d is = absurd (none-some d is)
 found_number (Some e) d is = (e, refl, same_Some e.number d is)
 
-module _ (r : Status) (now d : ℕ) (there : (e : Entry) × (entry_of r.entries d ≡ Some e) × (is_due now e ≡ true)) where
+module _ (r : Status) (now d : ℕ) (there : (e : Entry) × (entry_of r.entries d ≡ Some e) × (is_repair_time_up now e ≡ true)) where
   one_expired : (e : Entry) → entry_of r.entries e.number ≡ Some e → (b : Bool) → (e.number == d) ≡ b
       → EntryChange (ExpiryTakes r now (Some d)) e (cond b (record e { mode = mode.Forced }) e)
   one_expired e at true is =
       let same = eqb-true e.number d is in
       let it = same_Some there.0 e (sym there.1 ∙ ap (entry_of r.entries) (sym same) ∙ at) in
       statements.moded (ExpiryTakes r now (Some d)) by_expiry e mode.Forced e.since e.repair
-      (record { is = ap (λ (n : ℕ). Some n) (sym same); entry = e; there = at; due = ap (is_due now) (sym it) ∙ there.2; event = refl })
-      (statements.it_comes (is_offline e.mode) mode.Forced (and_parts (is_offline e.mode) _ (ap (is_due now) (sym it) ∙ there.2)).0) refl
+      (record { is = ap (λ (n : ℕ). Some n) (sym same); entry = e; there = at; due = ap (is_repair_time_up now) (sym it) ∙ there.2; event = refl })
+      (statements.it_comes (is_offline e.mode) mode.Forced (and_parts (is_offline e.mode) _ (ap (is_repair_time_up now) (sym it) ∙ there.2)).0) refl
   one_expired e at false is = kept_entry (ExpiryTakes r now (Some d)) e
 
   forced_number : (e : Entry) (b : Bool) → (cond b (record e { mode = mode.Forced }) e).number ≡ e.number
@@ -68,12 +68,12 @@ expiry_changes now None old new allowed done =
     subst (λ (m : MountedGroup). ModeChange (ExpiryTakes old.register.value now None) (group_entries old) (group_entries m)) (sym done.1) (none_changed (ExpiryTakes old.register.value now None) (group_entries old))
 expiry_changes now (Some d) old new allowed done =
     let r = old.register.value in
-    let test : Entry → Bool = λ e. is_due now e && may_go old.catalog r e.number in
+    let test : Entry → Bool = λ e. is_repair_time_up now e && may_go old.catalog r e.number in
     let found = found_number (find test r.entries) d done.0 in
     let e = found.0 in
     let p = find_passes test r.entries e found.1 in
     let at = entry_found 0 r.entries e (record_parts r allowed).order p.0 in
-    let there : (x : Entry) × (entry_of r.entries d ≡ Some x) × (is_due now x ≡ true) = (e, ap (entry_of r.entries) (sym found.2) ∙ at, (and_parts (is_due now e) (may_go old.catalog r e.number) p.1).0) in
+    let there : (x : Entry) × (entry_of r.entries d ≡ Some x) × (is_repair_time_up now x ≡ true) = (e, ap (entry_of r.entries) (sym found.2) ∙ at, (and_parts (is_repair_time_up now e) (may_go old.catalog r e.number) p.1).0) in
     subst (ModeChange (ExpiryTakes r now (Some d)) r.entries) (sym done.1.entries)
     (partners_anew (ExpiryTakes r now (Some d)) r.entries (map (entry_forced d) r.entries) (all_expired r now d there))
 
@@ -81,13 +81,13 @@ expiry_changes now (Some d) old new allowed done =
 
 module _ (failed since repair : ℕ) where
   one_failed : (e : Entry) → (has_bit failed e.number ≡ true → serves e.mode ≡ true) → (b : Bool) → (nat_lt e.number 64 && has_bit failed e.number) ≡ b
-      → EntryChange (WriteFailed failed since repair) e (cond b (taken_off since repair e) e)
+      → EntryChange (WriteFailed failed since repair) e (cond b (offline_entry since repair e) e)
   one_failed e serving true is =
       let has = (and_parts (nat_lt e.number 64) (has_bit failed e.number) is).1 in
       statements.moded (WriteFailed failed since repair) (by_fault since repair) e mode.Offline since repair (has, refl) (statements.it_comes (serves e.mode) mode.Offline (serving has)) refl
   one_failed e serving false is = kept_entry (WriteFailed failed since repair) e
 
-  failed_number : (e : Entry) (b : Bool) → (cond b (taken_off since repair e) e).number ≡ e.number
+  failed_number : (e : Entry) (b : Bool) → (cond b (offline_entry since repair e) e).number ≡ e.number
   failed_number e true = refl
   failed_number e false = refl
 
@@ -111,12 +111,12 @@ failed_are_taken failed since r s d e f are small has was serving is =
 -- ---- a mount
 
 -- the disk has an entry
-has_its_number : (es : List Entry) (e : Entry) → IsAmong es e → has_number es e.number ≡ true
+has_its_number : (es : List Entry) (e : Entry) → IsAmong es e → has_entry_of_disk es e.number ≡ true
 has_its_number [] e h = absurd h
-has_its_number (x ∷ es) e (inl same) = ap (λ (b : Bool). b || has_number es e.number) (eq-eqb x.number e.number (ap (λ (y : Entry). y.number) (sym same)))
+has_its_number (x ∷ es) e (inl same) = ap (λ (b : Bool). b || has_entry_of_disk es e.number) (eq-eqb x.number e.number (ap (λ (y : Entry). y.number) (sym same)))
 has_its_number (x ∷ es) e (inr later) = go (x.number == e.number) (has_its_number es e later)
   where
-    go : (b : Bool) → has_number es e.number ≡ true → (b || has_number es e.number) ≡ true
+    go : (b : Bool) → has_entry_of_disk es e.number ≡ true → (b || has_entry_of_disk es e.number) ≡ true
     go true has = refl
     go false has = has
 
@@ -129,7 +129,7 @@ small_number es e all among = small_entry e (all_among is_entry es e all among)
 
 module _ (q : Quorate) (now : ℕ) where
   found_so : (e : Entry) → entry_of q.survey.value.entries e.number ≡ Some e → (b : Bool) → IsMarkOf q.catalog.tables e.number b → (a : Bool) → is_missing q.id q.headed.items e ≡ a
-      → EntryChange (MountFinds q now) e (entry_after a b now (repair_at q) e)
+      → EntryChange (MountFinds q now) e (entry_after_mount a b now (repair_at q) e)
   found_so e at b marks true is =
       statements.moded (MountFinds q now) (by_missing now (repair_at q)) e mode.Offline now (repair_at q) (is_away e at is)
       (statements.it_comes (serves e.mode) mode.Offline (and_parts (serves e.mode) _ is).0) refl
@@ -144,7 +144,7 @@ module _ (q : Quorate) (now : ℕ) where
       go true = kept_entry (MountFinds q now) e
       go false = kept_entry (MountFinds q now) e
 
-  after_number : (e : Entry) (a b : Bool) → (entry_after a b now (repair_at q) e).number ≡ e.number
+  after_number : (e : Entry) (a b : Bool) → (entry_after_mount a b now (repair_at q) e).number ≡ e.number
   after_number e true b = refl
   after_number e false b = go (is_online e.mode && b)
     where

@@ -13,7 +13,7 @@ use Rattle.disk_modes.specs.declared.dropping.DropDisk.{DropDisk}
 use Rattle.disk_modes.specs.declared.records.Becomes.{Becomes}
 use Rattle.disk_modes.specs.declared.records.Becomes.TheVariants as becomes
 use Rattle.disk_modes.specs.declared.records.NewModes.TheVariants as modes
-use Rattle.disk_modes.specs.Effects.{drop_to, entry_dropped, has_dropping, option_of}
+use Rattle.disk_modes.specs.Effects.{drop_to, entry_dropped, has_dropping, drop_option_of}
 use Rattle.disk_modes.specs.Modes.{drop_as, takes}
 use Rattle.disk_modes.specs.Records.{entries_after, entry_after, entry_as}
 use Rattle.disk_modes.specs.Sizes.{entry_resized, units_asked}
@@ -66,9 +66,9 @@ offline_changes disks now said old new taken done =
 -- ---- DROP
 
 one_dropped : (disks : List DropDisk) (e : Entry) → ((s : Statement) → named_drop disks e.number ≡ Some s → takes s e.mode ≡ true) → EntryChange (DropNames disks) e (entry_dropped disks e)
-one_dropped disks e taken = go (option_of disks e.number) refl
+one_dropped disks e taken = go (drop_option_of disks e.number) refl
   where
-    go : (o : Option Bool) → o ≡ option_of disks e.number → EntryChange (DropNames disks) e (entry_as (drop_to o) e)
+    go : (o : Option Bool) → o ≡ drop_option_of disks e.number → EntryChange (DropNames disks) e (entry_as (drop_to o) e)
     go None is = kept_entry (DropNames disks) e
     go (Some true) is =
         moded (DropNames disks) by_force e mode.Forced e.since e.repair (true, sym is, refl)
@@ -81,7 +81,7 @@ pub drop_changes : DropChanges
 drop_changes disks power old new taken done =
     subst (ModeChange (DropNames disks) (group_entries old)) (sym done.entries)
     (partners_anew (DropNames disks) (group_entries old) (map (entry_dropped disks) (group_entries old))
-    (all_changed (DropNames disks) (group_entries old) (entry_dropped disks) (λ e. same_number (drop_to (option_of disks e.number)) e)
+    (all_changed (DropNames disks) (group_entries old) (entry_dropped disks) (λ e. same_number (drop_to (drop_option_of disks e.number)) e)
     (λ e at among. one_dropped disks e (λ s. taken e s among))))
 
 -- ---- UNDROP

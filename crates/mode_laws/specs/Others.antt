@@ -18,7 +18,7 @@ use Rattle.group_mount.specs.declared.quorum.MountOption.TheVariants.{NoForce}
 use Rattle.group_mount.specs.declared.quorum.Quorate.{Quorate}
 use Rattle.group_mount.specs.declared.recovering.Parts.{Parts}
 use Rattle.group_pieces.specs.Failing.{AreOffline, status_failed}
-use Rattle.disk_modes.specs.group_reports.Disks.{is_due}
+use Rattle.disk_modes.specs.group_reports.Disks.{is_repair_time_up}
 use Rattle.mode_laws.specs.Events.{TakesEffect, ModeChange, ModeEvent, by_expiry, by_fault, by_mark, by_missing}
 use Rattle.mode_laws.specs.Statements.{group_entries}
 
@@ -29,7 +29,7 @@ pub record ExpiryTakes (r : Status) (now : ℕ) (expired : Option ℕ) (d : ℕ)
   pub is : expired ≡ Some d
   pub entry : Entry
   pub there : entry_of r.entries d ≡ Some entry
-  pub due : is_due now entry ≡ true
+  pub due : is_repair_time_up now entry ≡ true
   pub event : v ≡ by_expiry
 
 -- Modes change by expiry alone, and where no disk expires none does.

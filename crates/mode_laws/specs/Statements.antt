@@ -8,7 +8,7 @@ use Rattle.group_pieces.specs.group_engine.Mounts.{MountedGroup}
 use Rattle.disk_modes.specs.declared.checking.Statement.{Statement}
 use Rattle.disk_modes.specs.declared.checking.Statement.TheVariants as statement
 use Rattle.disk_modes.specs.declared.dropping.DropDisk.{DropDisk}
-use Rattle.disk_modes.specs.Effects.{DropsDisks, PutsRebalance, TakesOffline, Undrops, option_of}
+use Rattle.disk_modes.specs.Effects.{DropsDisks, PutsRebalance, TakesOffline, Undrops, drop_option_of}
 use Rattle.disk_modes.specs.Modes.{drop_as, takes}
 use Rattle.disk_modes.specs.Sizes.{ResizesDisks, units_asked}
 use Rattle.mode_laws.specs.Events.{ModeChange, ModeEvent, by_drop, by_force, by_offline, by_resize, by_undrop}
@@ -47,7 +47,7 @@ OfflineChanges =
 -- ---- DROP and UNDROP
 
 abbrev pub named_drop : List DropDisk → ℕ → Option Statement
-named_drop disks d = option_map drop_as (option_of disks d)
+named_drop disks d = option_map drop_as (drop_option_of disks d)
 
 abbrev pub drop_event : Bool → ModeEvent
 drop_event true = by_force
@@ -55,7 +55,7 @@ drop_event false = by_drop
 
 -- the statement names the disk, and this is the last option that it gives it
 abbrev pub DropNames : List DropDisk → ℕ → ModeEvent → Type 0
-DropNames disks d v = (force : Bool) × (option_of disks d ≡ Some force) × (v ≡ drop_event force)
+DropNames disks d v = (force : Bool) × (drop_option_of disks d ≡ Some force) × (v ≡ drop_event force)
 
 -- Once disks are dropped, modes have changed by the DROP that names them alone.
 abbrev pub DropChanges : Type 0

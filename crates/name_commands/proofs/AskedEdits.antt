@@ -23,7 +23,7 @@ use Rattle.asm_world.specs.Settings as t
 use Rattle.asm_world.specs.Statement as s
 use Rattle.asm_world.specs.Step.{edit_of, on_path, on_paths}
 use Rattle.asm_world.specs.World.{World}
-use Rattle.alias_edits.specs.Edits.{edit_meant, is_edit}
+use Rattle.alias_edits.specs.Edits.{edit_meant, is_tree_edit}
 use Rattle.alias_edits.specs.declared.editing.TreeEdit.{TreeEdit}
 use Rattle.alias_edits.specs.declared.editing.TreeEdit.TheVariants as tree
 use Rattle.template_directory.specs.Meant as templates
@@ -71,7 +71,7 @@ clause_alone name other is = absurd (false≢true is)
 
 pub edit_alone : (c : Command) → asks_edit c ≡ true → IsEditAlone c
 edit_alone (Said (s.Alter name clause)) is = clause_alone name clause is
-edit_alone (Asked (c.MakeDir path)) is = record { edits = refl; works = λ w below. refl; counts = λ paths cause s t. tt }
+edit_alone (Asked (c.MakeDirectory path)) is = record { edits = refl; works = λ w below. refl; counts = λ paths cause s t. tt }
 edit_alone (Asked (c.MakeAlias path alias)) is = record { edits = refl; works = λ w below. refl; counts = λ paths cause s t. tt }
 edit_alone (Asked (c.RemoveAlias path)) is = record { edits = refl; works = λ w below. refl; counts = λ paths cause s t. tt }
 edit_alone other is = absurd (false≢true is)
@@ -84,7 +84,7 @@ means text command asked is = meaning_is text command asked
 
 -- the edit is allowed, and makes a name only where the command does
 abbrev Suits : Command → e.TreeEdit → Type 0
-Suits command meant = ((is_edit meant && keeps_files meant) ≡ true) × (makes_node meant ≡ true → makes_name command ≡ true)
+Suits command meant = ((is_tree_edit meant && keeps_files meant) ≡ true) × (makes_node meant ≡ true → makes_name command ≡ true)
 
 both : (parts : Bool) → parts ≡ true → (parts && true) ≡ true
 both parts are = ap (λ (b : Bool). b && true) are
@@ -106,13 +106,13 @@ clause_suits name (s.RenameDirectory old new) meant is =
     two_paths (Suits (Said (s.Alter name (s.RenameDirectory old new)))) (clause_path name old) (clause_path name new) (λ p q. e.RenameDir p q)
     (λ p q from to. (both _ (paths_have_parts.clause name new q to), λ makes. absurd (false≢true makes))) meant is
 clause_suits name (s.AddAlias alias path) meant is =
-    two_paths (Suits (Said (s.Alter name (s.AddAlias alias path)))) (clause_path name alias) (clause_path name path) (λ p q. e.AddAlias p q)
+    two_paths (Suits (Said (s.Alter name (s.AddAlias alias path)))) (clause_path name alias) (clause_path name path) (λ p q. e.AddAliasEntry p q)
     (λ p q new there. (both _ (paths_have_parts.clause name alias p new), λ makes. refl)) meant is
 clause_suits name (s.RenameAlias old new) meant is =
-    two_paths (Suits (Said (s.Alter name (s.RenameAlias old new)))) (clause_path name old) (clause_path name new) (λ p q. e.RenameAlias p q)
+    two_paths (Suits (Said (s.Alter name (s.RenameAlias old new)))) (clause_path name old) (clause_path name new) (λ p q. e.RenameAliasEntry p q)
     (λ p q from to. (both _ (paths_have_parts.clause name new q to), λ makes. absurd (false≢true makes))) meant is
 clause_suits name (s.DropAlias path) meant is =
-    one_path (Suits (Said (s.Alter name (s.DropAlias path)))) (clause_path name path) (λ p. e.DropAlias p) (λ p at. (refl, λ makes. absurd (false≢true makes))) meant is
+    one_path (Suits (Said (s.Alter name (s.DropAlias path)))) (clause_path name path) (λ p. e.DropAliasEntry p) (λ p at. (refl, λ makes. absurd (false≢true makes))) meant is
 clause_suits name other meant is = absurd (none-some meant is)
 
 module _ (place : List Bytes) (text name : Bytes) (clause : s.Clause) (asked : command_of text ≡ Said (s.Alter name clause)) (is : is_edit_clause clause ≡ true) where
@@ -165,14 +165,14 @@ module _ (place : List Bytes) (text name : Bytes) (clause : s.Clause) (asked : c
 
 -- ---- templates and attributes
 
-copies_allowed : (o : Option s.Redundancy) → templates.are_copies (option_map t.copies_of o) ≡ true
+copies_allowed : (o : Option s.Redundancy) → templates.is_optional_redundancy (option_map t.copies_of o) ≡ true
 copies_allowed None = refl
 copies_allowed (Some s.Unprotected) = refl
 copies_allowed (Some s.Mirror) = refl
 copies_allowed (Some s.High) = refl
 
 -- copies that words say may be those of a template
-pub words_allowed : (name : Bytes) (words : s.TemplateWords) → is_name name ≡ true → (is_name name && templates.are_copies (t.copies_in words)) ≡ true
+pub words_allowed : (name : Bytes) (words : s.TemplateWords) → is_name name ≡ true → (is_name name && templates.is_optional_redundancy (t.copies_in words)) ≡ true
 words_allowed name words named = ap (λ (b : Bool). is_name name && b) (copies_allowed words.redundancy) ∙ both (is_name name) named
 
 by_part : (part : Bool) (bytes name : Bytes) → Some name ≡ (if part then Some bytes else None) → name ≡ bytes
@@ -199,8 +199,8 @@ attribute_unread g a name value is none =
 
 -- ---- verbs
 
-pub mkdir_asked : (place : List Bytes) (text path : Bytes) → command_of text ≡ Asked (c.MakeDir path) → AsksAt place (meaning text) path at.MakeDir
-mkdir_asked place text path asked = subst (λ (c : Command). AsksAt place c path at.MakeDir) (sym (means text (Asked (c.MakeDir path)) asked refl)) (record { is_edit = refl; asks = refl; makes = λ p makes. refl })
+pub mkdir_asked : (place : List Bytes) (text path : Bytes) → command_of text ≡ Asked (c.MakeDirectory path) → AsksAt place (meaning text) path at.MakeDir
+mkdir_asked place text path asked = subst (λ (c : Command). AsksAt place c path at.MakeDir) (sym (means text (Asked (c.MakeDirectory path)) asked refl)) (record { is_edit = refl; asks = refl; makes = λ p makes. refl })
 
 pub rmalias_asked : (place : List Bytes) (text path : Bytes) → command_of text ≡ Asked (c.RemoveAlias path) → AsksAt place (meaning text) path at.DropAlias
 rmalias_asked place text path asked = subst (λ (c : Command). AsksAt place c path at.DropAlias) (sym (means text (Asked (c.RemoveAlias path)) asked refl))
@@ -208,7 +208,7 @@ rmalias_asked place text path asked = subst (λ (c : Command). AsksAt place c pa
 
 module _ (place : List Bytes) (command : Command) (path : Bytes) (kind : AtPath) (asks : AsksAt place command path kind) where
   abbrev edits_there : Path → Group → Result Group r.Refusal
-  edits_there p g = e.edited g (edit_at kind p)
+  edits_there p g = e.edited_group g (edit_at kind p)
 
   -- in the group to which its path leads, under a copy of its name
   pub led_asked : (led : code.Path) (name : Bytes) → IsLedTo place path led → name ≡ led.group → (edit : TreeEdit) → edit_meant edit ≡ edit_at kind led.parts → AsksForEdit place command name (Tree edit)
@@ -218,7 +218,7 @@ module _ (place : List Bytes) (command : Command) (path : Bytes) (kind : AtPath)
       is_edit = asks.is_edit;
       asks = asks.asks ∙ ap (λ (o : Option (Bytes × Path)). at_led o edits_there) leads ∙ ap (λ (n : Bytes). Some (n, edits_there led.parts)) (sym copied);
     };
-    same = λ g same. ap (λ (x : e.TreeEdit). e.edited g x) (sym meant);
+    same = λ g same. ap (λ (x : e.TreeEdit). e.edited_group g x) (sym meant);
     makes = λ wants. asks.makes led.parts (ap makes_node (sym meant) ∙ wants);
   }
 
@@ -270,7 +270,7 @@ module _ (place : List Bytes) (command : Command) (alias : code.Path) (path name
   alias_elsewhere file leads other = record {
     change = by_file (Some (file.group, file.parts));
     asks = changes_by (Some (file.group, file.parts)) leads;
-    refused = λ g same. ap (λ (b : Bool). if b then e.edited g (e.AddAlias alias.parts file.parts) else Err r.NoName) (same_alike file.group name g.name false same other);
+    refused = λ g same. ap (λ (b : Bool). if b then e.edited_group g (e.AddAliasEntry alias.parts file.parts) else Err r.NoName) (same_alike file.group name g.name false same other);
   }
 
   -- it leads into the alias's group
@@ -278,6 +278,6 @@ module _ (place : List Bytes) (command : Command) (alias : code.Path) (path name
   alias_asked file leads own = record {
     change = by_file (Some (file.group, file.parts));
     asks = changes_by (Some (file.group, file.parts)) leads;
-    same = λ g same. ap (λ (b : Bool). if b then e.edited g (e.AddAlias alias.parts file.parts) else Err r.NoName) (same_alike file.group name g.name true same own);
+    same = λ g same. ap (λ (b : Bool). if b then e.edited_group g (e.AddAliasEntry alias.parts file.parts) else Err r.NoName) (same_alike file.group name g.name true same own);
     makes = λ wants. asks.makes;
   }

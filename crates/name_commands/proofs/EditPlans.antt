@@ -1,6 +1,6 @@
 -- Edits of tables: the tables to which each leads, and why one is refused.
 use Rattle.std.proofs.Common.{◌≡◌, ◌⊎◌, inl, inr, ℕ, true, false, List, [], Result, Ok, refl, true≢false}
-use Rattle.asm_base.specs.Records.{Entry}
+use Rattle.asm_base.specs.Records.{DirectoryRecord}
 use Rattle.asm_base.specs.Refusals.{said}
 use Rattle.asm_base.specs.declared.refusal.Refusal.{Refusal}
 use Rattle.asm_base.specs.declared.refusal.Refusal.TheVariants as cause
@@ -20,7 +20,7 @@ use Rattle.session.proofs.edit_laws.OfTables.{refusal_is_of_tables}
 use Rattle.session.specs.group_files.GroupEdits.{IsEditPlan, IsEditRefusedAs}
 use Rattle.session.specs.group_files.declared.edit.GroupEdit.{GroupEdit}
 use Rattle.session.specs.group_files.declared.edit.GroupEdit.TheVariants.{Tree, Templates, SetAttribute}
-use Rattle.session.specs.group_of.Edits.{IsRefusedBeside, IsWorldsRefusal, full, no_memory, refused, with_settings, with_templates, with_tree, worlds}
+use Rattle.session.specs.group_of.Edits.{IsRefusedBeside, IsWorldsRefusal, full, no_memory, same_refusal, with_settings, with_templates, with_tree, worlds}
 use Rattle.session.specs.group_of.Groups.{group_of}
 use Rattle.session.proofs.group_of.Refusals.{refuses_too}
 use Rattle.world_steps.specs.Steps.{tells_disk}
@@ -29,12 +29,12 @@ use Rattle.name_commands.specs.Asking.{wants_record}
 -- ---- plans
 
 -- the tables to which the plan of an edit leads
-abbrev pub planned : (c : Catalogued) (edit : GroupEdit) (put : List Entry) (gone : List Key) → IsEditPlan c edit put gone → Tables
+abbrev pub planned : (c : Catalogued) (edit : GroupEdit) (put : List DirectoryRecord) (gone : List Key) → IsEditPlan c edit put gone → Tables
 planned c (Tree edit) put gone p = with_tree c.tables (names.edit_meant edit) p.nodes
 planned c (Templates edit) put gone p = with_templates c.tables p.templates
 planned c (SetAttribute name value) put gone p = with_settings c.tables p.settings
 
-pub planned_after : (c : Catalogued) (edit : GroupEdit) (put : List Entry) (gone : List Key) (p : IsEditPlan c edit put gone) → IsAfter c.tables put gone (planned c edit put gone p)
+pub planned_after : (c : Catalogued) (edit : GroupEdit) (put : List DirectoryRecord) (gone : List Key) (p : IsEditPlan c edit put gone) → IsAfter c.tables put gone (planned c edit put gone p)
 planned_after c (Tree edit) put gone p = p.plan.after
 planned_after c (Templates edit) put gone p = p.plan.after
 planned_after c (SetAttribute name value) put gone p = p.plan.after
@@ -63,7 +63,7 @@ unfolding group_of
 refused_by name c cells (Tree edit) refusal (inl memory) = inl (no_memory memory)
 refused_by name c cells (Tree edit) refusal (inr (inl same)) =
     let meant = names.edit_meant edit in
-    inl (refused (refuses_too (first_cause (e.edit_causes (tree_of c.tables.nodes) meant)) (e.changed (tree_of c.tables.nodes) meant) (world.changed (group_of name c.shape c.tables cells) meant) (said (λ n. []) refusal) same))
+    inl (same_refusal (refuses_too (first_cause (e.edit_causes (tree_of c.tables.nodes) meant)) (e.changed (tree_of c.tables.nodes) meant) (world.changed_group (group_of name c.shape c.tables cells) meant) (said (λ n. []) refusal) same))
 refused_by name c cells (Tree edit) refusal (inr (inr (is, few))) =
     lacks (edited_by (group_of name c.shape c.tables cells) (Tree edit)) (Tree edit) refusal few.makes (refusal_is_of_tables name c cells (Tree edit) refusal (inr (inr (is, few))))
 refused_by name c cells (Templates edit) refusal why = inl (refusal_is_of_tables name c cells (Templates edit) refusal why)

@@ -39,7 +39,7 @@ use Rattle.session.specs.group_engine.declared.access.Access.TheVariants as acce
 use Rattle.session.specs.group_files.Edits.{Edits, IsCommitted, IsUnplanned}
 use Rattle.session.specs.group_files.GroupEdits.{IsEditPlan, IsEditRefusal, is_group_edit}
 use Rattle.session.specs.group_files.declared.edit.GroupEdit.{GroupEdit}
-use Rattle.session.specs.group_of.Edits.{IsWorldsRefusal, no_memory, refused}
+use Rattle.session.specs.group_of.Edits.{IsWorldsRefusal, no_memory, same_refusal}
 use Rattle.session.specs.group_of.Groups.{HasCells, group_of}
 use Rattle.session.specs.session_claims.Claims.{IsPaired, KeepsWorlds, StandsFor}
 use Rattle.session.specs.session_claims.Laws.{CommitsEdit, EditsTo, ReplacesGroups}
@@ -79,7 +79,7 @@ pub record IsEdited (es entries' : List SessionEntry) (groups groups' : List Mou
   pub found : group_among es groups name ≡ Some before
   pub apart : AreNamesApart es
   pub lengths : length groups ≡ length es
-  pub groups_are : groups' ≡ session.with_group es groups name after
+  pub groups_are : groups' ≡ session.with_group_named es groups name after
   pub entries_are : entries' ≡ with_state es name (state_view after)
 
 -- the reply to an edit that was answered so
@@ -190,7 +190,7 @@ module _ (paths : List Bytes) (text name : Bytes) (edit : GroupEdit) (allowed : 
 
     module _ (same : after ≡ before) (runs : Runs (λ (slot : ℕ). ⊥) Same s t) where
       groups_stay : now.groups ≡ was.groups
-      groups_stay = edited.groups_are ∙ ap (λ (m : MountedGroup). session.with_group w.session was.groups name m) same ∙ same_group w.session was.groups name before edited.found
+      groups_stay = edited.groups_are ∙ ap (λ (m : MountedGroup). session.with_group_named w.session was.groups name m) same ∙ same_group w.session was.groups name before edited.found
 
       idle : (c : r.Refusal) → MayAnswer (below_with below unread) w (meaning text) (Refused [] c) w → Ends (Refused [] c)
       idle c may = (
@@ -208,7 +208,7 @@ module _ (paths : List Bytes) (text name : Bytes) (edit : GroupEdit) (allowed : 
       by_worlds raw (no_memory is) =
           let none : said (disk_name after) raw ≡ r.NoMemory = as_is (disk_name after) raw (ap tells_disk is) ∙ is in
           subst (λ (c : r.Refusal). Ends (Refused [] c)) (sym none) (unknown (Refused [] r.NoMemory) (short paths text asks_edit_so was now s t calls past below w))
-      by_worlds raw (refused is) =
+      by_worlds raw (same_refusal is) =
           let world_is : edited_in at ≡ Err (said (λ n. []) raw) = as_asked ∙ is in
           let same_said = as_is (disk_name after) raw (tells_no_disk w.place (meaning text) name asks.change g (said (λ n. []) raw) asks_edit_so asks.asks.asks world_is) in
           subst (λ (c : r.Refusal). Ends (Refused [] c)) (sym same_said) (idle (said (λ n. []) raw) (answers_edits.refused (below_with below unread) w (meaning text) at (said (λ n. []) raw) world_is))
@@ -302,7 +302,7 @@ module _ (paths : List Bytes) (text name : Bytes) (edit : GroupEdit) (allowed : 
         all_done f m k at_f on_f only named = ⊎_elim
             (λ mine.
             let was_there = subst (λ (l : List MountedGroup). IsPaired w.session l f m) edited.groups_are at_f in
-            let f_among : IsAmong w.session f = paired_among w.session (session.with_group w.session was.groups name after) f m was_there in
+            let f_among : IsAmong w.session f = paired_among w.session (session.with_group_named w.session was.groups name after) f m was_there in
             let one : f ≡ entry = one_named w.session name entry f edited.apart edited.named f_among mine.0 in
             let alike : h ≡ k = cons_same h k (sym (at_id w w_done entry.id (h ∷ []) replaces) ∙ ap (λ (x : SessionEntry). groups_of w_done x.id) (sym one) ∙ only) in
             subst (λ (x : Group). IsToldBy m x) alike (subst (λ (x : MountedGroup). IsToldBy x h) (sym mine.1) told_done))
@@ -330,7 +330,7 @@ module _ (paths : List Bytes) (text name : Bytes) (edit : GroupEdit) (allowed : 
                 pairs = λ f m at_f on_f. ⊎_elim
                     (λ mine.
                     let was_there = subst (λ (l : List MountedGroup). IsPaired w.session l f m) edited.groups_are at_f in
-                    let f_among : IsAmong w.session f = paired_among w.session (session.with_group w.session was.groups name after) f m was_there in
+                    let f_among : IsAmong w.session f = paired_among w.session (session.with_group_named w.session was.groups name after) f m was_there in
                     inl (ap (λ (x : SessionEntry). x.id) (one_named w.session name entry f edited.apart edited.named f_among mine.0), mine.1))
                     (λ other. inr (other_entry stands.ids f m other.1 on_f other.0, other.1))
                     (paired_with w.session was.groups name after f m edited.apart (subst (λ (l : List MountedGroup). IsPaired w.session l f m) edited.groups_are at_f));

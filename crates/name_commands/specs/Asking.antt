@@ -54,7 +54,7 @@ AsksAsRead place command name (Some edit) = AsksForEdit place command name (Tree
 -- The command asks for an edit of names of one kind, where the path of a verb leads.
 pub record AsksAt (place : List Bytes) (command : Command) (path : Bytes) (kind : AtPath) : Type 0 where
   pub is_edit : asks_edit command ≡ true
-  pub asks : change_of place command ≡ at_led (target_from place path) (λ p g. e.edited g (edit_at kind p))
+  pub asks : change_of place command ≡ at_led (target_from place path) (λ p g. e.edited_group g (edit_at kind p))
   pub makes : (p : paths.Path) → makes_node (edit_at kind p) ≡ true → makes_name command ≡ true
 
 -- The command asks for an alias at this path of a group, of the file to which the path of a verb leads.

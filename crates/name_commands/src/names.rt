@@ -2,7 +2,7 @@
 ghost use Rattle.std.specs.Prelude.{◌≡◌, true, IfOk};
 ghost use Rattle.std.specs.Option.{option_map};
 ghost use Rattle.alias_edits.specs.Edits.{edit_meant};
-ghost use Rattle.asm_world.specs.Command.{Said, Asked, MakeDir, MakeAlias, RemoveAlias};
+ghost use Rattle.asm_world.specs.Command.{Said, Asked, MakeDirectory, MakeAlias, RemoveAlias};
 ghost use Rattle.asm_world.specs.Language.{command_of};
 ghost use Rattle.asm_world.specs.Paths.{clause_path};
 ghost use Rattle.asm_world.specs.Statement.{Alter, AddDirectory, DropDirectory, RenameDirectory, AddAlias, DropAlias, RenameAlias};
@@ -309,7 +309,7 @@ pub fn rename_alias<B: Bay, H: Host>(
 
 /// mkdir.
 pub fn make_directory<B: Bay, H: Host>(desk: &mut Desk<B, H>, text: &[u8], path: Text) -> Answer
-    requires asked { command_of text.now ≡ Asked (MakeDir path) }
+    requires asked { command_of text.now ≡ Asked (MakeDirectory path) }
     requires ready { AreReady desk.old.session.groups (B.state desk.old.bay) }
     ensures answers { IsAnswered text.now result desk.old desk.new }
 {

@@ -4,7 +4,7 @@ ghost use Rattle.asm_world.specs.Command.{Said};
 ghost use Rattle.asm_world.specs.Language.{command_of};
 ghost use Rattle.asm_world.specs.Settings.{added_by, copies_in, modified_by, stripe_in};
 ghost use Rattle.asm_world.specs.Statement.{Alter, AddTemplate, ModifyTemplate, DropTemplate, SetAttribute};
-ghost use Rattle.template_directory.specs.Meant.{edit_meant};
+ghost use Rattle.template_directory.specs.Meant.{template_edit_meant};
 ghost use Rattle.session.specs.Desks.{IsAnswered};
 ghost use Rattle.session.specs.Sessions.{AreReady};
 
@@ -38,7 +38,7 @@ fn stripe_in(words: &TemplateWords) -> Stripe
 }
 
 fn added_by(name: Name, words: &TemplateWords) -> TemplateEdit
-    ensures { edit_meant result ≡ added_by name words.now }
+    ensures { template_edit_meant result ≡ added_by name words.now }
 {
     TemplateEdit::Add {
         name,
@@ -48,7 +48,7 @@ fn added_by(name: Name, words: &TemplateWords) -> TemplateEdit
 }
 
 fn modified_by(name: Name, words: &TemplateWords) -> TemplateEdit
-    ensures { edit_meant result ≡ modified_by name words.now }
+    ensures { template_edit_meant result ≡ modified_by name words.now }
 {
     TemplateEdit::Modify {
         name,

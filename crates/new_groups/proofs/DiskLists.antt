@@ -14,7 +14,7 @@ use Rattle.directory_store.specs.change_directory.Places.{IsCopy}
 use Rattle.directory_store.specs.change_directory.declared.copy.DirCopy.{DirCopy}
 use Rattle.directory_store.specs.Copies as copies
 use Rattle.directory_store.specs.Stores.{HaveOneSize}
-use Rattle.group_disks.specs.group_mount.NamedCopies.{copy_of}
+use Rattle.group_disks.specs.group_mount.NamedCopies.{directory_copy_of}
 use Rattle.group_disks.specs.group_mount.Recovering.{AreDisksOf}
 use Rattle.group_disks.specs.group_mount.Verdicts.{IsSlotIn, member_of}
 use Rattle.group_disks.specs.group_mount.declared.finding.Headed.{Headed}
@@ -25,7 +25,7 @@ use Rattle.status_register.specs.Holders.{is_of}
 use Rattle.status_register.specs.Places.{HasSlots}
 use Rattle.status_register.specs.Registered.{AreNumbered, all_placed}
 use Rattle.status_register.specs.Rows as rows
-use Rattle.status_register.specs.Surveys.{is_there}
+use Rattle.status_register.specs.Surveys.{is_holder_there}
 use Rattle.status_register.specs.Tallies.{HaveSlots}
 use Rattle.status_register.specs.Writes.{first_register}
 use Rattle.status_register.specs.declared.member.Member.{Member}
@@ -65,23 +65,23 @@ from_holders set (h ∷ hs) m among =
     (λ (l : List Member). IsAmong l m → (k : Headed) × IsAmong (h ∷ hs) k × (m ≡ member_of k))
     (λ is a. ⊎_elim (λ e. (h, inl refl, e)) later a) (λ no. later) among
 
-pub from_copies : (set : ℕ) (hs : List Headed) (c : DirCopy) → IsAmong (copy_list set hs) c → (h : Headed) × IsAmong hs h × (c ≡ copy_of h) × (has_bit set h.header.number ≡ true)
+pub from_copies : (set : ℕ) (hs : List Headed) (c : DirCopy) → IsAmong (copy_list set hs) c → (h : Headed) × IsAmong hs h × (c ≡ directory_copy_of h) × (has_bit set h.header.number ≡ true)
 from_copies set [] c among = absurd among
 from_copies set (h ∷ hs) c among =
-    let later : IsAmong (copy_list set hs) c → (k : Headed) × IsAmong (h ∷ hs) k × (c ≡ copy_of k) × (has_bit set k.header.number ≡ true) = λ a. let k = from_copies set hs c a in (k.0, inr k.1, k.2, k.3) in
-    cond_both (has_bit set h.header.number) (copy_of h ∷ copy_list set hs) (copy_list set hs)
-    (λ (l : List DirCopy). IsAmong l c → (k : Headed) × IsAmong (h ∷ hs) k × (c ≡ copy_of k) × (has_bit set k.header.number ≡ true))
+    let later : IsAmong (copy_list set hs) c → (k : Headed) × IsAmong (h ∷ hs) k × (c ≡ directory_copy_of k) × (has_bit set k.header.number ≡ true) = λ a. let k = from_copies set hs c a in (k.0, inr k.1, k.2, k.3) in
+    cond_both (has_bit set h.header.number) (directory_copy_of h ∷ copy_list set hs) (copy_list set hs)
+    (λ (l : List DirCopy). IsAmong l c → (k : Headed) × IsAmong (h ∷ hs) k × (c ≡ directory_copy_of k) × (has_bit set k.header.number ≡ true))
     (λ is a. ⊎_elim (λ e. (h, inl refl, e, is)) later a) (λ no. later) among
 
-pub in_copies : (set : ℕ) (hs : List Headed) (h : Headed) → IsAmong hs h → has_bit set h.header.number ≡ true → IsAmong (copy_list set hs) (copy_of h)
+pub in_copies : (set : ℕ) (hs : List Headed) (h : Headed) → IsAmong hs h → has_bit set h.header.number ≡ true → IsAmong (copy_list set hs) (directory_copy_of h)
 in_copies set [] h among bit = absurd among
 in_copies set (k ∷ ks) h (inl e) bit =
-    subst (λ (l : List DirCopy). IsAmong l (copy_of h))
-    (sym (cond-true (has_bit set k.header.number) (copy_of k ∷ copy_list set ks) (copy_list set ks) (ap (λ (x : Headed). has_bit set x.header.number) (sym e) ∙ bit)))
-    (inl (ap copy_of e))
+    subst (λ (l : List DirCopy). IsAmong l (directory_copy_of h))
+    (sym (cond-true (has_bit set k.header.number) (directory_copy_of k ∷ copy_list set ks) (copy_list set ks) (ap (λ (x : Headed). has_bit set x.header.number) (sym e) ∙ bit)))
+    (inl (ap directory_copy_of e))
 in_copies set (k ∷ ks) h (inr later) bit =
     let there = in_copies set ks h later bit in
-    cond_both (has_bit set k.header.number) (copy_of k ∷ copy_list set ks) (copy_list set ks) (λ (l : List DirCopy). IsAmong l (copy_of h)) (λ is. inr there) (λ no. there)
+    cond_both (has_bit set k.header.number) (directory_copy_of k ∷ copy_list set ks) (copy_list set ks) (λ (l : List DirCopy). IsAmong l (directory_copy_of h)) (λ is. inr there) (λ no. there)
 
 from_disks : (hs : List Headed) (x : Member × ℕ) → IsAmong (disk_list hs) x → (h : Headed) × IsAmong hs h × (x ≡ (member_of h, h.size))
 from_disks [] x among = absurd among
@@ -113,7 +113,7 @@ copies_apart : (set : ℕ) (hs : List Headed) → AreDisksApart hs → copies.Ar
 copies_apart set [] apart = tt
 copies_apart set (h ∷ hs) apart =
     let later : copies.AreCopiesApart (copy_list set hs) = copies_apart set hs apart.1 in
-    cond_both (has_bit set h.header.number) (copy_of h ∷ copy_list set hs) (copy_list set hs) copies.AreCopiesApart
+    cond_both (has_bit set h.header.number) (directory_copy_of h ∷ copy_list set hs) (copy_list set hs) copies.AreCopiesApart
     (λ is. (
       (λ c among. let k = from_copies set hs c among in (
         (λ same. (apart.0 k.0 k.1).0 (ap (λ (x : DirCopy). x.slot) (sym k.2) ∙ sym same)),
@@ -166,10 +166,10 @@ module _ (d : Draft) (agrees : HasAgreeingParts d) where
   pub members_numbered : AreNumbered (member_list hs)
   members_numbered m among = let k = from_members hs m among in omega (arith, ap (λ (x : Member). x.number) k.2, header_of k.0 k.1)
 
-  pub members_are_apart : rows.AreApart (member_list hs)
+  pub members_are_apart : rows.HaveOwnSlots (member_list hs)
   members_are_apart = apart_list (member_list hs) (members_apart hs agrees.apart)
 
-  pub holders_are_apart : rows.AreApart (holder_list d.status.holders hs)
+  pub holders_are_apart : rows.HaveOwnSlots (holder_list d.status.holders hs)
   holders_are_apart = apart_list (holder_list d.status.holders hs) (holders_apart d.status.holders hs agrees.apart)
 
   pub holders_few : length (holder_list d.status.holders hs) ≤ 512
@@ -192,7 +192,7 @@ module _ (d : Draft) (agrees : HasAgreeingParts d) where
     pub holders_slots : HaveSlots state (holder_list d.status.holders hs)
     holders_slots m among = let k = from_holders d.status.holders hs m among in subst (λ (x : Member). HasSlots state x.slot x.sector) (sym k.2) (slots_of k.0 k.1)
 
-    copy_at : (h : Headed) → IsAmong hs h → IsCopy state (copy_of h)
+    copy_at : (h : Headed) → IsAmong hs h → IsCopy state (directory_copy_of h)
     copy_at h among =
         let pages = pages_of h.header.shape (member_shape h.header (agrees.right h among).header) in
         record {
@@ -231,15 +231,15 @@ module _ (d : Draft) (agrees : HasAgreeingParts d) where
       let same : k.0 ≡ h = one_number hs agrees.apart k.0 h k.1 among (ap (λ (x : Member). x.number) (sym k.2) ∙ good.2) in
       good.1 ∙ ap (λ (x : Member). Some x) (k.2 ∙ ap member_of same)
 
-  there_by : (ms : List Member) (h : Holder) (m : Member) → IsAmong ms m → m.number ≡ h.0 → m.birth ≡ h.1 → is_there ms h ≡ true
+  there_by : (ms : List Member) (h : Holder) (m : Member) → IsAmong ms m → m.number ≡ h.0 → m.birth ≡ h.1 → is_holder_there ms h ≡ true
   there_by [] h m among number birth = absurd among
   there_by (x ∷ xs) h m (inl e) number birth =
-      or_left ((x.number == h.0) && (x.birth == h.1)) (is_there xs h)
+      or_left ((x.number == h.0) && (x.birth == h.1)) (is_holder_there xs h)
       (and_from (x.number == h.0) (x.birth == h.1) (eq-eqb x.number h.0 (ap (λ (y : Member). y.number) (sym e) ∙ number)) (eq-eqb x.birth h.1 (ap (λ (y : Member). y.birth) (sym e) ∙ birth)))
-  there_by (x ∷ xs) h m (inr later) number birth = or_right ((x.number == h.0) && (x.birth == h.1)) (is_there xs h) (there_by xs h m later number birth)
+  there_by (x ∷ xs) h m (inr later) number birth = or_right ((x.number == h.0) && (x.birth == h.1)) (is_holder_there xs h) (there_by xs h m later number birth)
 
   -- each holder is there
-  pub all_there : (h : Holder) → IsAmong (disks_of entries d.status.holders) h → IsTrue (is_there (member_list hs) h)
+  pub all_there : (h : Holder) → IsAmong (disks_of entries d.status.holders) h → IsTrue (is_holder_there (member_list hs) h)
   all_there h among =
       let disk = disk_is entries d.status.holders h among in
       let k = agrees.holders h.0 disk.small disk.bit in
@@ -265,7 +265,7 @@ module _ (d : Draft) (agrees : HasAgreeingParts d) where
         });
     all = λ n named.
         let k = agrees.directories n (element_small d.status.directories n named) (element_bit d.status.directories n named) in
-        (copy_of k.0, in_copies d.status.directories hs k.0 k.1 (ap (has_bit d.status.directories) k.2 ∙ element_bit d.status.directories n named), k.2);
+        (directory_copy_of k.0, in_copies d.status.directories hs k.0 k.1 (ap (has_bit d.status.directories) k.2 ∙ element_bit d.status.directories n named), k.2);
   }
 
   pub placed_number : (i : ℕ) (m : Member) → get_or places i None ≡ Some m → m.number ≡ i

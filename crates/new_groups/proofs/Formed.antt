@@ -39,7 +39,7 @@ use Rattle.status_table.proofs.Allowed.{parts_of}
 use Rattle.status_register.specs.Reaching.{Reaches}
 use Rattle.status_register.specs.Registered.{Registered}
 use Rattle.status_register.specs.Writes.{first_register}
-use Rattle.new_groups.specs.Drafts.{HasAgreeingParts, AreFree, copy_list, disk_list, member_list}
+use Rattle.new_groups.specs.Drafts.{HasAgreeingParts, AreFreeDisks, copy_list, disk_list, member_list}
 use Rattle.new_groups.specs.Forming.{AreDisks, AreHeadable, AreLong, AreParts, IsFormed, IsMountedOf, Works}
 use Rattle.new_groups.specs.declared.draft.Draft.{Draft}
 use Rattle.new_groups.specs.declared.forming.Formed.{Formed}
@@ -52,7 +52,7 @@ entries_right r ok = (parts_of r ok).all
 
 -- ---- the disks
 
-pub disks_there : (n : ℕ) (held : List ℕ) (hs : List Headed) (s : BayState) → AreFree n held hs s → AreDisks hs s
+pub disks_there : (n : ℕ) (held : List ℕ) (hs : List Headed) (s : BayState) → AreFreeDisks n held hs s → AreDisks hs s
 disks_there n held hs s free h among = record { attached = (free h among).attached; long = (free h among).long }
 
 pub disks_stay : (hs : List Headed) {s t : BayState} → KeepsAttached s t → AreDisks hs s → AreDisks hs t
@@ -139,7 +139,7 @@ module _ (d : Draft) (agrees : HasAgreeingParts d) where
       (whole_of cat f.store parts.copies is_catalog shape (subst (λ (x : Registered). Reaches x.members x.value) parts.register reached) state disks))
 
   -- it takes calls, and no slot that others hold is one of its disks'
-  pub newly : (n : ℕ) (held : List ℕ) (f : Formed) (m : MountedGroup) (s t : BayState) → AreFree n held hs s → KeepsAttached s t → IsFormed d f t → IsMountedOf d f m → IsWhole m
+  pub newly : (n : ℕ) (held : List ℕ) (f : Formed) (m : MountedGroup) (s t : BayState) → AreFreeDisks n held hs s → KeepsAttached s t → IsFormed d f t → IsMountedOf d f m → IsWhole m
       → IsNewlyMounted held d.name (Some d.status.id) m t
   newly n held f m s t free attached formed is whole =
       let disks : AreDisks hs t = disks_stay hs attached (disks_there n held hs s free) in
@@ -166,7 +166,7 @@ newly_as held wanted name other id own m s same named numbered is =
 
 -- ---- what others hold stays
 
-pub work_spares : (n : ℕ) (held : List ℕ) (hs : List Headed) {s m t : BayState} → AreFree n held hs m → SparesHeld held n s m → Works hs m t → SparesHeld held n s t
+pub work_spares : (n : ℕ) (held : List ℕ) (hs : List Headed) {s m t : BayState} → AreFreeDisks n held hs m → SparesHeld held n s m → Works hs m t → SparesHeld held n s t
 work_spares n held hs {s} {m} {t} free before works =
     spares_on held n before
     (spares_some held n (λ slot is. subst (λ (k : ℕ). k < n) (sym is.2) (free is.0 is.1).inside)

@@ -18,9 +18,9 @@ use Rattle.disk_images.specs.Looks.{AreLooked, IsLooked}
 use Rattle.disk_images.specs.declared.looking.Looked.{Looked}
 use Rattle.disk_images.specs.declared.looking.Looked.TheVariants.{Absent, Unread, Read}
 use Rattle.group_disks.specs.group_mount.declared.finding.Headed.{Headed}
-use Rattle.new_groups.specs.Drafts.{HasAgreeingParts, AreDisksApart, AreFree, IsFree, IsRight}
+use Rattle.new_groups.specs.Drafts.{HasAgreeingParts, AreDisksApart, AreFreeDisks, IsFreeDisk, IsRight}
 use Rattle.new_groups.specs.Preparing.{IsPrepared}
-use Rattle.new_groups.specs.Tests.{are_apart, are_fit, has_disk, have_disks, is_apart, is_right, is_there, may_form, shows_size}
+use Rattle.new_groups.specs.Tests.{are_disks_apart, are_fit, has_disk_number, have_disks, is_apart, is_right_disk, is_image_there, may_form, shows_size}
 use Rattle.group_disks.specs.group_mount.Founds.{is_held}
 use Rattle.new_groups.specs.declared.draft.Draft.{Draft}
 use Rattle.new_groups.specs.declared.preparing.Ready.{Ready}
@@ -28,16 +28,16 @@ use Rattle.new_groups.specs.declared.preparing.Ready.{Ready}
 -- ---- each disk
 
 fit_each : (s : Shape) (entries : List Entry) (looked : List Looked) (held : List ℕ) (hs : List Headed) → are_fit s entries looked held hs ≡ true → (h : Headed) → IsAmong hs h
-    → (is_right s entries h ≡ true) × (is_there looked held h ≡ true)
+    → (is_right_disk s entries h ≡ true) × (is_image_there looked held h ≡ true)
 fit_each s entries looked held [] passes h among = absurd among
 fit_each s entries looked held (k ∷ ks) passes h among =
-    let p = and_parts (is_right s entries k) _ passes in
-    let q = and_parts (is_there looked held k) _ p.1 in
+    let p = and_parts (is_right_disk s entries k) _ passes in
+    let q = and_parts (is_image_there looked held k) _ p.1 in
     ⊎_elim
-    (λ (e : h ≡ k). (subst (λ (x : Headed). is_right s entries x ≡ true) (sym e) p.0, subst (λ (x : Headed). is_there looked held x ≡ true) (sym e) q.0))
+    (λ (e : h ≡ k). (subst (λ (x : Headed). is_right_disk s entries x ≡ true) (sym e) p.0, subst (λ (x : Headed). is_image_there looked held x ≡ true) (sym e) q.0))
     (λ later. fit_each s entries looked held ks q.1 h later) among
 
-right_is : (s : Shape) (entries : List Entry) (h : Headed) → is_right s entries h ≡ true → IsRight s entries h
+right_is : (s : Shape) (entries : List Entry) (h : Headed) → is_right_disk s entries h ≡ true → IsRight s entries h
 right_is s entries h passes =
     let a = and_parts (is_header h.header) _ passes in
     let b = and_parts (h.header.shape.sector == s.sector) _ a.1 in
@@ -58,7 +58,7 @@ shown_in looked slot size passes = ⊎_elim
     (λ none. absurd (false≢true (subst (λ (o : Option Looked). shows_size o size ≡ true) none.1 passes)))
     (slice_get_cases looked slot).1
 
-there_is : (n : ℕ) (looked : List Looked) (held : List ℕ) (h : Headed) (s t : BayState) → length looked ≡ n → AreLooked looked s t → is_there looked held h ≡ true → IsFree n held h t
+there_is : (n : ℕ) (looked : List Looked) (held : List ℕ) (h : Headed) (s t : BayState) → length looked ≡ n → AreLooked looked s t → is_image_there looked held h ≡ true → IsFreeDisk n held h t
 there_is n looked held h s t count are passes =
     let a = and_parts (shows_size (slice_get looked h.slot) h.size) _ passes in
     let b = and_parts (has_region h.header.shape.dir_blocks h.size) _ a.1 in
@@ -85,7 +85,7 @@ apart_one h (x ∷ xs) passes k among =
     ))
     (λ later. apart_one h xs q.1 k later) among
 
-apart_is : (hs : List Headed) → are_apart hs ≡ true → AreDisksApart hs
+apart_is : (hs : List Headed) → are_disks_apart hs ≡ true → AreDisksApart hs
 apart_is [] passes = tt
 apart_is (h ∷ hs) passes =
     let p = and_parts (is_apart h hs) _ passes in
@@ -93,22 +93,22 @@ apart_is (h ∷ hs) passes =
 
 -- ---- the sets
 
-disk_found : (hs : List Headed) (n : ℕ) → has_disk hs n ≡ true → (h : Headed) × IsAmong hs h × (h.header.number ≡ n)
+disk_found : (hs : List Headed) (n : ℕ) → has_disk_number hs n ≡ true → (h : Headed) × IsAmong hs h × (h.header.number ≡ n)
 disk_found [] n passes = absurd (false≢true passes)
 disk_found (h ∷ hs) n passes = ⊎_elim
     (λ here. (h, inl refl, eqb-true h.header.number n here))
     (λ later. let d = disk_found hs n later in (d.0, inr d.1, d.2))
-    (or_cases (h.header.number == n) (has_disk hs n) passes)
+    (or_cases (h.header.number == n) (has_disk_number hs n) passes)
 
 found_below : (hs : List Headed) (set n : ℕ) → have_disks hs set n ≡ true → (d : ℕ) → d < n → has_bit set d ≡ true → (h : Headed) × IsAmong hs h × (h.header.number ≡ d)
 found_below hs set zero passes d lt bit = absurd (omega (arith, lt))
 found_below hs set (suc n) passes d lt bit =
-    let p = and_parts (not (has_bit set n) || has_disk hs n) _ passes in
+    let p = and_parts (not (has_bit set n) || has_disk_number hs n) _ passes in
     ⊎_elim
     (λ (same : d ≡ n). ⊎_elim
     (λ out. absurd (true≢false (sym (subst (λ (k : ℕ). has_bit set k ≡ true) same bit) ∙ not-true (has_bit set n) out)))
     (λ has. subst (λ (k : ℕ). (h : Headed) × IsAmong hs h × (h.header.number ≡ k)) (sym same) (disk_found hs n has))
-    (or_cases (not (has_bit set n)) (has_disk hs n) p.0))
+    (or_cases (not (has_bit set n)) (has_disk_number hs n) p.0))
     (λ other. found_below hs set n p.1 d (omega (arith, lt, other)) bit)
     (cases_eq d n)
 
@@ -120,7 +120,7 @@ module _ (d : Draft) (looked : List Looked) (held : List ℕ) where
   have_sets = have_disks d.disks.items d.status.holders 64 && have_disks d.disks.items d.status.directories 64
 
   abbrev from_apart : Bool
-  from_apart = are_apart d.disks.items && have_sets
+  from_apart = are_disks_apart d.disks.items && have_sets
 
   abbrev from_fit : Bool
   from_fit = are_fit d.shape d.status.entries looked held d.disks.items && from_apart
@@ -150,8 +150,8 @@ module _ (d : Draft) (looked : List Looked) (held : List ℕ) where
     fit_part : (are_fit d.shape d.status.entries looked held d.disks.items ≡ true) × (from_apart ≡ true)
     fit_part = and_parts (are_fit d.shape d.status.entries looked held d.disks.items) from_apart few_part.1
 
-    apart_part : (are_apart d.disks.items ≡ true) × (have_sets ≡ true)
-    apart_part = and_parts (are_apart d.disks.items) have_sets fit_part.1
+    apart_part : (are_disks_apart d.disks.items ≡ true) × (have_sets ≡ true)
+    apart_part = and_parts (are_disks_apart d.disks.items) have_sets fit_part.1
 
     sets_part : (have_disks d.disks.items d.status.holders 64 ≡ true) × (have_disks d.disks.items d.status.directories 64 ≡ true)
     sets_part = and_parts (have_disks d.disks.items d.status.holders 64) (have_disks d.disks.items d.status.directories 64) apart_part.1
@@ -169,7 +169,7 @@ module _ (d : Draft) (looked : List Looked) (held : List ℕ) where
       items = items;
     }
 
-    pub all_free : (n : ℕ) (s t : BayState) → length looked ≡ n → AreLooked looked s t → AreFree n held d.disks.items t
+    pub all_free : (n : ℕ) (s t : BayState) → length looked ≡ n → AreLooked looked s t → AreFreeDisks n held d.disks.items t
     all_free n s t count are h among = there_is n looked held h s t count are (fit_each d.shape d.status.entries looked held d.disks.items fit_part.0 h among).1
 
 -- ---- a group that is ready
@@ -178,7 +178,7 @@ pub prepared_agrees : (looked : List Looked) (held : List ℕ) (name : Bytes) (i
 prepared_agrees looked held name id r is = agrees r.draft looked held is.passes is.items
 
 pub prepared_free : (n : ℕ) (found looked : List Looked) (held : List ℕ) (name : Bytes) (id : ℕ) (r : Ready) (s t : BayState) → looked ≡ found → length found ≡ n → AreLooked found s t
-    → IsPrepared looked held name id r → AreFree n held r.draft.disks.items t
+    → IsPrepared looked held name id r → AreFreeDisks n held r.draft.disks.items t
 prepared_free n found looked held name id r s t same count are is =
     all_free r.draft looked held is.passes n s t (ap length same ∙ count) (subst (λ (l : List Looked). AreLooked l s t) (sym same) are)
 

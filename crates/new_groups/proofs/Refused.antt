@@ -13,8 +13,8 @@ use Rattle.asm_base.specs.declared.refusal.Refusal.{Refusal}
 use Rattle.group_disks.specs.Probes.{SaysRefusal}
 use Rattle.group_disks.proofs.group_mount.Told.{rose_before}
 use Rattle.group_disks.specs.group_mount.declared.finding.Headed.{Headed}
-use Rattle.new_groups.specs.Causes.{IsThisRefusal, clash_refusal, first_of, first_refused, groups_refusal}
-use Rattle.new_groups.specs.Drafts.{AreFree}
+use Rattle.new_groups.specs.Causes.{IsThisRefusal, clash_refusal, first_refusal, first_refused, groups_refusal}
+use Rattle.new_groups.specs.Drafts.{AreFreeDisks}
 use Rattle.new_groups.specs.Forming.{IsFormRefusal}
 use Rattle.new_groups.specs.Preparing.{IsFormFailure}
 
@@ -29,20 +29,20 @@ pub first_failed : {A : Type 0} (test : A → Option r.Refusal) (x : A) (xs : Li
 first_failed test x xs refusal why = ⊎_elim (λ (some : test x ≡ Some refusal). inl (rw some refl)) (λ short. inr short) why
 
 -- the first of more
-pub first_more : (xs ys : List (Option r.Refusal)) (refusal : r.Refusal) → first_of xs ≡ Some refusal → first_of (xs ++ ys) ≡ Some refusal
+pub first_more : (xs ys : List (Option r.Refusal)) (refusal : r.Refusal) → first_refusal xs ≡ Some refusal → first_refusal (xs ++ ys) ≡ Some refusal
 first_more [] ys refusal is = absurd (cc)
 first_more (None ∷ xs) ys refusal is = first_more xs ys refusal is
 first_more (Some x ∷ xs) ys refusal is = is
 
-pub first_later : (xs ys : List (Option r.Refusal)) → first_of xs ≡ None → first_of (xs ++ ys) ≡ first_of ys
+pub first_later : (xs ys : List (Option r.Refusal)) → first_refusal xs ≡ None → first_refusal (xs ++ ys) ≡ first_refusal ys
 first_later [] ys none = refl
 first_later (None ∷ xs) ys none = first_later xs ys none
 first_later (Some x ∷ xs) ys none = absurd (cc)
 
-pub is_first_more : (xs ys : List (Option r.Refusal)) (refusal : r.Refusal) → IsThisRefusal (first_of xs) refusal → IsThisRefusal (first_of (xs ++ ys)) refusal
+pub is_first_more : (xs ys : List (Option r.Refusal)) (refusal : r.Refusal) → IsThisRefusal (first_refusal xs) refusal → IsThisRefusal (first_refusal (xs ++ ys)) refusal
 is_first_more xs ys refusal why = ⊎_elim (λ some. inl (first_more xs ys refusal some)) (λ short. inr short) why
 
-pub is_first_later : (xs ys : List (Option r.Refusal)) (refusal : r.Refusal) → first_of xs ≡ None → IsThisRefusal (first_of ys) refusal → IsThisRefusal (first_of (xs ++ ys)) refusal
+pub is_first_later : (xs ys : List (Option r.Refusal)) (refusal : r.Refusal) → first_refusal xs ≡ None → IsThisRefusal (first_refusal ys) refusal → IsThisRefusal (first_refusal (xs ++ ys)) refusal
 is_first_later xs ys refusal none why = ⊎_elim (λ some. inl (first_later xs ys none ∙ some)) (λ short. inr short) why
 
 -- ---- tests of all
@@ -57,7 +57,7 @@ names_clash disks taken = cond-true (is_name_taken [] disks) (Some r.NameTaken) 
 
 -- ---- what failed in forming
 
-pub form_failed : (n k : ℕ) (held : List ℕ) (hs : List Headed) (s m t : BayState) {slots : ℕ → Type 0} {step : Image → Image → Type 0} → n ≡ k → AreFree n held hs m → Runs slots step s m → (refusal : r.Refusal) → IsFormRefusal hs refusal m t → IsFormFailure k refusal s t
+pub form_failed : (n k : ℕ) (held : List ℕ) (hs : List Headed) (s m t : BayState) {slots : ℕ → Type 0} {step : Image → Image → Type 0} → n ≡ k → AreFreeDisks n held hs m → Runs slots step s m → (refusal : r.Refusal) → IsFormRefusal hs refusal m t → IsFormFailure k refusal s t
 form_failed n k held hs s m t same free run (r.WriteFault name) is =
     let h : Headed = is.0 in
     (h.slot, omega (arith, same, (free h is.1).inside), rose_before (s.faults h.slot) (m.faults h.slot) (t.faults h.slot) (run.faults h.slot) is.3)

@@ -6,7 +6,7 @@ use Rattle.bay.specs.Moments.{Runs}
 use Rattle.bay.specs.State.{BayState, IsSlot, KeepsAttached}
 use Rattle.bay.proofs.Calls.{attached-trans, goes_on, on_more, started, stops, widened}
 use Rattle.bay.proofs.Images.{changes-same, changes-trans, changes-within, same-refl}
-use Rattle.asm_base.specs.Records.{Entry}
+use Rattle.asm_base.specs.Records.{DirectoryRecord}
 use Rattle.asm_formats.specs.Status.{Status, status_spelling}
 use Rattle.asm_group.specs.Refusal as r
 use Rattle.asm_formats.specs.Among.{IsAmong}
@@ -132,7 +132,7 @@ copy_cause set hs cs s t is slot failed =
     let k = from_copies set hs failed.0.0 (subst (λ (l : List DirCopy). IsAmong l failed.0.0) is failed.0.1) in
     ((k.0, k.1, failed.0.2 ∙ ap (λ (x : DirCopy). x.slot) k.2), failed.1)
 
-pub gone_slot : (cs : List DirCopy) (pages : ℕ) (put : List Entry) (s t : BayState) (e : StoreError) (k : ℕ) → e ≡ Gone k → IsFirstRefusal cs pages put s t e → copies.IsFailedSlot cs s t k
+pub gone_slot : (cs : List DirCopy) (pages : ℕ) (put : List DirectoryRecord) (s t : BayState) (e : StoreError) (k : ℕ) → e ≡ Gone k → IsFirstRefusal cs pages put s t e → copies.IsFailedSlot cs s t k
 gone_slot cs pages put s t e k same why = subst (λ (x : StoreError). IsFirstRefusal cs pages put s t x) same why
 
 pub holder_cause : (set : ℕ) (hs : List Headed) (ms : List Member) (s t : BayState) → ms ≡ holder_list set hs → (slot : ℕ) → IsDeadOf ms slot s t → FormCause hs s t (Fault slot)

@@ -11,7 +11,7 @@ use Rattle.asm_formats.specs.Among.{IsAmong}
 use Rattle.directory_store.specs.change_directory.declared.copy.DirCopy.{DirCopy}
 use Rattle.directory_store.specs.Contents.{ArePutItems}
 use Rattle.group_disks.specs.Holding.{IsHeldSlot}
-use Rattle.group_disks.specs.group_mount.NamedCopies.{copy_of}
+use Rattle.group_disks.specs.group_mount.NamedCopies.{directory_copy_of}
 use Rattle.group_disks.specs.group_mount.Verdicts.{member_of}
 use Rattle.group_disks.specs.group_mount.declared.finding.Headed.{Headed}
 use Rattle.status_register.specs.Holders.{is_of}
@@ -32,7 +32,7 @@ holder_list set (h ∷ hs) = if has_bit set h.header.number then member_of h ∷
 
 abbrev pub copy_list : ℕ → List Headed → List DirCopy
 copy_list set [] = []
-copy_list set (h ∷ hs) = if has_bit set h.header.number then copy_of h ∷ copy_list set hs else copy_list set hs
+copy_list set (h ∷ hs) = if has_bit set h.header.number then directory_copy_of h ∷ copy_list set hs else copy_list set hs
 
 -- the members with the sizes of their images
 abbrev pub disk_list : List Headed → List (Member × ℕ)
@@ -77,11 +77,11 @@ pub record HasAgreeingParts (d : Draft) : Type 0 where
   pub items : ArePutItems d.first.put
 
 -- The disk is attached in one of the first slots, reaches to the end of its directory region, and no other group holds it.
-pub record IsFree (n : ℕ) (held : List ℕ) (h : Headed) (state : BayState) : Type 0 where
+pub record IsFreeDisk (n : ℕ) (held : List ℕ) (h : Headed) (state : BayState) : Type 0 where
   pub inside : h.slot < n
   pub attached : state.attached h.slot ≡ Some h.size
   pub long : region_end h.header.shape.dir_blocks * block_size ≤ h.size
   pub free : IsHeldSlot held h.slot → ⊥
 
-abbrev pub AreFree : ℕ → List ℕ → List Headed → BayState → Type 0
-AreFree n held hs state = (h : Headed) → IsAmong hs h → IsFree n held h state
+abbrev pub AreFreeDisks : ℕ → List ℕ → List Headed → BayState → Type 0
+AreFreeDisks n held hs state = (h : Headed) → IsAmong hs h → IsFreeDisk n held h state

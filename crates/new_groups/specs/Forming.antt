@@ -17,10 +17,10 @@ use Rattle.disk_images.specs.Headers.{HasHeaderSlot}
 use Rattle.group_disks.specs.Mounting.{by_number}
 use Rattle.group_disks.specs.group_engine.Making.{made}
 use Rattle.group_disks.specs.group_engine.Mounts.{MountedGroup}
-use Rattle.disk_images.specs.disk_forming.Gates.{HasRegion}
+use Rattle.disk_images.specs.disk_forming.Gates.{HasAttachedRegion}
 use Rattle.group_disks.specs.group_mount.Verdicts.{IsSlotIn}
 use Rattle.group_disks.specs.group_mount.declared.finding.Headed.{Headed}
-use Rattle.status_register.specs.Keeping.{IsReady}
+use Rattle.status_register.specs.Keeping.{IsRegisterReady}
 use Rattle.status_register.specs.Writes.{first_register}
 use Rattle.new_groups.specs.Drafts.{copy_list, disk_list, member_list}
 use Rattle.new_groups.specs.declared.draft.Draft.{Draft}
@@ -51,7 +51,7 @@ pub record AreParts (d : Draft) (f : Formed) : Type 0 where
 pub record IsFormed (d : Draft) (f : Formed) (state : BayState) : Type 0 where
   pub parts : AreParts d f
   pub keeps : Keeps f.store state
-  pub ready : IsReady f.register state
+  pub ready : IsRegisterReady f.register state
 
 -- the group is that of the draft, with the catalog of its records
 pub record IsMountedOf (d : Draft) (f : Formed) (m : MountedGroup) : Type 0 where
@@ -64,7 +64,7 @@ pub record IsMountedOf (d : Draft) (f : Formed) (m : MountedGroup) : Type 0 wher
 
 -- each disk reaches to the end of the directory region of a group of this shape
 abbrev pub AreLong : Shape → List Headed → BayState → Type 0
-AreLong s hs state = (h : Headed) → IsAmong hs h → HasRegion state h.slot s.sector s.dir_blocks
+AreLong s hs state = (h : Headed) → IsAmong hs h → HasAttachedRegion state h.slot s.sector s.dir_blocks
 
 -- the disk may get its header
 pub record IsHeadable (h : Headed) (state : BayState) : Type 0 where

@@ -22,39 +22,39 @@ shows_size (Some (Unread shown)) size = false
 shows_size (Some (Read shown header)) size = shown == size
 
 -- the header is one that a disk of the group may have, and the disk that of an entry
-abbrev pub is_right : Shape → List Entry → Headed → Bool
-is_right s entries h = is_header h.header && ((h.header.shape.sector == s.sector) && ((h.header.shape.dir_blocks == s.dir_blocks) && is_of entries (member_of h)))
+abbrev pub is_right_disk : Shape → List Entry → Headed → Bool
+is_right_disk s entries h = is_header h.header && ((h.header.shape.sector == s.sector) && ((h.header.shape.dir_blocks == s.dir_blocks) && is_of entries (member_of h)))
 
 -- the image is there, is long enough, and is no other group's
-abbrev pub is_there : List Looked → List ℕ → Headed → Bool
-is_there looked held h = shows_size (slice_get looked h.slot) h.size && (has_region h.header.shape.dir_blocks h.size && not (is_held held h.slot))
+abbrev pub is_image_there : List Looked → List ℕ → Headed → Bool
+is_image_there looked held h = shows_size (slice_get looked h.slot) h.size && (has_region h.header.shape.dir_blocks h.size && not (is_held held h.slot))
 
 abbrev pub are_fit : Shape → List Entry → List Looked → List ℕ → List Headed → Bool
 are_fit s entries looked held [] = true
-are_fit s entries looked held (h ∷ hs) = is_right s entries h && (is_there looked held h && are_fit s entries looked held hs)
+are_fit s entries looked held (h ∷ hs) = is_right_disk s entries h && (is_image_there looked held h && are_fit s entries looked held hs)
 
 -- none of the others has the disk's slot or number
 abbrev pub is_apart : Headed → List Headed → Bool
 is_apart h [] = true
 is_apart h (k ∷ ks) = not (k.slot == h.slot) && (not (k.header.number == h.header.number) && is_apart h ks)
 
-abbrev pub are_apart : List Headed → Bool
-are_apart [] = true
-are_apart (h ∷ hs) = is_apart h hs && are_apart hs
+abbrev pub are_disks_apart : List Headed → Bool
+are_disks_apart [] = true
+are_disks_apart (h ∷ hs) = is_apart h hs && are_disks_apart hs
 
 -- one of the disks has the number
-abbrev pub has_disk : List Headed → ℕ → Bool
-has_disk [] number = false
-has_disk (h ∷ hs) number = (h.header.number == number) || has_disk hs number
+abbrev pub has_disk_number : List Headed → ℕ → Bool
+has_disk_number [] number = false
+has_disk_number (h ∷ hs) number = (h.header.number == number) || has_disk_number hs number
 
 -- each number of the set below this one is that of a disk
 abbrev pub have_disks : List Headed → ℕ → ℕ → Bool
 have_disks hs set zero = true
-have_disks hs set (suc number) = (not (has_bit set number) || has_disk hs number) && have_disks hs set number
+have_disks hs set (suc number) = (not (has_bit set number) || has_disk_number hs number) && have_disks hs set number
 
 -- the draft may be written on these images, of which none in a slot that is held
 abbrev pub may_form : Draft → List Looked → List ℕ → Bool
 may_form d looked held =
     is_status d.status && (not d.status.gone && (is_shape d.shape && (nat_le (length d.disks.items) 64
-    && (are_fit d.shape d.status.entries looked held d.disks.items && (are_apart d.disks.items
+    && (are_fit d.shape d.status.entries looked held d.disks.items && (are_disks_apart d.disks.items
     && (have_disks d.disks.items d.status.holders 64 && have_disks d.disks.items d.status.directories 64))))))

@@ -1,6 +1,6 @@
 //! What is written is tried before the first write: a draft whose parts don't agree isn't written.
 ghost use Rattle.std.specs.Prelude.{◌≡◌, Some, slice_get};
-ghost use Rattle.new_groups.specs.Tests.{are_apart, are_fit, has_disk, have_disks, is_apart, is_right, is_there, may_form, shows_size};
+ghost use Rattle.new_groups.specs.Tests.{are_disks_apart, are_fit, has_disk_number, have_disks, is_apart, is_right_disk, is_image_there, may_form, shows_size};
 
 use crate::draft::Draft;
 use crate::lists::member_of;
@@ -34,7 +34,7 @@ fn has_size(looked: &[Looked], slot: u32, size: u64) -> bool
 
 /// Whether the header is one that a disk of the group may have, and the disk that of an entry.
 fn is_right(shape: &Shape, entries: &[PstEntry], disk: &Headed) -> bool
-    ensures { result ≡ is_right shape.now entries.now disk.now }
+    ensures { result ≡ is_right_disk shape.now entries.now disk.now }
 {
     is_header(&disk.header)
         && (disk.header.sector == shape.sector
@@ -44,7 +44,7 @@ fn is_right(shape: &Shape, entries: &[PstEntry], disk: &Headed) -> bool
 
 /// Whether the image is there, is long enough, and is no other group's.
 pub fn is_there(looked: &[Looked], held: &[u32], disk: &Headed) -> bool
-    ensures { result ≡ is_there looked.now held.now disk.now }
+    ensures { result ≡ is_image_there looked.now held.now disk.now }
 {
     has_size(looked, disk.slot, disk.size)
         && (has_region(disk.header.dir_blocks, disk.size) && !is_held(held, disk.slot))
@@ -84,7 +84,7 @@ fn is_apart(disk: &Headed, others: &[Headed]) -> bool
 
 /// Whether no two of the disks have one slot or one number.
 pub fn are_apart(disks: &[Headed]) -> bool
-    ensures { result ≡ are_apart disks.now }
+    ensures { result ≡ are_disks_apart disks.now }
 {
     match disks {
         [] => true,
@@ -94,7 +94,7 @@ pub fn are_apart(disks: &[Headed]) -> bool
 
 /// Whether one of the disks has the number.
 fn has_disk(disks: &[Headed], number: u8) -> bool
-    ensures { result ≡ has_disk disks.now number }
+    ensures { result ≡ has_disk_number disks.now number }
 {
     match disks {
         [] => false,

@@ -7,7 +7,7 @@ ghost use Rattle.bay.specs.Counts.{last_count};
 ghost use Rattle.group_disks.specs.FirstParts.{IsNewlyMounted};
 ghost use Rattle.group_disks.specs.Holding.{SparesHeld};
 ghost use Rattle.group_disks.specs.group_engine.Frames.{StaysAttached};
-ghost use Rattle.new_groups.specs.Drafts.{HasAgreeingParts, AreFree, AreLists};
+ghost use Rattle.new_groups.specs.Drafts.{HasAgreeingParts, AreFreeDisks, AreLists};
 ghost use Rattle.new_groups.specs.Forming.{IsFormRefusal, Works};
 ghost use Rattle.new_groups.specs.Preparing.{IsCreationRefusal};
 
@@ -30,7 +30,7 @@ fn form_ready<B: Bay>(
 ) -> Result<Mounted, Refusal>
     requires agrees { HasAgreeingParts ready.draft }
     requires lists { AreLists ready.draft ready.lists }
-    requires free { AreFree slots held.now ready.draft.disks.items (B.state bay.old) }
+    requires free { AreFreeDisks slots held.now ready.draft.disks.items (B.state bay.old) }
     ensures works { Works ready.draft.disks.items (B.state bay.old) (B.state bay.new) }
     ensures cause { IfErr result (λ refusal. IsFormRefusal ready.draft.disks.items (said (λ _. []) refusal) (B.state bay.old) (B.state bay.new)) }
     ensures mounted { IfOk result (λ m. IsNewlyMounted held.now ready.draft.name (Some ready.draft.status.id) m (B.state bay.new)) }

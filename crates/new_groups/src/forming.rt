@@ -7,7 +7,7 @@ ghost use Rattle.bay.specs.Moments.{Runs};
 ghost use Rattle.directory_store.specs.Stores.{Keeps};
 ghost use Rattle.group_disks.specs.group_mount.Verdicts.{IsSlotIn};
 ghost use Rattle.group_disks.specs.group_mount.Writing.{FrontOf};
-ghost use Rattle.status_register.specs.Keeping.{IsReady};
+ghost use Rattle.status_register.specs.Keeping.{IsRegisterReady};
 ghost use Rattle.status_register.specs.Writes.{first_register};
 ghost use Rattle.new_groups.specs.Drafts.{HasAgreeingParts, AreLists, copy_list, member_list};
 ghost use Rattle.new_groups.specs.Forming.{AreDisks, AreHeadable, AreLong, FormCause, IsErrorSaid, IsFaultOf, IsFormed, IsFormRefusal, Works};
@@ -112,7 +112,7 @@ fn give_record<B: Bay>(bay: &mut B, draft: &Draft, lists: &Lists) -> Result<Regi
     ensures cause { IfErr result (FormCause draft.now.disks.items (B.state bay.old) (B.state bay.new)) }
     ensures front { Runs (IsSlotIn draft.now.disks.items) (ChangesOnly (FrontOf (member_list draft.now.disks.items))) (B.state bay.old) (B.state bay.new) }
     ensures register { IfOk result (λ register. register ≡ first_register draft.now.status (member_list draft.now.disks.items)) }
-    ensures ready { IfOk result (λ register. IsReady register (B.state bay.new)) }
+    ensures ready { IfOk result (λ register. IsRegisterReady register (B.state bay.new)) }
 {
     match claim_first(bay, draft.status.id, 1, &lists.holders) {
         Ok(()) => write_record(bay, draft, lists),
@@ -129,7 +129,7 @@ fn write_record<B: Bay>(bay: &mut B, draft: &Draft, lists: &Lists) -> Result<Reg
     ensures cause { IfErr result (FormCause draft.now.disks.items (B.state bay.old) (B.state bay.new)) }
     ensures front { Runs (IsSlotIn draft.now.disks.items) (ChangesOnly (FrontOf (member_list draft.now.disks.items))) (B.state bay.old) (B.state bay.new) }
     ensures register { IfOk result (λ register. register ≡ first_register draft.now.status (member_list draft.now.disks.items)) }
-    ensures ready { IfOk result (λ register. IsReady register (B.state bay.new)) }
+    ensures ready { IfOk result (λ register. IsRegisterReady register (B.state bay.new)) }
 {
     match Register::first(bay, &draft.status, &lists.members) {
         Ok(register) => Ok(register),

@@ -2,7 +2,7 @@
 ghost use Rattle.std.specs.Prelude.{◌≡◌, ◌<◌, ◌++◌, IfOk, OnOk};
 ghost use Rattle.asm_formats.specs.Among.{IsAmong};
 ghost use Rattle.group_disks.specs.Mounting.{by_number, put_disks};
-ghost use Rattle.group_disks.specs.group_mount.NamedCopies.{copy_of};
+ghost use Rattle.group_disks.specs.group_mount.NamedCopies.{directory_copy_of};
 ghost use Rattle.group_disks.specs.group_mount.Verdicts.{member_of};
 ghost use Rattle.group_disks.specs.group_mount.declared.finding.Headed.{Headed as Disk};
 ghost use Rattle.new_groups.specs.Drafts.{copy_list, disk_list, holder_list, member_list};
@@ -35,7 +35,7 @@ pub fn member_of(disk: &Headed) -> Member
 
 /// The directory copy of a disk.
 fn copy_of(disk: &Headed) -> DirCopy
-    ensures { result ≡ copy_of disk.now }
+    ensures { result ≡ directory_copy_of disk.now }
 {
     DirCopy {
         number: disk.header.number,

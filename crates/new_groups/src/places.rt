@@ -4,7 +4,7 @@ ghost use Rattle.std.specs.Prelude.{◌≡◌, ◌≤◌, ◌+◌, ◌++◌, [],
 ghost use Rattle.std.specs.List.{list_any};
 ghost use Rattle.std.specs.String.{string_bytes};
 ghost use Rattle.asm_base.specs.Refusals.{said};
-ghost use Rattle.new_groups.specs.Causes.{IsThisRefusal, candidate, candidates, first_refused, is_member_taken, is_same_disk, is_taken, is_unread, missing_refusal, place_at, place_in, places_at, shown_by, slot_from, taken_refusal};
+ghost use Rattle.new_groups.specs.Causes.{IsThisRefusal, creation_disk, creation_disks, first_refused, is_member_taken, is_same_disk, is_place_taken, is_unread, missing_refusal, place_at_path, place_in_slot, places_at, shown_by_header, slot_from, taken_refusal};
 
 use crate::asked::{Known, Taken};
 use crate::planned::Terms;
@@ -50,7 +50,7 @@ fn slot_from(paths: &[String], path: &[u8], slot: u32) -> Option<u32>
 
 /// What a header that could be read shows.
 fn shown_by(header: &Option<Header>) -> Shown
-    ensures { result ≡ shown_by header.now }
+    ensures { result ≡ shown_by_header header.now }
 {
     match header {
         Some(header) => Shown::Member(Taken {
@@ -64,7 +64,7 @@ fn shown_by(header: &Option<Header>) -> Shown
 
 /// The image in a slot, where it could be had.
 fn place_in(looked: &Looked, slot: u32) -> Option<Place>
-    ensures { result ≡ place_in looked.now slot }
+    ensures { result ≡ place_in_slot looked.now slot }
 {
     match looked {
         Looked::Absent => None,
@@ -84,7 +84,7 @@ fn place_in(looked: &Looked, slot: u32) -> Option<Place>
 /// The image at a path, where it could be had.
 fn place_at(paths: &[String], looked: &[Looked], path: &[u8]) -> Option<Place>
     requires few { length paths.now ≤ 512 }
-    ensures { result ≡ place_at (map string_bytes paths.now) looked.now path.now }
+    ensures { result ≡ place_at_path (map string_bytes paths.now) looked.now path.now }
 {
     match slot_from(paths, path, 0) {
         Some(slot) => match looked.get(slot as usize) {
@@ -170,7 +170,7 @@ fn is_member_taken(taken: &[Taken], force: bool, shown: Shown) -> bool
 
 /// Whether an image may not be given to a new group.
 fn is_taken(known: &Known, force: bool, place: Place) -> bool
-    ensures { result ≡ is_taken known.now force place }
+    ensures { result ≡ is_place_taken known.now force place }
 {
     is_held(&known.held, place.slot) || is_member_taken(&known.taken, force, place.shown)
 }
@@ -191,8 +191,8 @@ fn check_free(
     terms: Terms,
     place: Place,
 ) -> Result<(), Refusal>
-    ensures free { OnOk result (taken_refusal known.now (candidate disk.now terms place) ≡ None) }
-    ensures refused { IfErr result (λ refusal. IsThisRefusal (taken_refusal known.now (candidate disk.now terms place)) (said (λ _. []) refusal)) }
+    ensures free { OnOk result (taken_refusal known.now (creation_disk disk.now terms place) ≡ None) }
+    ensures refused { IfErr result (λ refusal. IsThisRefusal (taken_refusal known.now (creation_disk disk.now terms place)) (said (λ _. []) refusal)) }
 {
     if is_unread(place.shown) {
         return Err(write_fault(alloc, &disk.name));
@@ -213,8 +213,8 @@ pub fn check_all_free(
     terms: &[Terms],
     places: &[Place],
 ) -> Result<(), Refusal>
-    ensures free { OnOk result (first_refused (taken_refusal known.now) (candidates disks.now terms.now places.now) ≡ None) }
-    ensures refused { IfErr result (λ refusal. IsThisRefusal (first_refused (taken_refusal known.now) (candidates disks.now terms.now places.now)) (said (λ _. []) refusal)) }
+    ensures free { OnOk result (first_refused (taken_refusal known.now) (creation_disks disks.now terms.now places.now) ≡ None) }
+    ensures refused { IfErr result (λ refusal. IsThisRefusal (first_refused (taken_refusal known.now) (creation_disks disks.now terms.now places.now)) (said (λ _. []) refusal)) }
 {
     let [disk, disks @ ..] = disks else {
         return Ok(());

@@ -8,8 +8,8 @@ ghost use Rattle.asm_group.specs.Shape.{is_shape};
 ghost use Rattle.bay.specs.Counts.{last_count};
 ghost use Rattle.directory_store.specs.Contents.{ArePutItems};
 ghost use Rattle.disk_images.specs.Looks.{AreLooked, Looks};
-ghost use Rattle.new_groups.specs.Causes.{IsThisRefusal, clash_refusal, first_of, groups_refusal, image_refusals, look_refusal, places_at, shape_refusals};
-ghost use Rattle.new_groups.specs.Drafts.{HasAgreeingParts, AreFree, AreLists};
+ghost use Rattle.new_groups.specs.Causes.{IsThisRefusal, clash_refusal, first_refusal, groups_refusal, image_refusals, look_refusal, places_at, shape_refusals};
+ghost use Rattle.new_groups.specs.Drafts.{HasAgreeingParts, AreFreeDisks, AreLists};
 ghost use Rattle.new_groups.specs.Preparing.{IsPrepareRefusal, IsPrepared};
 
 use crate::asked::{GroupAsked, Known};
@@ -85,8 +85,8 @@ fn free_places(
 ) -> Result<Vec<Place>, Refusal>
     requires few { length paths.now ≤ 512 }
     ensures places { IfOk result (λ places. places.items ≡ places_at (map string_bytes paths.now) looked.now planned.now.disks.items) }
-    ensures none { OnOk result (first_of (image_refusals known.now (map string_bytes paths.now) looked.now planned.now.disks.items planned.now.terms.items) ≡ None) }
-    ensures refused { IfErr result (λ refusal. IsThisRefusal (first_of (image_refusals known.now (map string_bytes paths.now) looked.now planned.now.disks.items planned.now.terms.items)) (said (λ _. []) refusal)) }
+    ensures none { OnOk result (first_refusal (image_refusals known.now (map string_bytes paths.now) looked.now planned.now.disks.items planned.now.terms.items) ≡ None) }
+    ensures refused { IfErr result (λ refusal. IsThisRefusal (first_refusal (image_refusals known.now (map string_bytes paths.now) looked.now planned.now.disks.items planned.now.terms.items)) (said (λ _. []) refusal)) }
 {
     let places = match find_places(alloc, paths, looked, &planned.disks) {
         Ok(places) => places,
@@ -106,7 +106,7 @@ fn right_units(
     places: &[Place],
 ) -> Result<Vec<u32>, Refusal>
     requires shape { IsTrue (is_shape shape.now) }
-    ensures refused { IfErr result (λ refusal. IsThisRefusal (first_of (shape_refusals shape.now planned.now.disks.items planned.now.terms.items places.now)) (said (λ _. []) refusal)) }
+    ensures refused { IfErr result (λ refusal. IsThisRefusal (first_refusal (shape_refusals shape.now planned.now.disks.items planned.now.terms.items places.now)) (said (λ _. []) refusal)) }
 {
     match check_names(&planned.disks) {
         Ok(()) => {}
@@ -231,7 +231,7 @@ pub fn prepare<B: Bay>(
     ensures name { IfOk result (λ ready. ready.draft.name ≡ asked.now.name) }
     ensures agrees { IfOk result (λ ready. HasAgreeingParts ready.draft) }
     ensures lists { IfOk result (λ ready. AreLists ready.draft ready.lists) }
-    ensures free { IfOk result (λ ready. AreFree (length paths.now) known.now.held.items ready.draft.disks.items (B.state bay.new)) }
+    ensures free { IfOk result (λ ready. AreFreeDisks (length paths.now) known.now.held.items ready.draft.disks.items (B.state bay.new)) }
     ensures floor { IfOk result (λ ready. known.now.floor ≤ ready.draft.status.id) }
     ensures above { IfOk result (λ ready. ready.draft.status.id < last_count → All (λ other. other < ready.draft.status.id) ids.new.items) }
     ensures cause { IfErr result (λ refusal. IsPrepareRefusal (map string_bytes paths.now) asked.now known.now (said (λ _. []) refusal) (B.state bay.old) (B.state bay.new)) }

@@ -3,7 +3,7 @@ ghost use Rattle.std.specs.Prelude.{◌≡◌, ◌+◌, [], IfErr, IsTrue, None,
 ghost use Rattle.asm_base.specs.Refusals.{said};
 ghost use Rattle.asm_formats.specs.Regions.{reserved_units, units_in};
 ghost use Rattle.asm_group.specs.Shape.{is_shape};
-ghost use Rattle.new_groups.specs.Causes.{IsThisRefusal, candidate, candidates, first_refused, small_refusal, units_asked};
+ghost use Rattle.new_groups.specs.Causes.{IsThisRefusal, creation_disk, creation_disks, first_refused, small_refusal, units_of_new_disk};
 
 use crate::places::Place;
 use crate::planned::Terms;
@@ -42,7 +42,7 @@ fn image_units(shape: &Shape, bytes: u64) -> u64
 #[tactic(auto, using(asm_images::proofs::UserBytes::shape_au))]
 fn units_asked(shape: &Shape, size: Option<u64>, bytes: u64) -> u64
     requires { IsTrue (is_shape shape.now) }
-    ensures { result ≡ units_asked shape.now size bytes }
+    ensures { result ≡ units_of_new_disk shape.now size bytes }
 {
     match size {
         Some(said) => said / shape.au as u64,
@@ -59,8 +59,8 @@ fn units_for(
     place: Place,
 ) -> Result<u32, Refusal>
     requires shape { IsTrue (is_shape shape.now) }
-    ensures fit { OnOk result (small_refusal shape.now (candidate disk.now terms place) ≡ None) }
-    ensures refused { IfErr result (λ refusal. IsThisRefusal (small_refusal shape.now (candidate disk.now terms place)) (said (λ _. []) refusal)) }
+    ensures fit { OnOk result (small_refusal shape.now (creation_disk disk.now terms place) ≡ None) }
+    ensures refused { IfErr result (λ refusal. IsThisRefusal (small_refusal shape.now (creation_disk disk.now terms place)) (said (λ _. []) refusal)) }
 {
     let units = units_asked(shape, terms.size, place.size);
     if image_units(shape, place.size) < units {
@@ -83,8 +83,8 @@ pub fn all_units(
     units: &mut Vec<u32>,
 ) -> Result<(), Refusal>
     requires shape { IsTrue (is_shape shape.now) }
-    ensures fit { OnOk result (first_refused (small_refusal shape.now) (candidates disks.now terms.now places.now) ≡ None) }
-    ensures refused { IfErr result (λ refusal. IsThisRefusal (first_refused (small_refusal shape.now) (candidates disks.now terms.now places.now)) (said (λ _. []) refusal)) }
+    ensures fit { OnOk result (first_refused (small_refusal shape.now) (creation_disks disks.now terms.now places.now) ≡ None) }
+    ensures refused { IfErr result (λ refusal. IsThisRefusal (first_refused (small_refusal shape.now) (creation_disks disks.now terms.now places.now)) (said (λ _. []) refusal)) }
 {
     let [disk, disks @ ..] = disks else {
         return Ok(());

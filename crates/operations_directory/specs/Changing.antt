@@ -8,12 +8,12 @@ use Rattle.operations_directory.specs.declared.reading.Operation.TheVariants.{Re
 use Rattle.operations_directory.specs.Operations.{Operations}
 
 -- what the table says at a key of its kind
-abbrev pub item_at : Operations → Key → Option Item
-item_at t k = if k.b == 0 then (if k.a == 0 then option_map rebalance_item t.rebalance else if k.a == 1 then option_map pending_item t.pending else None) else None
+abbrev pub operation_item_at : Operations → Key → Option Item
+operation_item_at t k = if k.b == 0 then (if k.a == 0 then option_map rebalance_item t.rebalance else if k.a == 1 then option_map pending_item t.pending else None) else None
 
 -- the value of its record
-abbrev pub value_at : Operations → Key → Option (List ℕ)
-value_at t k = option_map value (item_at t k)
+abbrev pub operation_value_at : Operations → Key → Option (List ℕ)
+operation_value_at t k = option_map value (operation_item_at t k)
 
 -- the table with an operation in place of the one of its kind
 abbrev pub set_operation : Operations → Operation → Operations

@@ -3,7 +3,7 @@ use Rattle.std.specs.Prelude.{ℕ, Bool, ◌==◌, List, ◌++◌, map, Option, 
 use Rattle.std.specs.List.{AllByRecursion}
 use Rattle.std.specs.Option.{option_map, option_to_list}
 use Rattle.asm_formats.specs.Items.{Item, Key, Pending, is_item, pending_item, rebalance_item, operations_kind}
-use Rattle.asm_base.specs.Records.{Entry}
+use Rattle.asm_base.specs.Records.{DirectoryRecord}
 use Rattle.asm_base.specs.Tables.{item_record}
 
 -- the pending operation, and the power of the active rebalance
@@ -18,12 +18,12 @@ nothing_begun = record { pending = None; rebalance = None }
 abbrev pub items_of : Operations → List Item
 items_of t = option_to_list (option_map rebalance_item t.rebalance) ++ option_to_list (option_map pending_item t.pending)
 
-abbrev pub records_of : Operations → List Entry
-records_of t = map item_record (items_of t)
+abbrev pub records_of_operations : Operations → List DirectoryRecord
+records_of_operations t = map item_record (items_of t)
 
 -- each of the formats
-abbrev pub IsTable : Operations → Type 0
-IsTable t = AllByRecursion (λ i. IsTrue (is_item i)) (items_of t)
+abbrev pub IsOperationTable : Operations → Type 0
+IsOperationTable t = AllByRecursion (λ i. IsTrue (is_item i)) (items_of t)
 
 abbrev pub is_operation : Key → Bool
 is_operation key = key.kind == operations_kind

@@ -4,7 +4,7 @@ use Rattle.std.specs.Int.{w16}
 use Rattle.std.specs.Option.{is_some, option_and_then, option_map}
 use Rattle.asm_formats.specs.Items.{Item, Pending as PendingOperation, pending_item, rebalance_item}
 use Rattle.asm_base.specs.Readings.{number_reading}
-use Rattle.asm_base.specs.Records.{Entry, all_of}
+use Rattle.asm_base.specs.Records.{DirectoryRecord, all_of}
 use Rattle.asm_base.specs.Tables.{entry_of_record}
 use Rattle.operations_directory.specs.declared.reading.Operation.{Operation}
 use Rattle.operations_directory.specs.declared.reading.Operation.TheVariants.{Rebalance, Pending}
@@ -12,9 +12,9 @@ use Rattle.operations_directory.specs.Operations.{Operations}
 use Rattle.record_values.specs.Values.{pending_reading}
 
 -- the item that says an operation, and the operation that an item says
-abbrev pub item_of : Operation → Item
-item_of (Rebalance power) = rebalance_item power
-item_of (Pending p) = pending_item p
+abbrev pub item_of_operation : Operation → Item
+item_of_operation (Rebalance power) = rebalance_item power
+item_of_operation (Pending p) = pending_item p
 
 abbrev pub operation_of : Item → Option Operation
 operation_of (rebalance_item power) = Some (Rebalance power)
@@ -41,5 +41,5 @@ abbrev pub with_operation : Operations → Operation → Option Operations
 with_operation t (Rebalance power) = with_rebalance t power
 with_operation t (Pending p) = with_pending t p
 
-abbrev pub add : Operations → Entry → Option Operations
-add t e = option_and_then (with_operation t) (entry_of_record operation_of e)
+abbrev pub add_operation_record : Operations → DirectoryRecord → Option Operations
+add_operation_record t e = option_and_then (with_operation t) (entry_of_record operation_of e)

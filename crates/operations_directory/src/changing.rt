@@ -4,8 +4,8 @@ ghost use Rattle.std.specs.Prelude.{◌≡◌, None, Some, if◌then◌else◌};
 ghost use Rattle.std.specs.Bool.{OnFalse, OnTrue};
 ghost use Rattle.asm_formats.specs.Items.{Key as FormatKey, is_same_key, operations_kind};
 ghost use Rattle.asm_base.specs.Tables.{entry_of_record};
-ghost use Rattle.operations_directory.specs.Changing.{set_operation, value_at};
-ghost use Rattle.operations_directory.specs.Operations.{IsTable};
+ghost use Rattle.operations_directory.specs.Changing.{set_operation, operation_value_at};
+ghost use Rattle.operations_directory.specs.Operations.{IsOperationTable};
 ghost use Rattle.operations_directory.specs.Readings.{operation_of};
 
 use crate::reading::{Operation, operation_in};
@@ -18,10 +18,10 @@ impl OperationTable {
     #[tactic(auto, using(crate::proofs::ChangeLaws::operation_put, crate::proofs::ChangeLaws::operation_table))]
     pub fn put_record(&mut self, key: Key, value: &Value) -> bool
         requires { key.kind ≡ operations_kind }
-        ensures put { OnTrue result ((k : FormatKey) → k.kind ≡ operations_kind → value_at self.new k ≡ (if is_same_key key k then Some value.now else value_at self.old k)) }
+        ensures put { OnTrue result ((k : FormatKey) → k.kind ≡ operations_kind → operation_value_at self.new k ≡ (if is_same_key key k then Some value.now else operation_value_at self.old k)) }
         ensures refused { OnFalse result (entry_of_record operation_of (key, value.now) ≡ None) }
         ensures stays { OnFalse result (self.new ≡ self.old) }
-        ensures table { IsTable self.old → IsTable self.new }
+        ensures table { IsOperationTable self.old → IsOperationTable self.new }
     {
         let Some(operation) = operation_in(key, value.as_bytes()) else {
             return false;
@@ -43,8 +43,8 @@ impl OperationTable {
     #[tactic(auto, using(crate::proofs::ChangeLaws::rebalance_gone, crate::proofs::ChangeLaws::pending_gone, crate::proofs::ChangeLaws::other_gone, crate::proofs::ChangeLaws::no_rebalance, crate::proofs::ChangeLaws::no_pending))]
     pub fn remove_record(&mut self, key: Key)
         requires { key.kind ≡ operations_kind }
-        ensures gone { (k : FormatKey) → k.kind ≡ operations_kind → value_at self.new k ≡ (if is_same_key key k then None else value_at self.old k) }
-        ensures table { IsTable self.old → IsTable self.new }
+        ensures gone { (k : FormatKey) → k.kind ≡ operations_kind → operation_value_at self.new k ≡ (if is_same_key key k then None else operation_value_at self.old k) }
+        ensures table { IsOperationTable self.old → IsOperationTable self.new }
     {
         if key.b != 0 {
             return;

@@ -2,8 +2,8 @@
 
 ghost use Rattle.std.specs.Prelude.{◌≡◌, ◌++◌, IfOk, IfSome, IsOk, OnOk, Some};
 ghost use Rattle.asm_base.specs.Records.{of_kinds, read_from};
-ghost use Rattle.operations_directory.specs.Operations.{IsTable, Operations, is_operation, nothing_begun, records_of};
-ghost use Rattle.operations_directory.specs.Readings.{add, with_operation, with_pending, with_rebalance};
+ghost use Rattle.operations_directory.specs.Operations.{IsOperationTable, Operations, is_operation, nothing_begun, records_of_operations};
+ghost use Rattle.operations_directory.specs.Readings.{add_operation_record, with_operation, with_pending, with_rebalance};
 ghost use Rattle.asm_formats.specs.Items.{operations_kind};
 
 use crate::pending::Pending;
@@ -68,7 +68,7 @@ impl OperationTable {
 
     /// Puts the table's records into a change. After an `Err` some of them may stand there.
     pub fn to_records(&self, alloc: Global, change: &mut Change) -> Result<(), NoMemory>
-        ensures put { OnOk result (change.new.put ≡ change.old.put ++ records_of self.now) }
+        ensures put { OnOk result (change.new.put ≡ change.old.put ++ records_of_operations self.now) }
         ensures gone { change.new.gone ≡ change.old.gone }
     {
         if let Some(power) = self.rebalance {
@@ -83,9 +83,9 @@ impl OperationTable {
     /// The table whose records these are, or None where a record of its kind isn't of the formats. It takes no memory.
     pub fn from_records(records: &Records) -> Result<Option<OperationTable>, NoMemory>
         // What is read is a table that has these records.
-        ensures found { IfOk result (λ read. IfSome read (λ t. IsTable t × (of_kinds is_operation records.now ≡ records_of t))) }
+        ensures found { IfOk result (λ read. IfSome read (λ t. IsOperationTable t × (of_kinds is_operation records.now ≡ records_of_operations t))) }
         // A table that has these records is read.
-        ensures only { IfOk result (λ read. (t : Operations) → IsTable t → of_kinds is_operation records.now ≡ records_of t → read ≡ Some t) }
+        ensures only { IfOk result (λ read. (t : Operations) → IsOperationTable t → of_kinds is_operation records.now ≡ records_of_operations t → read ≡ Some t) }
         ensures ok { IsOk result }
     {
         Ok(OperationTable::read(records))
@@ -93,7 +93,7 @@ impl OperationTable {
 
     #[tactic(auto, unfolding(asm_base::specs::Records::read_from))]
     fn read(records: &Records) -> Option<OperationTable>
-        ensures { result ≡ read_from is_operation add nothing_begun records.now }
+        ensures { result ≡ read_from is_operation add_operation_record nothing_begun records.now }
     {
         let mut table = OperationTable::new();
         for (key, value) in records.iter() {
@@ -107,7 +107,7 @@ impl OperationTable {
     /// The table with one record more of its kind, where that follows the others.
     fn with_record(self, key: Key, value: &Value) -> Option<OperationTable>
         requires { key.kind ≡ operations_kind }
-        ensures { result ≡ add self (key, value.now) }
+        ensures { result ≡ add_operation_record self (key, value.now) }
     {
         let operation = operation_in(key, value.as_bytes())?;
         self.with_operation(operation)

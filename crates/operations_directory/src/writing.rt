@@ -3,7 +3,7 @@
 ghost use Rattle.std.specs.Prelude.{◌≡◌, IfOk};
 ghost use Rattle.asm_formats.specs.Items.{rebalance_item, pending_item};
 ghost use Rattle.asm_formats.specs.Values.{value, pending_value};
-ghost use Rattle.asm_base.specs.Cursors.{Puts};
+ghost use Rattle.asm_base.specs.Cursors.{PutsField};
 ghost use Rattle.asm_base.specs.Tables.{item_record};
 
 use crate::pending::Pending;
@@ -64,7 +64,7 @@ fn pending_value(alloc: Global, op: &Pending) -> Result<Value, NoMemory>
 
 fn put_pending(to: &mut Writer, op: &Pending)
     requires { to.old.at ≡ 0 }
-    ensures puts { Puts to.old to.new (pending_value op.now) }
+    ensures puts { PutsField to.old to.new (pending_value op.now) }
     ensures at { to.new.at ≡ 13 }
 {
     let op = *op;

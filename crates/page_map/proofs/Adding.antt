@@ -4,8 +4,8 @@ use Rattle.std.specs.Prelude.{is_some}
 use Rattle.std.proofs.lemmas.Bool.{true≢false, eqb-true, eq-eqb}
 use Rattle.asm_formats.specs.Items.{Key}
 use Rattle.allocator.specs.asm_base.Records.{is_key, record_at}
-use Rattle.page_map.specs.Free.{FreeMap, is_free, IsLeastFree}
-use Rattle.page_map.specs.Tables.{PageTable, IsTable, place_at, SameTable, Adds, Removes, is_page, one_if}
+use Rattle.page_map.specs.Free.{FreeMap, is_page_free, IsLeastFreePage}
+use Rattle.page_map.specs.Tables.{PageTable, IsPageTable, place_at, SameTable, Adds, Removes, is_this_page, one_if}
 use Rattle.page_map.proofs.Keys.{one_or_other, same_key, key_itself}
 
 -- what was put under a new key and taken away again
@@ -25,22 +25,22 @@ put_back old mid new key page absent put removed k = elim (one_or_other (is_key 
 ]
 
 -- a page that was taken and given back
-pub free_again : (old mid new : FreeMap) (page : ℕ) → is_free old page ≡ true
-    → ((p : ℕ) → is_free mid p ≡ cond (eqb p page) false (is_free old p)) → ((p : ℕ) → is_free new p ≡ cond (eqb p page) true (is_free mid p))
-    → (p : ℕ) → is_free new p ≡ is_free old p
+pub free_again : (old mid new : FreeMap) (page : ℕ) → is_page_free old page ≡ true
+    → ((p : ℕ) → is_page_free mid p ≡ cond (eqb p page) false (is_page_free old p)) → ((p : ℕ) → is_page_free new p ≡ cond (eqb p page) true (is_page_free mid p))
+    → (p : ℕ) → is_page_free new p ≡ is_page_free old p
 free_again old mid new page free taken given p = elim (one_or_other (eqb p page)) [
   | inl e ↦
       let same = eqb-true p page e in
-      let back : is_free new p ≡ true = rw e at (given p) in
-      back ∙ sym (subst (λ (q : ℕ). is_free old q ≡ true) (sym same) free)
+      let back : is_page_free new p ≡ true = rw e at (given p) in
+      back ∙ sym (subst (λ (q : ℕ). is_page_free old q ≡ true) (sym same) free)
   | inr e ↦
-      let kept : is_free new p ≡ is_free mid p = rw e at (given p) in
-      let was : is_free mid p ≡ is_free old p = rw e at (taken p) in
+      let kept : is_page_free new p ≡ is_page_free mid p = rw e at (given p) in
+      let was : is_page_free mid p ≡ is_page_free old p = rw e at (taken p) in
       kept ∙ was
 ]
 
 -- where lookups and free pages stay, the table does
-pub same_is_table : (old new : PageTable) → IsTable old → SameTable old new → IsTable new
+pub same_is_table : (old new : PageTable) → IsPageTable old → SameTable old new → IsPageTable new
 same_is_table old new sound same = record {
   same = λ k. ap is_some (same.records k) ∙ sound.same k ∙ sym (ap is_some (same.places k));
   inside = λ k page at. rw same.units (sound.inside k page (sym (same.places k) ∙ at));
@@ -53,11 +53,11 @@ some_is : {X : Type 0} (x y : X) → Some x ≡ Some y → x ≡ y
 some_is x y e = cc
 
 -- what an added record leaves is a table
-pub added_is_table : (old new : PageTable) (key : Key) (value : List ℕ) (page : ℕ) → IsTable old → place_at old.places key ≡ None → is_free old.free page ≡ true → page < old.free.units
+pub added_is_table : (old new : PageTable) (key : Key) (value : List ℕ) (page : ℕ) → IsPageTable old → place_at old.places key ≡ None → is_page_free old.free page ≡ true → page < old.free.units
     → ((k : Key) → record_at new.records k ≡ cond (is_key key k) (Some value) (record_at old.records k))
     → ((k : Key) → place_at new.places k ≡ cond (is_key key k) (Some page) (place_at old.places k))
-    → ((p : ℕ) → is_free new.free p ≡ cond (eqb p page) false (is_free old.free p)) → new.free.units ≡ old.free.units
-    → IsTable new
+    → ((p : ℕ) → is_page_free new.free p ≡ cond (eqb p page) false (is_page_free old.free p)) → new.free.units ≡ old.free.units
+    → IsPageTable new
 added_is_table old new key value page sound absent was_free within records places free units = record {
   same = λ k. elim (one_or_other (is_key key k)) [
     | inl e ↦ let r : record_at new.records k ≡ Some value = rw e at (records k) in let p : place_at new.places k ≡ Some page = rw e at (places k) in rw (r, p) refl
@@ -69,7 +69,7 @@ added_is_table old new key value page sound absent was_free within records place
   ];
   taken = λ k q at. free q ∙ elim (here k q at) [
     | inl h ↦ rw (eq-eqb q page h.1) refl
-    | inr h ↦ either (eqb q page) (is_free old.free q) (sound.taken k q h.1)
+    | inr h ↦ either (eqb q page) (is_page_free old.free q) (sound.taken k q h.1)
   ];
   apart = λ j k q first second. elim (here j q first) [
     | inl h ↦ elim (here k q second) [
@@ -84,7 +84,7 @@ added_is_table old new key value page sound absent was_free within records place
   owned = λ q lt taken. elim (one_or_other (eqb q page)) [
     | inl e ↦ let p : place_at new.places key ≡ Some page = rw (key_itself key) at (places key) in (key, p ∙ ap (λ (n : ℕ). Some n) (sym (eqb-true q page e)))
     | inr e ↦
-        let was : is_free new.free q ≡ is_free old.free q = rw e at (free q) in
+        let was : is_page_free new.free q ≡ is_page_free old.free q = rw e at (free q) in
         let h = sound.owned q (subst (λ (n : ℕ). q < n) units lt) (sym was ∙ taken) in
         (h.0, places h.0 ∙ rw (other h.0 q h.1) h.1)
   ];
@@ -109,13 +109,13 @@ added_is_table old new key value page sound absent was_free within records place
     | inr e ↦ let p : place_at new.places k ≡ place_at old.places k = rw e at (places k) in inr (e, sym p ∙ at)
   ]
 
-pub adds_table : (old new : PageTable) (key : Key) (value : List ℕ) → IsTable old → place_at old.places key ≡ None → Adds old new key value → IsTable new
+pub adds_table : (old new : PageTable) (key : Key) (value : List ℕ) → IsPageTable old → place_at old.places key ≡ None → Adds old new key value → IsPageTable new
 adds_table old new key value sound absent adds = added_is_table old new key value adds.page sound absent adds.least.free adds.least.inside adds.records adds.places adds.free adds.units
 
 -- ---- a record less
 
 -- what is left is a table
-pub removed_is_table : (old new : PageTable) (key : Key) → IsTable old → Removes old new key → IsTable new
+pub removed_is_table : (old new : PageTable) (key : Key) → IsPageTable old → Removes old new key → IsPageTable new
 removed_is_table old new key sound gone = record {
   same = λ k. elim (one_or_other (is_key key k)) [
     | inl e ↦ let r : record_at new.records k ≡ None = rw e at (gone.records k) in let p : place_at new.places k ≡ None = rw e at (gone.places k) in rw (r, p) refl
@@ -136,16 +136,16 @@ removed_is_table old new key sound gone = record {
   ]
 
   -- a key with a page that isn't given back is another one
-  stays : (was : Option ℕ) → place_at old.places key ≡ was → (k : Key) (q : ℕ) → place_at old.places k ≡ Some q → is_page was q ≡ false → is_key key k ≡ false
+  stays : (was : Option ℕ) → place_at old.places key ≡ was → (k : Key) (q : ℕ) → place_at old.places k ≡ Some q → is_this_page was q ≡ false → is_key key k ≡ false
   stays was there k q at isnt = elim (one_or_other (is_key key k)) [
     | inl e ↦
         let same : was ≡ Some q = sym there ∙ subst (λ (j : Key). place_at old.places j ≡ Some q) (sym (same_key key k e)) at in
-        absurd (true≢false (sym (ap (λ (o : Option ℕ). is_page o q) same ∙ eq-eqb q q refl) ∙ isnt))
+        absurd (true≢false (sym (ap (λ (o : Option ℕ). is_this_page o q) same ∙ eq-eqb q q refl) ∙ isnt))
     | inr e ↦ e
   ]
 
   -- a page that isn't given back stays with its key
-  held : (was : Option ℕ) → place_at old.places key ≡ was → (q : ℕ) → q < old.free.units → cond (is_page was q) true (is_free old.free q) ≡ false
+  held : (was : Option ℕ) → place_at old.places key ≡ was → (q : ℕ) → q < old.free.units → cond (is_this_page was q) true (is_page_free old.free q) ≡ false
       → (k : Key) × (place_at new.places k ≡ Some q)
   held None none q lt taken = let h = sound.owned q lt taken in
       let apart : is_key key h.0 ≡ false = stays None none h.0 q h.1 refl in
@@ -160,7 +160,7 @@ removed_is_table old new key sound gone = record {
 
   -- the page that is given back is another one
   other : (was : Option ℕ) → place_at old.places key ≡ was → (k : Key) (q : ℕ) → is_key key k ≡ false → place_at old.places k ≡ Some q
-      → cond (is_page was q) true (is_free old.free q) ≡ false
+      → cond (is_this_page was q) true (is_page_free old.free q) ≡ false
   other None none k q apart at = sound.taken k q at
   other (Some page) there k q apart at = elim (one_or_other (eqb q page)) [
     | inl e ↦ absurd (true≢false (sym (sound.apart key k q (there ∙ ap (λ (n : ℕ). Some n) (sym (eqb-true q page e))) at) ∙ apart))
@@ -168,7 +168,7 @@ removed_is_table old new key sound gone = record {
   ]
 
 -- a record that was added and taken away again
-pub undone : (a b c d : PageTable) (key : Key) (value : List ℕ) → IsTable a → place_at a.places key ≡ None → Adds a b key value → SameTable b c → Removes c d key → SameTable a d
+pub undone : (a b c d : PageTable) (key : Key) (value : List ℕ) → IsPageTable a → place_at a.places key ≡ None → Adds a b key value → SameTable b c → Removes c d key → SameTable a d
 undone a b c d key value sound absent added same gone = record {
   records = λ k. elim (one_or_other (is_key key k)) [
     | inl e ↦
@@ -180,7 +180,7 @@ undone a b c d key value sound absent added same gone = record {
         r ∙ same.records k ∙ s
   ];
   places = put_back a.places c.places d.places key added.page absent (λ k. same.places k ∙ added.places k) gone.places;
-  free = free_again a.free c.free d.free added.page added.least.free (λ p. same.free p ∙ added.free p) (λ p. gone.free p ∙ ap (λ (q : Option ℕ). cond (is_page q p) true (is_free c.free p)) there);
+  free = free_again a.free c.free d.free added.page added.least.free (λ p. same.free p ∙ added.free p) (λ p. gone.free p ∙ ap (λ (q : Option ℕ). cond (is_this_page q p) true (is_page_free c.free p)) there);
   units = gone.units ∙ same.units ∙ added.units;
   count =
       let one : one_if (is_some (place_at c.places key)) ≡ 1 = rw there refl in

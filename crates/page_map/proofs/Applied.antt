@@ -13,14 +13,14 @@ use Rattle.std.proofs.lemmas.Map.Lookups.{exact_unsigned}
 use Rattle.asm_formats.specs.asm_group.Names.{Bytes}
 use Rattle.asm_formats.specs.Bytes.{block_size}
 use Rattle.asm_formats.specs.Items.{Key}
-use Rattle.asm_formats.specs.Logs.{image_of}
+use Rattle.asm_formats.specs.Logs.{logged_image}
 use Rattle.asm_formats.specs.Pages.{with_images}
 use Rattle.asm_formats.specs.Status.{ascends_from}
 use Rattle.allocator.specs.asm_base.declared.block.Block.{Block}
-use Rattle.allocator.specs.asm_base.Records.{Entry, record_at}
+use Rattle.allocator.specs.asm_base.Records.{DirectoryRecord, record_at}
 use Rattle.page_map.specs.Changes.{is_put, is_gone, last_put}
-use Rattle.page_map.specs.Free.{is_free}
-use Rattle.page_map.specs.Tables.{PageTable, IsTable, Shows, place_at, block_of}
+use Rattle.page_map.specs.Free.{is_page_free}
+use Rattle.page_map.specs.Tables.{PageTable, IsPageTable, Shows, place_at, block_of}
 use Rattle.page_map.specs.Applying.{AddsNew, RemovesAll, SetsAll, Blocks, Applies, block_at, page_number}
 use Rattle.allocator.specs.asm_base.Blocks.{image_of_page}
 use Rattle.page_map.proofs.Keys.{one_or_other}
@@ -38,7 +38,7 @@ at_is n p = elim (one_or_other (eqb n p)) [
   other Equal e isnt = absurd (true≢false (sym (eq-eqb n p (sym (exact_unsigned p n e))) ∙ isnt))
   other Greater e isnt = refl
 
-pub image_is : (pages : List (ℕ × Block)) (p : ℕ) → image_of (map image_of_page pages) p ≡ block_at pages p
+pub image_is : (pages : List (ℕ × Block)) (p : ℕ) → logged_image (map image_of_page pages) p ≡ block_at pages p
 image_is [] p = refl
 image_is (e ∷ es) p = elim (one_or_other (eqb e.0 p)) [
   | inl here ↦ rw (here, at_is e.0 p, here) refl
@@ -80,7 +80,7 @@ all_from_zero (p ∷ ps) = (omega arith, all_from_zero ps)
 
 -- ---- the change
 
-module _ (a b c d : PageTable) (put : List Entry) (gone : List Key) (pages : List (ℕ × Block)) (sound : IsTable a) (sound_b : IsTable b)
+module _ (a b c d : PageTable) (put : List DirectoryRecord) (gone : List Key) (pages : List (ℕ × Block)) (sound : IsPageTable a) (sound_b : IsPageTable b)
     (adds : AddsNew a b put) (blocks : Blocks b put gone pages) (sets : SetsAll b c put) (removes : RemovesAll c d gone) where
   is_nothing : {X : Type 0} (x : Option X) → is_some x ≡ false → x ≡ None
   is_nothing None e = refl
@@ -121,10 +121,10 @@ module _ (a b c d : PageTable) (put : List Entry) (gone : List Key) (pages : Lis
   not_true false h = refl
 
   still_taken : ((k : Key) → is_put put k ≡ true → is_gone gone k ≡ false) → (k : Key) (p q : ℕ) → place_at a.places k ≡ None → place_at d.places k ≡ Some p → q < p
-      → is_free a.free q ≡ true → is_free d.free q ≡ false
-  still_taken alone k p q none at below free = not_true (is_free d.free q) (λ freed. elim (removes.freed q freed) [
+      → is_page_free a.free q ≡ true → is_page_free d.free q ≡ false
+  still_taken alone k p q none at below free = not_true (is_page_free d.free q) (λ freed. elim (removes.freed q freed) [
     | inl was ↦
-        let free_b : is_free b.free q ≡ true = sym (ap (λ f. is_free f q) sets.free) ∙ was in
+        let free_b : is_page_free b.free q ≡ true = sym (ap (λ f. is_page_free f q) sets.free) ∙ was in
         true≢false (sym free_b ∙ adds.least k p q none (page_before k p at).1 below)
     | inr h ↦
         let at_b : place_at b.places h.0 ≡ Some q = subst (λ (ps : List (Key × ℕ)). place_at ps h.0 ≡ Some q) sets.places h.1 in
@@ -148,10 +148,10 @@ module _ (a b c d : PageTable) (put : List Entry) (gone : List Key) (pages : Lis
             ∙ ap (block_of k) (sym (adds.records k was) ∙ sym (last_put_none put k (record_at b.records k) isnt) ∙ sym value)
       ]
 
-  shown_free : (page : ℕ → Bytes) → Shows a page → (p : ℕ) → is_free d.free p ≡ true → with_images (map image_of_page pages) page p ≡ replicate block_size 0
+  shown_free : (page : ℕ → Bytes) → Shows a page → (p : ℕ) → is_page_free d.free p ≡ true → with_images (map image_of_page pages) page p ≡ replicate block_size 0
   shown_free page shows p free = elim (removes.freed p free) [
     | inl was ↦
-        let free_b : is_free b.free p ≡ true = sym (ap (λ f. is_free f p) sets.free) ∙ was in
+        let free_b : is_page_free b.free p ≡ true = sym (ap (λ f. is_page_free f p) sets.free) ∙ was in
         block_is page p None (blocks.free p free_b) ∙ shows.free p (adds.free p free_b)
     | inr h ↦
         let at : place_at b.places h.0 ≡ Some p = subst (λ (ps : List (Key × ℕ)). place_at ps h.0 ≡ Some p) sets.places h.1 in

@@ -8,10 +8,10 @@ use Rattle.asm_formats.specs.asm_group.Names.{Bytes}
 use Rattle.asm_formats.specs.Bytes.{block_size}
 use Rattle.asm_formats.specs.Items.{Key}
 use Rattle.allocator.specs.asm_base.declared.block.Block.{Block}
-use Rattle.allocator.specs.asm_base.Records.{Entry, is_key, record_at}
+use Rattle.allocator.specs.asm_base.Records.{DirectoryRecord, is_key, record_at}
 use Rattle.page_map.specs.Changes.{is_put, is_gone, last_put}
-use Rattle.page_map.specs.Free.{is_free}
-use Rattle.page_map.specs.Tables.{PageTable, IsTable, place_at, block_of, Adds, Removes, is_page, is_new}
+use Rattle.page_map.specs.Free.{is_page_free}
+use Rattle.page_map.specs.Tables.{PageTable, IsPageTable, place_at, block_of, Adds, Removes, is_this_page, is_new}
 use Rattle.page_map.specs.Applying.{AddsNew, RemovesAll, PutOne, PutBlocks, GoneBlocks, block_at}
 use Rattle.page_map.proofs.Keys.{one_or_other, same_key, key_itself}
 
@@ -40,7 +40,7 @@ on_ok_both (Err e) f a b = tt
 
 -- ---- new keys
 
-pub keys_more : (t : PageTable) (key : Key) (rest : List Entry) (old new : List (Key × Unit {0})) → is_new t key ≡ true
+pub keys_more : (t : PageTable) (key : Key) (rest : List DirectoryRecord) (old new : List (Key × Unit {0})) → is_new t key ≡ true
     → ((k : Key) → lookup (is_key k) new ≡ cond (is_key key k) (Some tt) (lookup (is_key k) old))
     → ((k : Key) → is_some (lookup (is_key k) old) ≡ (is_new t k && is_put rest k))
     → (k : Key) → is_some (lookup (is_key k) new) ≡ (is_new t k && (is_key key k || is_put rest k))
@@ -54,7 +54,7 @@ keys_more t key rest old new is puts keys k = elim (one_or_other (is_key key k))
       rw (l, e) (keys k)
 ]
 
-pub keys_same : (t : PageTable) (key : Key) (rest : List Entry) (old : List (Key × Unit {0})) → is_new t key ≡ false
+pub keys_same : (t : PageTable) (key : Key) (rest : List DirectoryRecord) (old : List (Key × Unit {0})) → is_new t key ≡ false
     → ((k : Key) → is_some (lookup (is_key k) old) ≡ (is_new t k && is_put rest k))
     → (k : Key) → is_some (lookup (is_key k) old) ≡ (is_new t k && (is_key key k || is_put rest k))
 keys_same t key rest old is keys k = elim (one_or_other (is_key key k)) [
@@ -67,7 +67,7 @@ keys_same t key rest old is keys k = elim (one_or_other (is_key key k)) [
 
 -- ---- the pages that change
 
-pub block_put : (t : PageTable) (key : Key) (bytes : Bytes) (page : ℕ) (old new : List (ℕ × Block)) → IsTable t → place_at t.places key ≡ Some page
+pub block_put : (t : PageTable) (key : Key) (bytes : Bytes) (page : ℕ) (old new : List (ℕ × Block)) → IsPageTable t → place_at t.places key ≡ Some page
     → ((p : ℕ) → block_at new p ≡ cond (eqb p page) (Some bytes) (block_at old p)) → length new ≤ length old + 1 → PutOne t key bytes old new
 block_put t key bytes page old new sound at blocks count = record {
   block = λ k p here. elim (one_or_other (is_key key k)) [
@@ -77,7 +77,7 @@ block_put t key bytes page old new sound at blocks count = record {
         rw e b
     | inr e ↦ rw e (stays p (λ same. true≢false (sym (sound.apart key k page at (here ∙ ap (λ (n : ℕ). Some n) same)) ∙ e)))
   ];
-  free = λ p free. stays p (λ same. true≢false (sym free ∙ ap (is_free t.free) same ∙ sound.taken key page at));
+  free = λ p free. stays p (λ same. true≢false (sym free ∙ ap (is_page_free t.free) same ∙ sound.taken key page at));
   outside = λ p past. stays p (λ same. let inside = sound.inside key page at in omega arith);
   count = count;
 } where
@@ -99,21 +99,21 @@ no_block_put t key bytes old none = record {
 }
 
 -- the last put is what counts
-pub last_put_any : (put : List Entry) (k : Key) (b c : Option (List ℕ)) → is_put put k ≡ true → last_put put k b ≡ last_put put k c
+pub last_put_any : (put : List DirectoryRecord) (k : Key) (b c : Option (List ℕ)) → is_put put k ≡ true → last_put put k b ≡ last_put put k c
 last_put_any [] k b c e = absurd (true≢false (sym e))
 last_put_any (p ∷ put) k b c e = elim (one_or_other (is_key p.0 k)) [
   | inl here ↦ rw here refl
   | inr not ↦ let later : is_put put k ≡ true = rw not at e in rw not (last_put_any put k b c later)
 ]
 
-pub last_put_none : (put : List Entry) (k : Key) (b : Option (List ℕ)) → is_put put k ≡ false → last_put put k b ≡ b
+pub last_put_none : (put : List DirectoryRecord) (k : Key) (b : Option (List ℕ)) → is_put put k ≡ false → last_put put k b ≡ b
 last_put_none [] k b e = refl
 last_put_none (p ∷ put) k b e = elim (one_or_other (is_key p.0 k)) [
   | inl here ↦ absurd (true≢false (rw here at e))
   | inr not ↦ let later : is_put put k ≡ false = rw not at e in rw not (last_put_none put k b later)
 ]
 
-pub put_more : (t : PageTable) (key : Key) (value : List ℕ) (rest : List Entry) (old mid new : List (ℕ × Block)) → PutOne t key (block_of key (Some value)) old mid → PutBlocks t rest mid new
+pub put_more : (t : PageTable) (key : Key) (value : List ℕ) (rest : List DirectoryRecord) (old mid new : List (ℕ × Block)) → PutOne t key (block_of key (Some value)) old mid → PutBlocks t rest mid new
     → PutBlocks t ((key, value) ∷ rest) old new
 put_more t key value rest old mid new one others = record {
   block = λ k p here. others.block k p here ∙ elim (one_or_other (is_put rest k)) [
@@ -180,7 +180,7 @@ remove_more a b c key rest one others = record {
         let n = none_else (is_key key h.0) (place_at a.places h.0) p (sym (one.places h.0) ∙ h.1) in
         inr (h.0, n.1, rw h.2 (or_true (is_key key h.0)))
   ];
-  free = λ p free. others.free p (one.free p ∙ rw free (either (is_page (place_at a.places key) p)));
+  free = λ p free. others.free p (one.free p ∙ rw free (either (is_this_page (place_at a.places key) p)));
   units = others.units ∙ one.units;
 } where
   joined : {X : Type 0} (x y : Bool) (v : Option X) → cond y None (cond x None v) ≡ cond (x || y) None v
@@ -193,8 +193,8 @@ remove_more a b c key rest one others = record {
   either true = refl
   either false = refl
 
-  first : (was : Option ℕ) → place_at a.places key ≡ was → (p : ℕ) → cond (is_page was p) true (is_free a.free p) ≡ true
-      → (is_free a.free p ≡ true) ⊎ ((k : Key) × (place_at a.places k ≡ Some p) × (is_gone (key ∷ rest) k ≡ true))
+  first : (was : Option ℕ) → place_at a.places key ≡ was → (p : ℕ) → cond (is_this_page was p) true (is_page_free a.free p) ≡ true
+      → (is_page_free a.free p ≡ true) ⊎ ((k : Key) × (place_at a.places k ≡ Some p) × (is_gone (key ∷ rest) k ≡ true))
   first None e p free = inl free
   first (Some page) e p free = elim (one_or_other (eqb p page)) [
     | inl here ↦ inr (key, e ∙ ap (λ (n : ℕ). Some n) (sym (eqb-true p page here)), rw (key_itself key) refl)
@@ -218,7 +218,7 @@ add_none a = record {
   or_false false = refl
 
 -- a key that is there is not new
-pub add_there : (a c : PageTable) (key : Key) (value : List ℕ) (rest : List Entry) → is_some (place_at a.places key) ≡ true → AddsNew a c rest → AddsNew a c ((key, value) ∷ rest)
+pub add_there : (a c : PageTable) (key : Key) (value : List ℕ) (rest : List DirectoryRecord) → is_some (place_at a.places key) ≡ true → AddsNew a c rest → AddsNew a c ((key, value) ∷ rest)
 add_there a c key value rest is others = record {
   there = λ k. others.there k ∙ elim (one_or_other (is_key key k)) [
     | inl e ↦ let was : is_some (place_at a.places k) ≡ true = subst (λ (j : Key). is_some (place_at a.places j) ≡ true) (same_key key k e) is in rw was refl
@@ -236,7 +236,7 @@ not_true : (b : Bool) → (b ≡ true → ⊥) → b ≡ false
 not_true true h = absurd (h refl)
 not_true false h = refl
 
-pub add_more : (a b c : PageTable) (key : Key) (value copy : List ℕ) (rest : List Entry) → place_at a.places key ≡ None → Adds a b key copy → AddsNew b c rest
+pub add_more : (a b c : PageTable) (key : Key) (value copy : List ℕ) (rest : List DirectoryRecord) → place_at a.places key ≡ None → Adds a b key copy → AddsNew b c rest
     → AddsNew a c ((key, value) ∷ rest)
 add_more a b c key value copy rest absent one others = record {
   there = λ k. others.there k ∙ elim (one_or_other (is_key key k)) [
@@ -250,14 +250,14 @@ add_more a b c key value copy rest absent one others = record {
       others.records k (ap is_some p ∙ was) ∙ r;
   free = λ p free. was_free p (others.free p free);
   from = λ k p none at. elim (one_or_other (is_key key k)) [
-    | inl e ↦ let same = its_page k p e at in subst (λ (n : ℕ). is_free a.free n ≡ true) (sym same) one.least.free
+    | inl e ↦ let same = its_page k p e at in subst (λ (n : ℕ). is_page_free a.free n ≡ true) (sym same) one.least.free
     | inr e ↦ let n : place_at b.places k ≡ place_at a.places k = rw e at (one.places k) in was_free p (others.from k p (n ∙ none) at)
   ];
   least = λ k p q none at below. elim (one_or_other (is_key key k)) [
     | inl e ↦
         let same = its_page k p e at in
         let lower : q < one.page = omega arith in
-        not_true (is_free c.free q) (λ free. true≢false (sym (was_free q (others.free q free)) ∙ one.least.least q lower))
+        not_true (is_page_free c.free q) (λ free. true≢false (sym (was_free q (others.free q free)) ∙ one.least.least q lower))
     | inr e ↦ let n : place_at b.places k ≡ place_at a.places k = rw e at (one.places k) in others.least k p q (n ∙ none) at below
   ];
   units = others.units ∙ one.units;
@@ -274,15 +274,15 @@ add_more a b c key value copy rest absent one others = record {
       let b_at : place_at b.places k ≡ Some one.page = rw e at (one.places k) in
       some_same p one.page (sym at ∙ others.places k (ap is_some b_at) ∙ b_at)
 
-  was_free : (p : ℕ) → is_free b.free p ≡ true → is_free a.free p ≡ true
+  was_free : (p : ℕ) → is_page_free b.free p ≡ true → is_page_free a.free p ≡ true
   was_free p free = elim (one_or_other (eqb p one.page)) [
-    | inl e ↦ let taken : is_free b.free p ≡ false = rw e at (one.free p) in absurd (true≢false (sym free ∙ taken))
-    | inr e ↦ let same : is_free b.free p ≡ is_free a.free p = rw e at (one.free p) in sym same ∙ free
+    | inl e ↦ let taken : is_page_free b.free p ≡ false = rw e at (one.free p) in absurd (true≢false (sym free ∙ taken))
+    | inr e ↦ let same : is_page_free b.free p ≡ is_page_free a.free p = rw e at (one.free p) in sym same ∙ free
   ]
 
 -- ---- values
 
-pub is_put_end : (put : List Entry) (last : Entry) (k : Key) → is_put (put ++ last ∷ []) k ≡ (is_put put k || is_key last.0 k)
+pub is_put_end : (put : List DirectoryRecord) (last : DirectoryRecord) (k : Key) → is_put (put ++ last ∷ []) k ≡ (is_put put k || is_key last.0 k)
 is_put_end [] last k = or_false (is_key last.0 k) where
   or_false : (b : Bool) → (b || false) ≡ b
   or_false true = refl
@@ -292,6 +292,6 @@ is_put_end (p ∷ put) last k = ap (λ (b : Bool). is_key p.0 k || b) (is_put_en
   or_assoc true y z = refl
   or_assoc false y z = refl
 
-pub last_put_end : (put : List Entry) (last : Entry) (k : Key) (b : Option (List ℕ)) → last_put (put ++ last ∷ []) k b ≡ cond (is_key last.0 k) (Some last.1) (last_put put k b)
+pub last_put_end : (put : List DirectoryRecord) (last : DirectoryRecord) (k : Key) (b : Option (List ℕ)) → last_put (put ++ last ∷ []) k b ≡ cond (is_key last.0 k) (Some last.1) (last_put put k b)
 last_put_end [] last k b = refl
 last_put_end (p ∷ put) last k b = last_put_end put last k (cond (is_key p.0 k) (Some p.1) b)

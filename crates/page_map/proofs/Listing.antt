@@ -12,9 +12,9 @@ use Rattle.asm_formats.specs.Items.{Key}
 use Rattle.allocator.specs.asm_base.declared.block.Block.{Block}
 use Rattle.allocator.specs.asm_base.Records.{is_key, key_cmp, record_at}
 use Rattle.page_map.specs.Applying.{block_at, page_number}
-use Rattle.page_map.specs.Free.{is_free}
-use Rattle.page_map.specs.Listing.{Lists, ListsBut, key_of_place, shown_by}
-use Rattle.page_map.specs.Tables.{PageTable, IsTable, place_at, block_of}
+use Rattle.page_map.specs.Free.{is_page_free}
+use Rattle.page_map.specs.Listing.{Lists, ListsBut, key_of_place, page_shown_by}
+use Rattle.page_map.specs.Tables.{PageTable, IsPageTable, place_at, block_of}
 use Rattle.page_map.proofs.Applied.{image_is, inside_is, ascends, all_from_zero}
 use Rattle.page_map.proofs.Keys.{one_or_other, same_key, key_itself}
 
@@ -32,7 +32,7 @@ behind key (e ∷ es) k p all at = elim (one_or_other (is_key k e.0)) [
   | inr other ↦ behind key es k p all.1 (rw other at at)
 ]
 
-module _ (t : PageTable) (key : Key) (page : ℕ) (left : List (Key × ℕ)) (old new : List (ℕ × Block)) (sound : IsTable t) (before : ListsBut t ((key, page) ∷ left) old)
+module _ (t : PageTable) (key : Key) (page : ℕ) (left : List (Key × ℕ)) (old new : List (ℕ × Block)) (sound : IsPageTable t) (before : ListsBut t ((key, page) ∷ left) old)
     (blocks : (p : ℕ) → block_at new p ≡ cond (eqb p page) (Some (block_of key (record_at t.records key))) (block_at old p))
     (more : block_at old page ≡ None → length new ≡ length old + 1) where
   sorted : AllByRecursion (λ (y : Key). key_cmp key y ≡ Less) (map key_of_place left) × IsStrictlySortedBy key_cmp (map key_of_place left)
@@ -79,7 +79,7 @@ module _ (t : PageTable) (key : Key) (page : ℕ) (left : List (Key × ℕ)) (ol
           elsewhere p (other_page k p at e) ∙ before.done k p at before_none
     ];
     later = λ k p at. elsewhere p (other_page k p (before.there k p (still_left k p at)) (apart k p at)) ∙ before.later k p (still_left k p at);
-    free = λ p free. elsewhere p (λ same. true≢false (sym free ∙ ap (is_free t.free) same ∙ sound.taken key page placed)) ∙ before.free p free;
+    free = λ p free. elsewhere p (λ same. true≢false (sym free ∙ ap (is_page_free t.free) same ∙ sound.taken key page placed)) ∙ before.free p free;
     outside = λ p past. elsewhere p (λ same. let inside = sound.inside key page placed in omega arith) ∙ before.outside p past;
     count = omega (arith, before.count, more (before.later key page here));
     ordered = sorted.1;
@@ -96,13 +96,13 @@ list_first t ordered = record {
   ordered = ordered;
 }
 
-module _ (t : PageTable) (pages : List (ℕ × Block)) (sound : IsTable t) (all : ListsBut t [] pages) (ascend : IsStrictlySortedBy nat_cmp (map page_number pages)) where
-  block_is : (p : ℕ) (b : Option Bytes) → block_at pages p ≡ b → shown_by pages p ≡ unwrap_or b (replicate block_size 0)
+module _ (t : PageTable) (pages : List (ℕ × Block)) (sound : IsPageTable t) (all : ListsBut t [] pages) (ascend : IsStrictlySortedBy nat_cmp (map page_number pages)) where
+  block_is : (p : ℕ) (b : Option Bytes) → block_at pages p ≡ b → page_shown_by pages p ≡ unwrap_or b (replicate block_size 0)
   block_is p b e = ap (λ (x : Option Bytes). unwrap_or x (replicate block_size 0)) (image_is pages p ∙ e)
 
   held : (p : ℕ) (b : Bytes) → block_at pages p ≡ Some b → (k : Key) × (place_at t.places k ≡ Some p)
   held p b is = elim (cases_lt p t.free.units) [
-    | inl inside ↦ elim (one_or_other (is_free t.free p)) [
+    | inl inside ↦ elim (one_or_other (is_page_free t.free p)) [
       | inl free ↦ absurd (some_none b (sym (all.free p free) ∙ is))
       | inr taken ↦ sound.owned p inside taken
     ]

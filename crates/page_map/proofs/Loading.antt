@@ -10,8 +10,8 @@ use Rattle.asm_formats.specs.asm_group.Names.{Bytes}
 use Rattle.asm_formats.specs.Among.{IsAmong}
 use Rattle.asm_formats.specs.Bytes.{block_size}
 use Rattle.asm_formats.specs.Content.{is_page, is_empty_page, page_items}
-use Rattle.asm_formats.specs.Items.{Item, Key, key, is_item}
-use Rattle.asm_formats.specs.Logs.{image_of}
+use Rattle.asm_formats.specs.Items.{Item, Key, item_key, is_item}
+use Rattle.asm_formats.specs.Logs.{logged_image}
 use Rattle.asm_formats.specs.Records.{Frame, frame_of, record_spelling, decoded_frame}
 use Rattle.asm_formats.specs.Status.{ascends_from}
 use Rattle.asm_formats.specs.Values.{value}
@@ -20,16 +20,16 @@ use Rattle.asm_formats.proofs.PageReading.{page_read, record_read}
 use Rattle.asm_formats.proofs.RecordReading.{frame_again, item_frame}
 use Rattle.allocator.specs.asm_base.declared.block.Block.{Block}
 use Rattle.allocator.specs.asm_base.Frames.{entry_frame}
-use Rattle.allocator.specs.asm_base.Records.{Entry, is_key, record_at}
+use Rattle.allocator.specs.asm_base.Records.{DirectoryRecord, is_key, record_at}
 use Rattle.page_map.specs.Applying.{page_number}
 use Rattle.allocator.specs.asm_base.Blocks.{image_of_page}
 use Rattle.page_map.specs.Contents.{AreItems, IsItemOf}
-use Rattle.page_map.specs.Free.{is_free}
-use Rattle.page_map.specs.Listing.{shown_by}
-use Rattle.page_map.specs.Loaded.{AddsAt, AreFilled, IsTableOf, IsTwin, IsFirstTwin, IsBlockOf, PutsPage, ReadsItem, HasKey, Stands, Holds, HasNoTable, MakesTwin, TwinCause}
+use Rattle.page_map.specs.Free.{is_page_free}
+use Rattle.page_map.specs.Listing.{page_shown_by}
+use Rattle.page_map.specs.Loaded.{AddsAt, AreFilled, IsTableOf, IsTwinPage, IsFirstTwin, IsBlockOf, PutsPage, ReadsItem, HasKey, StandsOnPage, HoldsTable, HasNoTable, MakesTwin, TwinCause}
 use Rattle.page_map.specs.declared.loaded.LoadedError.{LoadedError}
 use Rattle.page_map.specs.declared.loaded.LoadedError.TheVariants.{Twin, NoMemory}
-use Rattle.page_map.specs.Tables.{PageTable, IsTable, Shows, place_at, block_of}
+use Rattle.page_map.specs.Tables.{PageTable, IsPageTable, Shows, place_at, block_of}
 use Rattle.page_map.proofs.Adding.{added_is_table}
 use Rattle.page_map.proofs.Keys.{one_or_other, same_key, key_itself}
 use Rattle.page_map.proofs.Pages.{free_inside}
@@ -50,7 +50,7 @@ block_item b page filled =
     (page_read b.bytes s.0 s.1)
 
 -- what is decoded of the block of an item
-pub decodes : (b : Block) (i : Item) (read : Option Entry) → IsBlockOf b i → option_map entry_frame read ≡ decoded_frame b.bytes → option_map entry_frame read ≡ Some (frame_of i)
+pub decodes : (b : Block) (i : Item) (read : Option DirectoryRecord) → IsBlockOf b i → option_map entry_frame read ≡ decoded_frame b.bytes → option_map entry_frame read ≡ Some (frame_of i)
 decodes b i read is e = e ∙ ap decoded_frame is.bytes ∙ frame_again (frame_of i) (item_frame i is.is)
 
 none_frame : (f : Frame) → None ≡ Some f → ⊥
@@ -59,13 +59,13 @@ none_frame f e = absurd cc
 pub reads_some : (b : Block) → is_page b.bytes ≡ true → is_empty_page b.bytes ≡ false → option_map entry_frame None ≡ decoded_frame b.bytes → ⊥
 reads_some b page filled e = let i = block_item b page filled in none_frame (frame_of i.0) (decodes b i.0 None i.1 e)
 
-pub reads_item : (b : Block) (e : Entry) → is_page b.bytes ≡ true → is_empty_page b.bytes ≡ false → option_map entry_frame (Some e) ≡ decoded_frame b.bytes → ReadsItem b e
+pub reads_item : (b : Block) (e : DirectoryRecord) → is_page b.bytes ≡ true → is_empty_page b.bytes ≡ false → option_map entry_frame (Some e) ≡ decoded_frame b.bytes → ReadsItem b e
 reads_item b e page filled read =
     let i = block_item b page filled in
     let same : entry_frame e ≡ frame_of i.0 = same_Some (entry_frame e) (frame_of i.0) (decodes b i.0 (Some e) i.1 read) in
     record { item = i.0; is = i.1; key_is = sym (ap (λ (f : Frame). f.key) same); value_is = sym (ap (λ (f : Frame). f.value) same) }
 
-pub puts_page : (old new : PageTable) (page : ℕ) (b : Block) (e : Entry) → ReadsItem b e → place_at old.places e.0 ≡ None → AddsAt old new e.0 e.1 page → PutsPage old new page b
+pub puts_page : (old new : PageTable) (page : ℕ) (b : Block) (e : DirectoryRecord) → ReadsItem b e → place_at old.places e.0 ≡ None → AddsAt old new e.0 e.1 page → PutsPage old new page b
 puts_page old new page b e reads absent adds = record {
   item = reads.item;
   reads = reads.is;
@@ -73,7 +73,7 @@ puts_page old new page b e reads absent adds = record {
   adds = subst (λ (k : Key). AddsAt old new k (value reads.item) page) (sym reads.key_is) (subst (λ (v : List ℕ). AddsAt old new e.0 v page) (sym reads.value_is) adds);
 }
 
-pub has_key : (old : PageTable) (b : Block) (e : Entry) → ReadsItem b e → is_some (place_at old.places e.0) ≡ true → HasKey old b
+pub has_key : (old : PageTable) (b : Block) (e : DirectoryRecord) → ReadsItem b e → is_some (place_at old.places e.0) ≡ true → HasKey old b
 has_key old b e reads there = record { item = reads.item; reads = reads.is; there = ap (λ (k : Key). is_some (place_at old.places k)) reads.key_is ∙ there }
 
 -- ---- lists
@@ -141,15 +141,15 @@ all_are t (y ∷ xs) x all (inl e) = ap t e ∙ (and_parts (t y) (list_all t xs)
 all_are t (y ∷ xs) x all (inr h) = all_are t xs x (and_parts (t y) (list_all t xs) all).1 h
 
 -- the image of a page
-found : (m : ℕ) (zs : List (ℕ × Block)) (q : ℕ × Block) → ascends_from m (map page_number zs) ≡ true → IsAmong zs q → image_of (map image_of_page zs) q.0 ≡ Some q.1.bytes
+found : (m : ℕ) (zs : List (ℕ × Block)) (q : ℕ × Block) → ascends_from m (map page_number zs) ≡ true → IsAmong zs q → logged_image (map image_of_page zs) q.0 ≡ Some q.1.bytes
 found m [] q up among = absurd among
-found m (x ∷ zs) q up (inl same) = subst (λ (r : ℕ × Block). image_of (map image_of_page (x ∷ zs)) r.0 ≡ Some r.1.bytes) (sym same) (rw (eq-eqb x.0 x.0 refl) refl)
+found m (x ∷ zs) q up (inl same) = subst (λ (r : ℕ × Block). logged_image (map image_of_page (x ∷ zs)) r.0 ≡ Some r.1.bytes) (sym same) (rw (eq-eqb x.0 x.0 refl) refl)
 found m (x ∷ zs) q up (inr there) =
     let parts = and_parts (nat_le m x.0) (ascends_from (x.0 + 1) (map page_number zs)) up in
     let past : x.0 + 1 ≤ q.0 = above (x.0 + 1) zs parts.1 q there in
     rw (ne_eqb x.0 q.0 (λ e. omega arith)) (found (x.0 + 1) zs q parts.1 there)
 
-missing : (zs : List (ℕ × Block)) (page : ℕ) → ((q : ℕ × Block) → IsAmong zs q → q.0 ≡ page → ⊥) → image_of (map image_of_page zs) page ≡ None
+missing : (zs : List (ℕ × Block)) (page : ℕ) → ((q : ℕ × Block) → IsAmong zs q → q.0 ≡ page → ⊥) → logged_image (map image_of_page zs) page ≡ None
 missing [] page none = refl
 missing (x ∷ zs) page none = rw (ne_eqb x.0 page (none x (inl refl))) (missing zs page (λ q h. none q (inr h)))
 
@@ -174,66 +174,66 @@ other_key t j k q absent at = ⊎_elim
     (one_or_other (is_key j k))
 
 -- a page that stood there does still
-still_stands : (old new : PageTable) (j : Key) (v : List ℕ) (page : ℕ) (p : ℕ × Block) (i : Item) → place_at old.places j ≡ None → AddsAt old new j v page → Stands old p i → Stands new p i
+still_stands : (old new : PageTable) (j : Key) (v : List ℕ) (page : ℕ) (p : ℕ × Block) (i : Item) → place_at old.places j ≡ None → AddsAt old new j v page → StandsOnPage old p i → StandsOnPage new p i
 still_stands old new j v page p i absent adds stands =
-    let other = other_key old j (key i) p.0 absent stands.place in
+    let other = other_key old j (item_key i) p.0 absent stands.place in
     record {
       block = stands.block;
-      place = adds.places (key i) ∙ ap (λ (b : Bool). cond b (Some page) (place_at old.places (key i))) other ∙ stands.place;
-      record_is = adds.records (key i) ∙ ap (λ (b : Bool). cond b (Some v) (record_at old.records (key i))) other ∙ stands.record_is;
+      place = adds.places (item_key i) ∙ ap (λ (b : Bool). cond b (Some page) (place_at old.places (item_key i))) other ∙ stands.place;
+      record_is = adds.records (item_key i) ∙ ap (λ (b : Bool). cond b (Some v) (record_at old.records (item_key i))) other ∙ stands.record_is;
     }
 
-module _ (blocks : List (ℕ × Block)) (old new : PageTable) (page : ℕ) (b : Block) (holds : Holds blocks old) (free : is_free old.free page ≡ true) (puts : PutsPage old new page b) where
-  stands_here : Stands new (page, b) puts.item
+module _ (blocks : List (ℕ × Block)) (old new : PageTable) (page : ℕ) (b : Block) (holds : HoldsTable blocks old) (free : is_page_free old.free page ≡ true) (puts : PutsPage old new page b) where
+  stands_here : StandsOnPage new (page, b) puts.item
   stands_here = record {
     block = puts.reads;
-    place = puts.adds.places (key puts.item) ∙ ap (λ (c : Bool). cond c (Some page) (place_at old.places (key puts.item))) (key_itself (key puts.item));
-    record_is = puts.adds.records (key puts.item) ∙ ap (λ (c : Bool). cond c (Some (value puts.item)) (record_at old.records (key puts.item))) (key_itself (key puts.item));
+    place = puts.adds.places (item_key puts.item) ∙ ap (λ (c : Bool). cond c (Some page) (place_at old.places (item_key puts.item))) (key_itself (item_key puts.item));
+    record_is = puts.adds.records (item_key puts.item) ∙ ap (λ (c : Bool). cond c (Some (value puts.item)) (record_at old.records (item_key puts.item))) (key_itself (item_key puts.item));
   }
 
-  still : (p : ℕ × Block) (j : Item) → Stands old p j → Stands new p j
-  still p j stands = still_stands old new (key puts.item) (value puts.item) page p j puts.absent puts.adds stands
+  still : (p : ℕ × Block) (j : Item) → StandsOnPage old p j → StandsOnPage new p j
+  still p j stands = still_stands old new (item_key puts.item) (value puts.item) page p j puts.absent puts.adds stands
 
-  pub holds_more : Holds (blocks ++ (page, b) ∷ []) new
+  pub holds_more : HoldsTable (blocks ++ (page, b) ∷ []) new
   holds_more = record {
-    is_table = added_is_table old new (key puts.item) (value puts.item) page holds.is_table puts.absent free (free_inside old.free page free) puts.adds.records puts.adds.places puts.adds.free puts.adds.units;
+    is_table = added_is_table old new (item_key puts.item) (value puts.item) page holds.is_table puts.absent free (free_inside old.free page free) puts.adds.records puts.adds.places puts.adds.free puts.adds.units;
     each = λ p among. ⊎_elim
         (λ (there : IsAmong blocks p). let s = holds.each p there in (s.0, still p s.0 s.1))
-        (λ (here : p ≡ (page, b)). (puts.item, subst (λ (r : ℕ × Block). Stands new r puts.item) (sym here) stands_here))
+        (λ (here : p ≡ (page, b)). (puts.item, subst (λ (r : ℕ × Block). StandsOnPage new r puts.item) (sym here) stands_here))
         (among_end blocks (page, b) p among);
     from = λ k q at. ⊎_elim
-        (λ (same : is_key (key puts.item) k ≡ true). ((page, b), among_last blocks (page, b), puts.item, stands_here, same_key (key puts.item) k same))
-        (λ (other : is_key (key puts.item) k ≡ false).
+        (λ (same : is_key (item_key puts.item) k ≡ true). ((page, b), among_last blocks (page, b), puts.item, stands_here, same_key (item_key puts.item) k same))
+        (λ (other : is_key (item_key puts.item) k ≡ false).
         let was : place_at old.places k ≡ Some q = sym (puts.adds.places k ∙ ap (λ (c : Bool). cond c (Some page) (place_at old.places k)) other) ∙ at in
         let f = holds.from k q was in
         (f.0, among_left blocks ((page, b) ∷ []) f.0 f.1, f.2, still f.0 f.2 f.3, f.4))
-        (one_or_other (is_key (key puts.item) k));
+        (one_or_other (is_key (item_key puts.item) k));
   }
 
 -- ---- all pages
 
 -- a page that is none of these is free
-pub is_left : (blocks : List (ℕ × Block)) (t : PageTable) (page : ℕ) → Holds blocks t → page < t.free.units → ((q : ℕ × Block) → IsAmong blocks q → q.0 ≡ page → ⊥) → is_free t.free page ≡ true
+pub is_left : (blocks : List (ℕ × Block)) (t : PageTable) (page : ℕ) → HoldsTable blocks t → page < t.free.units → ((q : ℕ × Block) → IsAmong blocks q → q.0 ≡ page → ⊥) → is_page_free t.free page ≡ true
 is_left blocks t page holds inside none = ⊎_elim
     (λ free. free)
-    (λ (taken : is_free t.free page ≡ false).
+    (λ (taken : is_page_free t.free page ≡ false).
     let o = holds.is_table.owned page inside taken in
     let f = holds.from o.0 page o.1 in
     absurd (none f.0 f.1 (same_Some f.0.0 page (sym (ap (place_at t.places) (sym f.4) ∙ f.3.place) ∙ o.1))))
-    (one_or_other (is_free t.free page))
+    (one_or_other (is_page_free t.free page))
 
-pub next_is_free : (pages i : ℕ) (blocks : List (ℕ × Block)) (d : ℕ × Block) (t : PageTable) → AreFilled pages blocks → i < length blocks → t.free.units ≡ pages → Holds (take i blocks) t
-    → is_free t.free (get_or blocks i d).0 ≡ true
+pub next_is_free : (pages i : ℕ) (blocks : List (ℕ × Block)) (d : ℕ × Block) (t : PageTable) → AreFilled pages blocks → i < length blocks → t.free.units ≡ pages → HoldsTable (take i blocks) t
+    → is_page_free t.free (get_or blocks i d).0 ≡ true
 next_is_free pages i blocks d t filled lt units holds =
     let inside : (get_or blocks i d).0 < pages = ltb-true (get_or blocks i d).0 pages (all_are (λ (p : ℕ × Block). nat_lt p.0 pages) blocks (get_or blocks i d) filled.inside (among_at blocks i d lt)) in
     is_left (take i blocks) t (get_or blocks i d).0 holds (omega (arith, inside, units)) (λ q h same. omega (arith, before 0 i blocks d filled.ascend lt q h, same))
 
 -- a page whose key is there is the first twin
-pub first_twin : (pages i : ℕ) (blocks : List (ℕ × Block)) (d : ℕ × Block) (t : PageTable) → AreFilled pages blocks → i < length blocks → Holds (take i blocks) t → HasKey t (get_or blocks i d).1
+pub first_twin : (pages i : ℕ) (blocks : List (ℕ × Block)) (d : ℕ × Block) (t : PageTable) → AreFilled pages blocks → i < length blocks → HoldsTable (take i blocks) t → HasKey t (get_or blocks i d).1
     → IsFirstTwin blocks (get_or blocks i d).0
 first_twin pages i blocks d t filled lt holds has =
-    let p = page_of (place_at t.places (key has.item)) has.there in
-    let f = holds.from (key has.item) p.0 p.1 in
+    let p = page_of (place_at t.places (item_key has.item)) has.there in
+    let f = holds.from (item_key has.item) p.0 p.1 in
     record {
       twin = record {
         earlier = f.0;
@@ -257,18 +257,18 @@ first_twin pages i blocks d t filled lt holds has =
     one_item : (b : Bytes) (x y : Item) → page_items b ≡ Some (x ∷ []) → page_items b ≡ Some (y ∷ []) → x ≡ y
     one_item b x y e g = let h : Some (x ∷ []) ≡ Some (y ∷ []) = sym e ∙ g in cc
 
-    none_before : (q : ℕ) → IsTwin blocks q → q < (get_or blocks i d).0 → ⊥
+    none_before : (q : ℕ) → IsTwinPage blocks q → q < (get_or blocks i d).0 → ⊥
     none_before q twin less =
         let e = holds.each twin.earlier (are_before 0 i blocks d filled.ascend lt twin.earlier twin.earlier_is (omega (arith, twin.behind, twin.here, less))) in
         let l = holds.each twin.later (are_before 0 i blocks d filled.ascend lt twin.later twin.later_is (omega (arith, twin.here, less))) in
         let one = one_item twin.earlier.1.bytes e.0 twin.first (ap page_items e.1.block.bytes ∙ record_read e.0 e.1.block.is) twin.reads_first in
         let two = one_item twin.later.1.bytes l.0 twin.second (ap page_items l.1.block.bytes ∙ record_read l.0 l.1.block.is) twin.reads_second in
-        let keys : key e.0 ≡ key l.0 = ap key one ∙ twin.one_key ∙ sym (ap key two) in
+        let keys : item_key e.0 ≡ item_key l.0 = ap item_key one ∙ twin.one_key ∙ sym (ap item_key two) in
         let same : twin.earlier.0 ≡ twin.later.0 = same_Some twin.earlier.0 twin.later.0 (sym e.1.place ∙ ap (place_at t.places) keys ∙ l.1.place) in
         omega (arith, same, twin.behind)
 
 -- the table of all pages is shown by them
-pub is_table_of : (pages : ℕ) (blocks : List (ℕ × Block)) (t : PageTable) → AreFilled pages blocks → t.free.units ≡ pages → Holds blocks t → IsTableOf pages blocks t
+pub is_table_of : (pages : ℕ) (blocks : List (ℕ × Block)) (t : PageTable) → AreFilled pages blocks → t.free.units ≡ pages → HoldsTable blocks t → IsTableOf pages blocks t
 is_table_of pages blocks t filled units holds = record {
   is_table = holds.is_table;
   items = λ k v at.
@@ -279,14 +279,14 @@ is_table_of pages blocks t filled units holds = record {
     taken = λ k q at.
         let f = holds.from k q at in
         let here : f.0.0 ≡ q = same_Some f.0.0 q (sym f.3.place ∙ ap (place_at t.places) f.4 ∙ at) in
-        ap (shown_by blocks) (sym here)
+        ap (page_shown_by blocks) (sym here)
         ∙ ap (λ (o : Option Bytes). unwrap_or o (replicate block_size 0)) (found 0 blocks f.0 filled.ascend f.1)
         ∙ f.3.block.bytes
-        ∙ sym (ap (block_of (key f.2)) f.3.record_is)
+        ∙ sym (ap (block_of (item_key f.2)) f.3.record_is)
         ∙ ap (λ (j : Key). block_of j (record_at t.records j)) f.4;
     free = λ q free. ap (λ (o : Option Bytes). unwrap_or o (replicate block_size 0)) (missing blocks q (λ p h same.
         let s = holds.each p h in
-        true≢false (sym free ∙ holds.is_table.taken (key s.0) q (s.1.place ∙ ap (λ (n : ℕ). Some n) same))));
+        true≢false (sym free ∙ holds.is_table.taken (item_key s.0) q (s.1.place ∙ ap (λ (n : ℕ). Some n) same))));
   };
   units = units;
 }
@@ -296,20 +296,20 @@ no_place None e = refl
 no_place (Some p) e = absurd (true≢false e)
 
 -- what is answered of the page at a place is the answer
-pub twin_cause : (pages i : ℕ) (blocks : List (ℕ × Block)) (d : ℕ × Block) (t : PageTable) (e : LoadedError) → AreFilled pages blocks → i < length blocks → Holds (take i blocks) t
+pub twin_cause : (pages i : ℕ) (blocks : List (ℕ × Block)) (d : ℕ × Block) (t : PageTable) (e : LoadedError) → AreFilled pages blocks → i < length blocks → HoldsTable (take i blocks) t
     → MakesTwin t (get_or blocks i d).0 (get_or blocks i d).1 e → TwinCause blocks e
 twin_cause pages i blocks d t (Twin page) filled lt holds makes = subst (λ (p : ℕ). IsFirstTwin blocks p) (sym makes.0) (first_twin pages i blocks d t filled lt holds makes.1)
 twin_cause pages i blocks d t NoMemory filled lt holds makes = tt
 
 module _ (pages : ℕ) (blocks : List (ℕ × Block)) (filled : AreFilled pages blocks) (t : PageTable) (of : IsTableOf pages blocks t) where
   -- an item of the pages has its page
-  placed : (p : ℕ × Block) (i : Item) → IsAmong blocks p → page_items p.1.bytes ≡ Some (i ∷ []) → place_at t.places (key i) ≡ Some p.0
+  placed : (p : ℕ × Block) (i : Item) → IsAmong blocks p → page_items p.1.bytes ≡ Some (i ∷ []) → place_at t.places (item_key i) ≡ Some p.0
   placed p i among reads =
       let inside : p.0 < pages = ltb-true p.0 pages (all_are (λ (p : ℕ × Block). nat_lt p.0 pages) blocks p filled.inside among) in
-      let here : shown_by blocks p.0 ≡ p.1.bytes = ap (λ (o : Option Bytes). unwrap_or o (replicate block_size 0)) (found 0 blocks p filled.ascend among) in
-      (holds_read t (shown_by blocks) of.is_table of.shows of.items p.0 i (omega (arith, inside, of.units)) (ap page_items here ∙ reads)).place
+      let here : page_shown_by blocks p.0 ≡ p.1.bytes = ap (λ (o : Option Bytes). unwrap_or o (replicate block_size 0)) (found 0 blocks p filled.ascend among) in
+      (holds_read t (page_shown_by blocks) of.is_table of.shows of.items p.0 i (omega (arith, inside, of.units)) (ap page_items here ∙ reads)).place
 
-  pub no_twin : (page : ℕ) → IsTwin blocks page → ⊥
+  pub no_twin : (page : ℕ) → IsTwinPage blocks page → ⊥
   no_twin page twin =
       let same : twin.earlier.0 ≡ twin.later.0 = same_Some twin.earlier.0 twin.later.0
       (sym (placed twin.earlier twin.first twin.earlier_is twin.reads_first) ∙ ap (place_at t.places) twin.one_key ∙ placed twin.later twin.second twin.later_is twin.reads_second) in

@@ -7,8 +7,8 @@ use Rattle.std.proofs.lemmas.List.FromFn.{get_or-map-range_with_len, length-map-
 use Rattle.asm_formats.specs.asm_group.Names.{Bytes}
 use Rattle.asm_formats.specs.Among.{IsAmong}
 use Rattle.asm_formats.specs.Content.{is_page, page_items, records_in}
-use Rattle.asm_formats.specs.Items.{Item, Key, key, key_rank, is_item}
-use Rattle.asm_formats.specs.PageLaws.{AreApart}
+use Rattle.asm_formats.specs.Items.{Item, Key, item_key, key_rank, is_item}
+use Rattle.asm_formats.specs.PageLaws.{HaveOwnKeys}
 use Rattle.asm_formats.specs.Records.{most_value, is_frame, frame_spelling, record_spelling}
 use Rattle.asm_formats.specs.Values.{value}
 use Rattle.asm_formats.proofs.Among.{among_index}
@@ -16,8 +16,8 @@ use Rattle.asm_formats.proofs.PageReading.{zeros_read, record_read}
 use Rattle.asm_formats.proofs.RecordLists.{records_of, pages_have_records}
 use Rattle.asm_formats.proofs.RecordReading.{item_frame}
 use Rattle.allocator.specs.asm_base.Records.{record_at}
-use Rattle.page_map.specs.Free.{is_free}
-use Rattle.page_map.specs.Tables.{PageTable, IsTable, Shows, place_at, block_of}
+use Rattle.page_map.specs.Free.{is_page_free}
+use Rattle.page_map.specs.Tables.{PageTable, IsPageTable, Shows, place_at, block_of}
 use Rattle.page_map.specs.Contents.{IsItemOf, AreItems, AreRecords, ShownIsContent}
 use Rattle.page_map.proofs.Keys.{one_or_other}
 
@@ -27,13 +27,13 @@ record IsSmall (k : Key) : Type 0 where
   a : k.a < 2 ^ 32
   b : k.b < 2 ^ 32
 
-small_key : (i : Item) → is_item i ≡ true → IsSmall (key i)
+small_key : (i : Item) → is_item i ≡ true → IsSmall (item_key i)
 unfolding is_frame
 small_key i is =
-    let p = and_parts (nat_lt (key i).kind (2 ^ 16)) _ (item_frame i is) in
-    let q = and_parts (nat_lt (key i).a (2 ^ 32)) _ p.1 in
-    let r = and_parts (nat_lt (key i).b (2 ^ 32)) (nat_le (length (value i)) most_value) q.1 in
-    record { a = ltb-true (key i).a (2 ^ 32) q.0; b = ltb-true (key i).b (2 ^ 32) r.0 }
+    let p = and_parts (nat_lt (item_key i).kind (2 ^ 16)) _ (item_frame i is) in
+    let q = and_parts (nat_lt (item_key i).a (2 ^ 32)) _ p.1 in
+    let r = and_parts (nat_lt (item_key i).b (2 ^ 32)) (nat_le (length (value i)) most_value) q.1 in
+    record { a = ltb-true (item_key i).a (2 ^ 32) q.0; b = ltb-true (item_key i).b (2 ^ 32) r.0 }
 
 digits : (x y b c : ℕ) → b < 2 ^ 32 → c < 2 ^ 32 → x * 2 ^ 32 + b ≡ y * 2 ^ 32 + c → (x ≡ y) × (b ≡ c)
 digits x y b c small small' e = (omega arith, omega arith)
@@ -75,11 +75,11 @@ page_is (Some p) e = (p, refl)
 -- the record that stands on a page
 pub record Holds (t : PageTable) (page : ℕ → Bytes) (p : ℕ) (i : Item) : Type 0 where
   pub is : is_item i ≡ true
-  pub place : place_at t.places (key i) ≡ Some p
-  pub record_is : record_at t.records (key i) ≡ Some (value i)
+  pub place : place_at t.places (item_key i) ≡ Some p
+  pub record_is : record_at t.records (item_key i) ≡ Some (value i)
   pub block : page p ≡ record_spelling i
 
-module _ (t : PageTable) (page : ℕ → Bytes) (sound : IsTable t) (shows : Shows t page) (items_are : AreItems t) where
+module _ (t : PageTable) (page : ℕ → Bytes) (sound : IsPageTable t) (shows : Shows t page) (items_are : AreItems t) where
   pages : List Bytes
   pages = map page (range_with_len 0 t.free.units)
 
@@ -88,7 +88,7 @@ module _ (t : PageTable) (page : ℕ → Bytes) (sound : IsTable t) (shows : Sho
   held k v p found at =
       let h = items_are k v found in
       let block : page p ≡ record_spelling h.0 =
-      shows.taken k p at ∙ ap (block_of k) found ∙ ap (λ (j : Key). frame_spelling (record { key = j; value = v })) (sym h.1.key) ∙ ap (λ (w : List ℕ). frame_spelling (record { key = key h.0; value = w })) (sym h.1.value) in (
+      shows.taken k p at ∙ ap (block_of k) found ∙ ap (λ (j : Key). frame_spelling (record { key = j; value = v })) (sym h.1.key) ∙ ap (λ (w : List ℕ). frame_spelling (record { key = item_key h.0; value = w })) (sym h.1.value) in (
         h.0,
         record {
           is = h.1.is;
@@ -101,7 +101,7 @@ module _ (t : PageTable) (page : ℕ → Bytes) (sound : IsTable t) (shows : Sho
 
   -- each page is zeros or holds an item
   shown : (p : ℕ) → p < t.free.units → (page_items (page p) ≡ Some []) ⊎ ((i : Item) × Holds t page p i)
-  shown p inside = elim (one_or_other (is_free t.free p)) [
+  shown p inside = elim (one_or_other (is_page_free t.free p)) [
     | inl free ↦ inl (ap page_items (shows.free p free) ∙ zeros_read)
     | inr taken ↦
         let o = sound.owned p inside taken in
@@ -140,13 +140,13 @@ module _ (t : PageTable) (page : ℕ → Bytes) (sound : IsTable t) (shows : Sho
     | inr h ↦ subst (λ (j : Item). Holds t page p j) (some_list h.0 i (page_items (page p)) (reads p h.0 h.1) read) h.1
   ]
 
-  apart : AreApart pages
+  apart : HaveOwnKeys pages
   apart p q i j below inside read_p read_q rank =
       let in_q : q < t.free.units = omega (arith, inside, count) in
       let in_p : p < t.free.units = omega arith in
       let h = holds_read p i in_p (ap page_items (sym (nth p in_p)) ∙ read_p) in
       let g = holds_read q j in_q (ap page_items (sym (nth q in_q)) ∙ read_q) in
-      let same = same_rank (key i) (key j) (small_key i h.is) (small_key j g.is) rank in
+      let same = same_rank (item_key i) (item_key j) (small_key i h.is) (small_key j g.is) rank in
       let e : p ≡ q = some_same p q (sym h.place ∙ ap (place_at t.places) same ∙ g.place) in
       absurd (omega arith)
 

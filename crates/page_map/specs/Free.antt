@@ -8,14 +8,14 @@ abbrev pub FreeMap : Type 0
 FreeMap = UnitMap
 
 -- the page is there, and free
-abbrev pub is_free : FreeMap → ℕ → Bool
-is_free = units.is_free
+abbrev pub is_page_free : FreeMap → ℕ → Bool
+is_page_free = units.is_free
 
 -- no free page is below
-pub record IsLeastFree (m : FreeMap) (page : ℕ) : Type 0 where
-  pub free : is_free m page ≡ true
+pub record IsLeastFreePage (m : FreeMap) (page : ℕ) : Type 0 where
+  pub free : is_page_free m page ≡ true
   pub inside : page < m.units
-  pub least : (k : ℕ) → k < page → is_free m k ≡ false
+  pub least : (k : ℕ) → k < page → is_page_free m k ≡ false
 
 -- no page is kept back, and each has its mark
 pub record IsFreeMap (m : FreeMap) : Type 0 where

@@ -3,7 +3,7 @@
 ghost use Rattle.std.specs.Prelude.{◌≡◌, [], IfOk, OnOk};
 ghost use Rattle.allocator.specs.asm_base.Records.{record_at};
 ghost use Rattle.page_map.specs.Listing.{Lists, ListsBut};
-ghost use Rattle.page_map.specs.Tables.{IsTable, block_of};
+ghost use Rattle.page_map.specs.Tables.{IsPageTable, block_of};
 
 use crate::change::{listed, put_block, record_block};
 use crate::table::PageMap;
@@ -26,7 +26,7 @@ impl PageMap {
 fn put_all(map: &PageMap, pages: &mut BTreeMap<u32, Block>) -> Result<(), NoMemory>
     requires { pages.old.entries ≡ [] }
     ensures pages { OnOk result (ListsBut map.now [] pages.new.entries) }
-    ensures table { IsTable map.now }
+    ensures table { IsPageTable map.now }
 {
     for (key, page) in map.places() {
         put_block(pages, *page, page_block(map, *key))?;

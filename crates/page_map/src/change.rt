@@ -4,7 +4,7 @@ ghost use Rattle.std.specs.Prelude.{◌≡◌, ◌<◌, ◌≤◌, ◌+◌, ◌=
 ghost use Rattle.asm_formats.specs.Items.{Key as FormatKey};
 ghost use Rattle.allocator.specs.asm_base.Records.{is_key, record_at};
 ghost use Rattle.page_map.specs.Changes.{is_put, is_gone, last_put};
-ghost use Rattle.page_map.specs.Tables.{IsTable, SameTable, is_kept, is_new, new_in, place_at, block_of, room};
+ghost use Rattle.page_map.specs.Tables.{IsPageTable, SameTable, has_kept_pages, is_new, new_in, place_at, block_of, room};
 ghost use Rattle.std.specs.List.Sorted.{IsStrictlySortedBy};
 ghost use Rattle.std.specs.Map.{lookup};
 ghost use Rattle.std.specs.Ordering.{nat_cmp};
@@ -35,7 +35,7 @@ impl From<NoMemory> for PageError {
 
 /// Whether a key is one of the two for which pages are kept.
 fn is_kept(key: Key) -> bool
-    ensures { result ≡ is_kept key }
+    ensures { result ≡ has_kept_pages key }
 {
     key.kind == record_kind::OPERATIONS && key.a <= 1 && key.b == 0
 }
@@ -209,9 +209,9 @@ fn add_new(
     put: &[(Key, Value)],
     gone: &[Key],
 ) -> Result<Vec<(u32, Block)>, NoMemory>
-    requires table { IsTable map.old }
+    requires table { IsPageTable map.old }
     ensures adds { OnOk result (AddsNew map.old map.new left.now) }
-    ensures table { OnOk result (IsTable map.new) }
+    ensures table { OnOk result (IsPageTable map.new) }
     ensures blocks { IfOk result (λ pages. Blocks map.new put.now gone.now pages.items) }
     ensures err { OnErr result (SameTable map.old map.new) }
 {
@@ -286,7 +286,7 @@ fn change(
     put: &[(Key, Value)],
     gone: &[Key],
 ) -> Result<Vec<(u32, Block)>, NoMemory>
-    requires table { IsTable map.old }
+    requires table { IsPageTable map.old }
     ensures applies { IfOk result (λ pages. Applies map.old map.new put.now gone.now pages.items) }
     ensures err { OnErr result (SameTable map.old map.new) }
 {

@@ -1,7 +1,7 @@
 //! Which pages are free.
 
 ghost use Rattle.std.specs.Prelude.{◌≡◌, ◌<◌, ◌≤◌, ◌==◌, ℕ, true, false, IfOk, IfNone, IfSome, if◌then◌else◌};
-ghost use Rattle.page_map.specs.Free.{is_free, IsLeastFree};
+ghost use Rattle.page_map.specs.Free.{is_page_free, IsLeastFreePage};
 
 use allocator::{NoMemory, Units};
 use std::alloc::Global;
@@ -27,7 +27,7 @@ impl FreePages {
     /// So many pages, all of which are free.
     pub fn new(alloc: Global, pages: u32) -> Result<FreePages, NoMemory>
         requires { pages ≤ 16384 }
-        ensures free { IfOk result (λ f. (page : ℕ) → page < pages → is_free f page ≡ true) }
+        ensures free { IfOk result (λ f. (page : ℕ) → page < pages → is_page_free f page ≡ true) }
         ensures count { IfOk result (λ f. f.units ≡ pages) }
     {
         let units = Units::new(alloc, 0, pages)?;
@@ -43,8 +43,8 @@ impl FreePages {
 
     /// Takes the least free page. None, with nothing changed, where none is free.
     pub fn take(&mut self) -> Option<u32>
-        ensures least { IfSome result (IsLeastFree self.old) }
-        ensures taken { IfSome result (λ p. (page : ℕ) → is_free self.new page ≡ (if page == p then false else is_free self.old page)) }
+        ensures least { IfSome result (IsLeastFreePage self.old) }
+        ensures taken { IfSome result (λ p. (page : ℕ) → is_page_free self.new page ≡ (if page == p then false else is_page_free self.old page)) }
         ensures count { self.new.units ≡ self.old.units }
         ensures none { IfNone result (self.new ≡ self.old) }
     {
@@ -53,8 +53,8 @@ impl FreePages {
 
     /// Takes a page that is free.
     pub fn mark(&mut self, page: u32)
-        requires { is_free self.old page ≡ true }
-        ensures taken { (k : ℕ) → is_free self.new k ≡ (if k == page then false else is_free self.old k) }
+        requires { is_page_free self.old page ≡ true }
+        ensures taken { (k : ℕ) → is_page_free self.new k ≡ (if k == page then false else is_page_free self.old k) }
         ensures count { self.new.units ≡ self.old.units }
     {
         self.units.mark(page, 1);
@@ -63,8 +63,8 @@ impl FreePages {
     /// Gives a page back.
     pub fn give(&mut self, page: u32)
         requires inside { page < self.old.units }
-        requires taken { is_free self.old page ≡ false }
-        ensures given { (k : ℕ) → is_free self.new k ≡ (if k == page then true else is_free self.old k) }
+        requires taken { is_page_free self.old page ≡ false }
+        ensures given { (k : ℕ) → is_page_free self.new k ≡ (if k == page then true else is_page_free self.old k) }
         ensures count { self.new.units ≡ self.old.units }
     {
         self.units.give(page, 1);

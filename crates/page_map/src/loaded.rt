@@ -2,7 +2,7 @@
 
 ghost use Rattle.std.specs.Prelude.{◌≡◌, ◌≤◌, true, false, IfOk, OnOk, IfErr, IsTrue};
 ghost use Rattle.asm_formats.specs.Content.{is_empty_page, is_page};
-ghost use Rattle.page_map.specs.Free.{is_free};
+ghost use Rattle.page_map.specs.Free.{is_page_free};
 ghost use Rattle.page_map.specs.Loaded.{AreFilled, HasNoTable, IsTableOf, MakesTwin, PutsPage, ReadsItem, TwinCause};
 ghost use Rattle.page_map.specs.declared.loaded.LoadedError.TheVariants.{NoMemory as WithoutMemory};
 
@@ -42,7 +42,7 @@ fn read_page(alloc: Global, block: &Block) -> Result<(Key, Value), NoMemory>
 fn put_page(alloc: Global, map: &mut PageMap, page: u32, block: &Block) -> Result<(), LoadedError>
     requires page { is_page block.now.bytes ≡ true }
     requires filled { is_empty_page block.now.bytes ≡ false }
-    requires free { is_free map.old.free page ≡ true }
+    requires free { is_page_free map.old.free page ≡ true }
     ensures ok { OnOk result (PutsPage map.old map.new page block.now) }
     ensures twin { IfErr result (MakesTwin map.old page block.now) }
 {

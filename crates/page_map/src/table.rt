@@ -22,29 +22,29 @@ pub struct PageMap {
 }
 
 impl Model for PageMap {
-    ghost use Rattle.page_map.specs.Tables.{PageTable, IsTable};
+    ghost use Rattle.page_map.specs.Tables.{PageTable, IsPageTable};
 
     ghost Value = { PageTable };
 
     ghost view = { λ m. record { records = m.records; places = m.places.entries; free = m.free } };
 
-    ghost invariant = { λ m. IsTable (record { records = m.records; places = m.places.entries; free = m.free }) };
+    ghost invariant = { λ m. IsPageTable (record { records = m.records; places = m.places.entries; free = m.free }) };
 }
 
 impl PageMap {
-    ghost use Rattle.page_map.specs.Free.{is_free, IsLeastFree};
+    ghost use Rattle.page_map.specs.Free.{is_page_free, IsLeastFreePage};
     ghost use Rattle.std.specs.List.Sorted.{IsStrictlySortedBy};
     ghost use Rattle.std.specs.Prelude.{map};
     ghost use Rattle.allocator.specs.asm_base.Records.{key_cmp};
     ghost use Rattle.page_map.specs.Listing.{key_of_place};
-    ghost use Rattle.page_map.specs.Tables.{IsTable, SameTable, Adds, Removes, room};
+    ghost use Rattle.page_map.specs.Tables.{IsPageTable, SameTable, Adds, Removes, room};
     ghost use Rattle.page_map.specs.Loaded.{AddsAt};
 
     /// No records, and so many pages.
     pub fn new(alloc: Global, pages: u32) -> Result<PageMap, NoMemory>
         requires { pages ≤ 16384 }
         ensures records { IfOk result (λ m. (k : FormatKey) → record_at m.records k ≡ None) }
-        ensures free { IfOk result (λ m. (page : ℕ) → page < pages → is_free m.free page ≡ true) }
+        ensures free { IfOk result (λ m. (page : ℕ) → page < pages → is_page_free m.free page ≡ true) }
         ensures count { IfOk result (λ m. m.free.units ≡ pages) }
     {
         let free = FreePages::new(alloc, pages)?;
@@ -65,7 +65,7 @@ impl PageMap {
     /// The page of a key.
     pub fn place(&self, key: Key) -> Option<u32>
         ensures page { result ≡ place_at self.now.places key }
-        ensures table { IsTable self.now }
+        ensures table { IsPageTable self.now }
     {
         self.places.get(&key).copied()
     }
@@ -74,7 +74,7 @@ impl PageMap {
     pub(crate) fn places(&self) -> Iter<'_, Key, u32>
         ensures places { result ≡ self.now.places }
         ensures ordered { IsStrictlySortedBy key_cmp (map key_of_place self.now.places) }
-        ensures table { IsTable self.now }
+        ensures table { IsPageTable self.now }
     {
         self.places.iter()
     }
@@ -82,7 +82,7 @@ impl PageMap {
     /// The pages that are left for other records than the active rebalance and the pending operation.
     pub fn room(&self) -> u64
         ensures room { result ≡ room self.now }
-        ensures table { IsTable self.now }
+        ensures table { IsPageTable self.now }
         // No key has two pages.
         ensures ordered { IsStrictlySortedBy key_cmp (map key_of_place self.now.places) }
     {
@@ -116,7 +116,7 @@ impl PageMap {
     /// Puts a new record on a page that is free.
     pub(crate) fn add_at(&mut self, key: Key, value: Value, page: u32) -> Result<(), NoMemory>
         requires absent { place_at self.old.places key ≡ None }
-        requires free { is_free self.old.free page ≡ true }
+        requires free { is_page_free self.old.free page ≡ true }
         ensures { OnOk result (AddsAt self.old self.new key value page) }
     {
         insert_both(&mut self.records, &mut self.places, key, page, value)?;

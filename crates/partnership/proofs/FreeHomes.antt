@@ -14,7 +14,7 @@ use Rattle.allocator.proofs.asm_base.Exact.{some_is}
 use Rattle.asm_placement.specs.DiskSets.{numbers}
 use Rattle.asm_placement.specs.Modes.{is_target}
 use Rattle.allocator.specs.UnitMaps.{UnitMap, used_of, total_of, with_run}
-use Rattle.partnership.specs.Candidates.{Candidate, candidate, candidate_at, candidates, lowest, is_free_from, is_before, earlier, tried_first, among, is_within, is_outside, may_be_first, with_others, homes, home_of, three, chosen_homes}
+use Rattle.partnership.specs.Candidates.{Candidate, candidate, candidate_at, candidates, lowest, is_free_from, is_less_full, earlier_candidate, candidate_tried_first, among, is_disk_in_set, is_outside, may_be_first_candidate, with_others, homes, candidate_home, three, chosen_homes}
 use Rattle.partnership.specs.Steps.{second_of, third_of, after_second}
 use Rattle.partnership.specs.Rows.{home_used, homes_used}
 use Rattle.partnership.proofs.Choices.{others}
@@ -29,17 +29,17 @@ found_is test (x ∷ xs) u e = by (test x) refl e (found_is test xs u)
     by true t is later = ap test (sym (some_is x u is)) ∙ t
     by false t is later = later is
 
-tried_among : (cs : List Candidate) (c : Candidate) → tried_first cs ≡ Some c → IsAmong cs c
+tried_among : (cs : List Candidate) (c : Candidate) → candidate_tried_first cs ≡ Some c → IsAmong cs c
 tried_among [] c e = absurd (none-some c e)
-tried_among (x ∷ cs) c e = by (tried_first cs) refl e (tried_among cs)
+tried_among (x ∷ cs) c e = by (candidate_tried_first cs) refl e (tried_among cs)
   where
     pick : (best : Candidate) → IsAmong cs best → (b : Bool) → cond b (Some best) (Some x) ≡ Some c → IsAmong (x ∷ cs) c
     pick best there true is = inr (subst (λ (d : Candidate). IsAmong cs d) (some_is best c is) there)
     pick best there false is = inl (sym (some_is x c is))
 
-    by : (o : Option Candidate) → tried_first cs ≡ o → earlier x o ≡ Some c → ((d : Candidate) → tried_first cs ≡ Some d → IsAmong cs d) → IsAmong (x ∷ cs) c
+    by : (o : Option Candidate) → candidate_tried_first cs ≡ o → earlier_candidate x o ≡ Some c → ((d : Candidate) → candidate_tried_first cs ≡ Some d → IsAmong cs d) → IsAmong (x ∷ cs) c
     by None is e later = inl (sym (some_is x c e))
-    by (Some best) is e later = pick best (later best is) (is_before best x) e
+    by (Some best) is e later = pick best (later best is) (is_less_full best x) e
 
 passes : {A : Type 0} (test : A → Bool) (xs : List A) (x : A) → IsAmong (filter test xs) x → test x ≡ true
 passes test [] x h = absurd h
@@ -136,7 +136,7 @@ second_from : (cs : List Candidate) (g copies : ℕ) (s : Candidate) → second_
 unfolding second_of
 second_from cs g copies s e = by (leb copies 1) e
   where
-    by : (b : Bool) → cond b None (tried_first (among (is_outside (g ∷ [])) cs)) ≡ Some s → IsAmong cs s × (s.entry.failgroup ≡ g → ⊥)
+    by : (b : Bool) → cond b None (candidate_tried_first (among (is_outside (g ∷ [])) cs)) ≡ Some s → IsAmong cs s × (s.entry.failgroup ≡ g → ⊥)
     by true is = absurd (none-some s is)
     by false is =
         let there = tried_among (among (is_outside (g ∷ [])) cs) s is in
@@ -195,28 +195,28 @@ abbrev CanBeUsed : ℕ → List UnitMap → Homes → Type 0
 CanBeUsed n ms hs = (next : List UnitMap) × (homes_used n ms hs ≡ Some next)
 
 all_used : (n : ℕ) (es : List Entry) (ms : List UnitMap) (copies : ℕ) (f : Candidate) (second third : Option Candidate) → ascends_from 0 (numbers es) ≡ true → IsAmong (candidates n es ms) f
-    → second_of (among (is_within f.entry.partners) (candidates n es ms)) f.entry.failgroup copies ≡ second
-    → third_of (among (is_within f.entry.partners) (candidates n es ms)) f.entry.failgroup copies second ≡ third
-    → CanBeUsed n ms (f.home ∷ option_and_then home_of second ∷ option_and_then home_of third ∷ [])
+    → second_of (among (is_disk_in_set f.entry.partners) (candidates n es ms)) f.entry.failgroup copies ≡ second
+    → third_of (among (is_disk_in_set f.entry.partners) (candidates n es ms)) f.entry.failgroup copies second ≡ third
+    → CanBeUsed n ms (f.home ∷ option_and_then candidate_home second ∷ option_and_then candidate_home third ∷ [])
 all_used n es ms copies f None third up there is_second is_third =
     let one = used_one n ms f (of_disks n es ms f there).1 in
-    let none : third ≡ None = sym is_third ∙ third_none (among (is_within f.entry.partners) (candidates n es ms)) f.entry.failgroup copies in
+    let none : third ≡ None = sym is_third ∙ third_none (among (is_disk_in_set f.entry.partners) (candidates n es ms)) f.entry.failgroup copies in
     (one.next, rw (none, one.used) refl)
 all_used n es ms copies f (Some s) None up there is_second is_third =
     let cs = candidates n es ms in
     let first = of_disks n es ms f there in
-    let from = second_from (among (is_within f.entry.partners) cs) f.entry.failgroup copies s is_second in
-    let second = of_disks n es ms s (among_filter (λ (c : Candidate). is_within f.entry.partners c.entry) cs s from.0) in
+    let from = second_from (among (is_disk_in_set f.entry.partners) cs) f.entry.failgroup copies s is_second in
+    let second = of_disks n es ms s (among_filter (λ (c : Candidate). is_disk_in_set f.entry.partners c.entry) cs s from.0) in
     let one = used_one n ms f first.1 in
     let two = used_one n one.next s (one.rest s (numbers_apart es s.entry f.entry up second.0 first.0 from.1) second.1) in
     (two.next, rw (one.used, two.used) refl)
 all_used n es ms copies f (Some s) (Some t) up there is_second is_third =
     let cs = candidates n es ms in
     let first = of_disks n es ms f there in
-    let from = second_from (among (is_within f.entry.partners) cs) f.entry.failgroup copies s is_second in
-    let second = of_disks n es ms s (among_filter (λ (c : Candidate). is_within f.entry.partners c.entry) cs s from.0) in
-    let last = third_from (among (is_within f.entry.partners) cs) f.entry.failgroup copies s t is_third in
-    let third = of_disks n es ms t (among_filter (λ (c : Candidate). is_within f.entry.partners c.entry) cs t last.0) in
+    let from = second_from (among (is_disk_in_set f.entry.partners) cs) f.entry.failgroup copies s is_second in
+    let second = of_disks n es ms s (among_filter (λ (c : Candidate). is_disk_in_set f.entry.partners c.entry) cs s from.0) in
+    let last = third_from (among (is_disk_in_set f.entry.partners) cs) f.entry.failgroup copies s t is_third in
+    let third = of_disks n es ms t (among_filter (λ (c : Candidate). is_disk_in_set f.entry.partners c.entry) cs t last.0) in
     let one = used_one n ms f first.1 in
     let two = used_one n one.next s (one.rest s (numbers_apart es s.entry f.entry up second.0 first.0 from.1) second.1) in
     let three = used_one n two.next t (two.rest t (numbers_apart es t.entry s.entry up third.0 second.0 last.1.0) (one.rest t (numbers_apart es t.entry f.entry up third.0 first.0 last.1.1) third.1)) in
@@ -224,15 +224,15 @@ all_used n es ms copies f (Some s) (Some t) up there is_second is_third =
 
 -- the homes that are chosen by some maps can be used in them
 pub chosen_free : (n : ℕ) (es : List Entry) (ms : List UnitMap) (copies : ℕ) (hs : Homes) → ascends_from 0 (numbers es) ≡ true → chosen_homes (candidates n es ms) copies ≡ Some hs → CanBeUsed n ms hs
-chosen_free n es ms copies hs up e = by (tried_first (among (may_be_first cs copies) cs)) refl e
+chosen_free n es ms copies hs up e = by (candidate_tried_first (among (may_be_first_candidate cs copies) cs)) refl e
   where
     cs : List Candidate
     cs = candidates n es ms
 
-    by : (o : Option Candidate) → tried_first (among (may_be_first cs copies) cs) ≡ o → option_map (λ ds. three (homes ds)) (option_map (with_others cs copies) o) ≡ Some hs → CanBeUsed n ms hs
+    by : (o : Option Candidate) → candidate_tried_first (among (may_be_first_candidate cs copies) cs) ≡ o → option_map (λ ds. three (homes ds)) (option_map (with_others cs copies) o) ≡ Some hs → CanBeUsed n ms hs
     by None is e = absurd (none-some hs e)
     by (Some f) is e =
-        let there = among_filter (λ (c : Candidate). may_be_first cs copies c.entry) cs f (tried_among (among (may_be_first cs copies) cs) f is) in
-        let same = sym (others (among (is_within f.entry.partners) cs) f copies) ∙ some_is (three (homes (with_others cs copies f))) hs e in
+        let there = among_filter (λ (c : Candidate). may_be_first_candidate cs copies c.entry) cs f (tried_among (among (may_be_first_candidate cs copies) cs) f is) in
+        let same = sym (others (among (is_disk_in_set f.entry.partners) cs) f copies) ∙ some_is (three (homes (with_others cs copies f))) hs e in
         subst (λ (l : Homes). CanBeUsed n ms l) same
-        (all_used n es ms copies f (second_of (among (is_within f.entry.partners) cs) f.entry.failgroup copies) (third_of (among (is_within f.entry.partners) cs) f.entry.failgroup copies (second_of (among (is_within f.entry.partners) cs) f.entry.failgroup copies)) up there refl refl)
+        (all_used n es ms copies f (second_of (among (is_disk_in_set f.entry.partners) cs) f.entry.failgroup copies) (third_of (among (is_disk_in_set f.entry.partners) cs) f.entry.failgroup copies (second_of (among (is_disk_in_set f.entry.partners) cs) f.entry.failgroup copies)) up there refl refl)

@@ -12,8 +12,8 @@ use Rattle.asm_placement.specs.Space as space
 use Rattle.asm_placement.specs.Space.{has_room}
 use Rattle.asm_placement.specs.Choices as choices
 use Rattle.asm_placement.specs.Choices.{home_on, staying_disk, kept_disks, holds_copy, is_partner_of_first, is_eligible, replacement, replacement_on}
-use Rattle.partnership.specs.Candidates.{Candidate, candidates, tried_first, home_of, lies_on, lies_in_group, is_partner_of_kept, is_within, is_allowed, may_take, may_take_of, may_take_at, chosen_copy_of}
-use Rattle.partnership.specs.UnitsOf.{AreUnitsOf, AreHomesOf, held, kept, kept_from, is_eligible_at}
+use Rattle.partnership.specs.Candidates.{Candidate, candidates, candidate_tried_first, candidate_home, lies_on, lies_in_group, is_partner_of_kept, is_disk_in_set, is_allowed, may_take, may_take_of, may_take_at, chosen_copy_of}
+use Rattle.partnership.specs.UnitsOf.{AreUnitsOf, AreHomesOf, held, kept, kept_homes_from, is_eligible_at}
 use Rattle.partnership.proofs.Turns.{filter_both}
 use Rattle.partnership.proofs.Placement.{as_candidate, may_have, candidates_are, among_map, tried_map}
 
@@ -27,20 +27,20 @@ pub data IsKept (es : List Entry) : List Home → List Entry → Type 0 where
   none : IsKept es [] []
   one : (h : Home) (e : Entry) (hs : List Home) (ks : List Entry) → entry_of es h.disk ≡ Some e → IsKept es hs ks → IsKept es (h ∷ hs) (e ∷ ks)
 
-kept_is : (es : List Entry) (replaced c : ℕ) (hs : Homes) → IsKept es (kept_from es replaced c hs) (choices.kept_from es replaced c hs)
+kept_is : (es : List Entry) (replaced c : ℕ) (hs : Homes) → IsKept es (kept_homes_from es replaced c hs) (choices.kept_from es replaced c hs)
 kept_is es replaced c [] = none
 kept_is es replaced c (None ∷ hs) = kept_is es replaced (suc c) hs
 kept_is es replaced c (Some h ∷ hs) = by (entry_of es h.disk) refl (eqb c replaced) refl (kept_is es replaced (suc c) hs)
   where
-    go : (e : Entry) → entry_of es h.disk ≡ Some e → (t : Bool) → stays e.mode ≡ t → (b : Bool) → eqb c replaced ≡ b → IsKept es (kept_from es replaced (suc c) hs) (choices.kept_from es replaced (suc c) hs)
-        → IsKept es (kept_from es replaced c (Some h ∷ hs)) (choices.kept_from es replaced c (Some h ∷ hs))
+    go : (e : Entry) → entry_of es h.disk ≡ Some e → (t : Bool) → stays e.mode ≡ t → (b : Bool) → eqb c replaced ≡ b → IsKept es (kept_homes_from es replaced (suc c) hs) (choices.kept_from es replaced (suc c) hs)
+        → IsKept es (kept_homes_from es replaced c (Some h ∷ hs)) (choices.kept_from es replaced c (Some h ∷ hs))
     go e is true t true same later = rw (is, t, same) later
     go e is false t true same later = rw (is, t, same) later
-    go e is true t false same later = rw (is, t, same) (one h e (kept_from es replaced (suc c) hs) (choices.kept_from es replaced (suc c) hs) is later)
+    go e is true t false same later = rw (is, t, same) (one h e (kept_homes_from es replaced (suc c) hs) (choices.kept_from es replaced (suc c) hs) is later)
     go e is false t false same later = rw (is, t, same) later
 
-    by : (o : Option Entry) → entry_of es h.disk ≡ o → (b : Bool) → eqb c replaced ≡ b → IsKept es (kept_from es replaced (suc c) hs) (choices.kept_from es replaced (suc c) hs)
-        → IsKept es (kept_from es replaced c (Some h ∷ hs)) (choices.kept_from es replaced c (Some h ∷ hs))
+    by : (o : Option Entry) → entry_of es h.disk ≡ o → (b : Bool) → eqb c replaced ≡ b → IsKept es (kept_homes_from es replaced (suc c) hs) (choices.kept_from es replaced (suc c) hs)
+        → IsKept es (kept_homes_from es replaced c (Some h ∷ hs)) (choices.kept_from es replaced c (Some h ∷ hs))
     by None is true same later = rw (is, same) later
     by None is false same later = rw (is, same) later
     by (Some e) is b same later = go e is (stays e.mode) refl b same later
@@ -97,7 +97,7 @@ takers s items n es on replaced hs =
     (λ e. ap (λ (b : Bool). may_have s items n e && (is_allowed on e && b)) (may_take_is es replaced hs e)
     ∙ target_first (is_target e) (not (holds_copy hs e.number)) (list_all (λ (k : Entry). not (eqb k.failgroup e.failgroup)) (kept_disks es replaced hs)) (is_partner_of_first (kept_disks es replaced hs) e) (has_room s items n e) (is_allowed on e)) es
 
-home_map : (s : Shape) (items : List Item) (n : ℕ) (o : Option Entry) → option_and_then home_of (option_map (as_candidate s items n) o) ≡ option_and_then (home_on s items n) o
+home_map : (s : Shape) (items : List Item) (n : ℕ) (o : Option Entry) → option_and_then candidate_home (option_map (as_candidate s items n) o) ≡ option_and_then (home_on s items n) o
 home_map s items n None = refl
 home_map s items n (Some e) = refl
 
@@ -107,8 +107,8 @@ copy_of_is : (s : Shape) (items : List Item) (es : List Entry) (ms : List UnitMa
 copy_of_is s items es ms on n replaced hs kept_homes holders some units are =
     let test = may_take_of on es (kept es replaced hs) (held hs) in
     rw (are.kept_is, are.holders_are, candidates_are s items n es ms some units)
-    (ap (λ (cs : List Candidate). option_and_then home_of (tried_first cs)) (among_map s items n test (filter (may_have s items n) es) ∙ ap (map (as_candidate s items n)) (takers s items n es on replaced hs))
-    ∙ ap (option_and_then home_of) (tried_map s items n (filter (λ (e : Entry). is_eligible es replaced hs e && has_room s items n e && is_allowed on e) es))
+    (ap (λ (cs : List Candidate). option_and_then candidate_home (candidate_tried_first cs)) (among_map s items n test (filter (may_have s items n) es) ∙ ap (map (as_candidate s items n)) (takers s items n es on replaced hs))
+    ∙ ap (option_and_then candidate_home) (tried_map s items n (filter (λ (e : Entry). is_eligible es replaced hs e && has_room s items n e && is_allowed on e) es))
     ∙ home_map s items n (space.tried_first s items (filter (λ (e : Entry). is_eligible es replaced hs e && has_room s items n e && is_allowed on e) es)))
 
 pub copy_is : (s : Shape) (items : List Item) (es : List Entry) (ms : List UnitMap) (n replaced : ℕ) (hs : Homes) (kept_homes holders : List Home) → 0 < n → AreUnitsOf s items es ms → AreHomesOf es replaced hs kept_homes holders
@@ -117,5 +117,5 @@ unfolding replacement
 copy_is s items es ms n replaced hs kept_homes holders some units are = copy_of_is s items es ms None n replaced hs kept_homes holders some units are
 
 pub copy_on_is : (s : Shape) (items : List Item) (es : List Entry) (ms : List UnitMap) (set n replaced : ℕ) (hs : Homes) (kept_homes holders : List Home) → 0 < n → AreUnitsOf s items es ms → AreHomesOf es replaced hs kept_homes holders
-    → chosen_copy_of (Some set) es kept_homes holders (candidates n es ms) ≡ replacement_on (is_within set) s es items n replaced hs
+    → chosen_copy_of (Some set) es kept_homes holders (candidates n es ms) ≡ replacement_on (is_disk_in_set set) s es items n replaced hs
 copy_on_is s items es ms set n replaced hs kept_homes holders some units are = copy_of_is s items es ms (Some set) n replaced hs kept_homes holders some units are

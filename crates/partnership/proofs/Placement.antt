@@ -10,12 +10,12 @@ use Rattle.asm_formats.specs.Status.{Entry}
 use Rattle.asm_formats.specs.Items.{Item, Homes}
 use Rattle.allocator.specs.UnitMaps.{UnitMap, used_of, total_of}
 use Rattle.asm_placement.specs.Modes.{is_target}
-use Rattle.asm_placement.specs.DiskSets.{groups_of}
+use Rattle.asm_placement.specs.DiskSets.{distinct_failgroups}
 use Rattle.asm_placement.specs.Space as space
 use Rattle.asm_placement.specs.Space.{used_units, user_units, lowest_run, has_room, is_tried_before}
 use Rattle.asm_placement.specs.Choices as choices
 use Rattle.asm_placement.specs.Choices.{home_on, partners_with_room, homes_for, disks_for}
-use Rattle.partnership.specs.Candidates.{Candidate, candidate, candidate_at, candidates, is_before, earlier, tried_first, entries, among, is_within, is_outside, group_count, may_be_first, in_turn, with_others, homes, three, chosen_homes}
+use Rattle.partnership.specs.Candidates.{Candidate, candidate, candidate_at, candidates, is_less_full, earlier_candidate, candidate_tried_first, entries, among, is_disk_in_set, is_outside, group_count, may_be_first_candidate, candidates_in_turn, with_others, homes, three, chosen_homes}
 use Rattle.partnership.specs.UnitsOf.{AreUnits, AreUnitsOf}
 use Rattle.partnership.proofs.Runs.{lowest_of_disk}
 use Rattle.partnership.proofs.Turns.{filter_both}
@@ -71,8 +71,8 @@ among_map s items n test (e ∷ es) = rw (among_map s items n test es) (by (test
     by true = refl
     by false = refl
 
-pub tried_map : (s : Shape) (items : List Item) (n : ℕ) (es : List Entry) → tried_first (map (as_candidate s items n) es) ≡ option_map (as_candidate s items n) (space.tried_first s items es)
-unfolding space.tried_first is_before
+pub tried_map : (s : Shape) (items : List Item) (n : ℕ) (es : List Entry) → candidate_tried_first (map (as_candidate s items n) es) ≡ option_map (as_candidate s items n) (space.tried_first s items es)
+unfolding space.tried_first is_less_full
 tried_map s items n [] = refl
 tried_map s items n (e ∷ es) = rw (tried_map s items n es) (by (space.tried_first s items es))
   where
@@ -80,7 +80,7 @@ tried_map s items n (e ∷ es) = rw (tried_map s items n es) (by (space.tried_fi
     pick true x y = refl
     pick false x y = refl
 
-    by : (o : Option Entry) → earlier (as_candidate s items n e) (option_map (as_candidate s items n) o) ≡ option_map (as_candidate s items n) (space.earlier s items e o)
+    by : (o : Option Entry) → earlier_candidate (as_candidate s items n e) (option_map (as_candidate s items n) o) ≡ option_map (as_candidate s items n) (space.earlier s items e o)
     by None = refl
     by (Some best) = pick (is_tried_before s items best e) best e
 
@@ -92,16 +92,16 @@ homes_map : (s : Shape) (items : List Item) (n : ℕ) (es : List Entry) → home
 homes_map s items n [] = refl
 homes_map s items n (e ∷ es) = ap (λ (l : Homes). home_on s items n e ∷ l) (homes_map s items n es)
 
-turns_map : (s : Shape) (items : List Item) (n : ℕ) (es : List Entry) (taken : List ℕ) (k : ℕ) → in_turn (map (as_candidate s items n) es) taken k ≡ map (as_candidate s items n) (choices.in_turn s items es taken k)
+turns_map : (s : Shape) (items : List Item) (n : ℕ) (es : List Entry) (taken : List ℕ) (k : ℕ) → candidates_in_turn (map (as_candidate s items n) es) taken k ≡ map (as_candidate s items n) (choices.in_turn s items es taken k)
 turns_map s items n es taken zero = refl
 turns_map s items n es taken (suc k) = by (space.tried_first s items (filter (is_outside taken) es)) refl (λ (more : List ℕ). turns_map s items n es more k)
   where
-    first : tried_first (among (is_outside taken) (map (as_candidate s items n) es)) ≡ option_map (as_candidate s items n) (space.tried_first s items (filter (is_outside taken) es))
-    first = ap (λ (cs : List Candidate). tried_first cs) (among_map s items n (is_outside taken) es) ∙ tried_map s items n (filter (is_outside taken) es)
+    first : candidate_tried_first (among (is_outside taken) (map (as_candidate s items n) es)) ≡ option_map (as_candidate s items n) (space.tried_first s items (filter (is_outside taken) es))
+    first = ap (λ (cs : List Candidate). candidate_tried_first cs) (among_map s items n (is_outside taken) es) ∙ tried_map s items n (filter (is_outside taken) es)
 
     by : (o : Option Entry) → space.tried_first s items (filter (is_outside taken) es) ≡ o
-        → ((more : List ℕ) → in_turn (map (as_candidate s items n) es) more k ≡ map (as_candidate s items n) (choices.in_turn s items es more k))
-        → in_turn (map (as_candidate s items n) es) taken (suc k) ≡ map (as_candidate s items n) (choices.in_turn s items es taken (suc k))
+        → ((more : List ℕ) → candidates_in_turn (map (as_candidate s items n) es) more k ≡ map (as_candidate s items n) (choices.in_turn s items es more k))
+        → candidates_in_turn (map (as_candidate s items n) es) taken (suc k) ≡ map (as_candidate s items n) (choices.in_turn s items es taken (suc k))
     by None is later = rw (first, is) refl
     by (Some e) is later = rw (first, is) (ap (λ (cs : List Candidate). as_candidate s items n e ∷ cs) (later (e.failgroup ∷ taken)))
 
@@ -115,22 +115,22 @@ swapped true b c = by b c
     by false false = refl
 swapped false b c = refl
 
-partners_are : (s : Shape) (items : List Item) (n : ℕ) (es : List Entry) (e : Entry) → filter (is_within e.partners) (with_room s items n es) ≡ partners_with_room s items es n e
+partners_are : (s : Shape) (items : List Item) (n : ℕ) (es : List Entry) (e : Entry) → filter (is_disk_in_set e.partners) (with_room s items n es) ≡ partners_with_room s items es n e
 partners_are s items n es e =
-    filter_both (is_within e.partners) (may_have s items n) es
-    ∙ filter_agree (λ (f : Entry). may_have s items n f && is_within e.partners f) (λ (f : Entry). is_target f && has_bit e.partners f.number && has_room s items n f)
+    filter_both (is_disk_in_set e.partners) (may_have s items n) es
+    ∙ filter_agree (λ (f : Entry). may_have s items n f && is_disk_in_set e.partners f) (λ (f : Entry). is_target f && has_bit e.partners f.number && has_room s items n f)
     (λ f. swapped (is_target f) (has_room s items n f) (has_bit e.partners f.number)) es
 
-count_is : (s : Shape) (items : List Item) (n : ℕ) (es : List Entry) (e : Entry) → group_count (among (is_within e.partners) (map (as_candidate s items n) (with_room s items n es))) ≡ length (groups_of (partners_with_room s items es n e))
+count_is : (s : Shape) (items : List Item) (n : ℕ) (es : List Entry) (e : Entry) → group_count (among (is_disk_in_set e.partners) (map (as_candidate s items n) (with_room s items n es))) ≡ length (distinct_failgroups (partners_with_room s items es n e))
 count_is s items n es e =
-    ap (λ (cs : List Candidate). group_count cs) (among_map s items n (is_within e.partners) (with_room s items n es))
-    ∙ ap (λ (l : List Entry). length (groups_of l)) (entries_map s items n (filter (is_within e.partners) (with_room s items n es)) ∙ partners_are s items n es e)
+    ap (λ (cs : List Candidate). group_count cs) (among_map s items n (is_disk_in_set e.partners) (with_room s items n es))
+    ∙ ap (λ (l : List Entry). length (distinct_failgroups l)) (entries_map s items n (filter (is_disk_in_set e.partners) (with_room s items n es)) ∙ partners_are s items n es e)
 
-first_is : (s : Shape) (items : List Item) (n : ℕ) (es : List Entry) (copies : ℕ) → filter (may_be_first (map (as_candidate s items n) (with_room s items n es)) copies) (with_room s items n es) ≡ filter (choices.may_be_first s items es copies n) es
-unfolding may_be_first
+first_is : (s : Shape) (items : List Item) (n : ℕ) (es : List Entry) (copies : ℕ) → filter (may_be_first_candidate (map (as_candidate s items n) (with_room s items n es)) copies) (with_room s items n es) ≡ filter (choices.may_be_first s items es copies n) es
+unfolding may_be_first_candidate
 first_is s items n es copies =
-    filter_both (may_be_first (map (as_candidate s items n) (with_room s items n es)) copies) (may_have s items n) es
-    ∙ filter_agree (λ (e : Entry). may_have s items n e && may_be_first (map (as_candidate s items n) (with_room s items n es)) copies e) (choices.may_be_first s items es copies n)
+    filter_both (may_be_first_candidate (map (as_candidate s items n) (with_room s items n es)) copies) (may_have s items n) es
+    ∙ filter_agree (λ (e : Entry). may_have s items n e && may_be_first_candidate (map (as_candidate s items n) (with_room s items n es)) copies e) (choices.may_be_first s items es copies n)
     (λ e. ap (λ (k : ℕ). may_have s items n e && leb copies (k + 1)) (count_is s items n es e)) es
 
 others_map : (s : Shape) (items : List Item) (n : ℕ) (es : List Entry) (copies : ℕ) (e : Entry)
@@ -138,7 +138,7 @@ others_map : (s : Shape) (items : List Item) (n : ℕ) (es : List Entry) (copies
     ≡ map (home_on s items n) (e ∷ choices.in_turn s items (partners_with_room s items es n e) (e.failgroup ∷ []) (copies - 1))
 others_map s items n es copies e =
     ap (λ (l : Homes). home_on s items n e ∷ l)
-    (ap (λ (cs : List Candidate). homes (in_turn cs (e.failgroup ∷ []) (copies - 1))) (among_map s items n (is_within e.partners) (with_room s items n es) ∙ ap (map (as_candidate s items n)) (partners_are s items n es e))
+    (ap (λ (cs : List Candidate). homes (candidates_in_turn cs (e.failgroup ∷ []) (copies - 1))) (among_map s items n (is_disk_in_set e.partners) (with_room s items n es) ∙ ap (map (as_candidate s items n)) (partners_are s items n es e))
     ∙ ap homes (turns_map s items n (partners_with_room s items es n e) (e.failgroup ∷ []) (copies - 1))
     ∙ homes_map s items n (choices.in_turn s items (partners_with_room s items es n e) (e.failgroup ∷ []) (copies - 1)))
 
@@ -146,9 +146,9 @@ chosen_is : (s : Shape) (items : List Item) (n : ℕ) (es : List Entry) (copies 
 unfolding homes_for disks_for
 chosen_is s items n es copies = by (space.tried_first s items (filter (choices.may_be_first s items es copies n) es)) refl
   where
-    first : tried_first (among (may_be_first (all_candidates s items n es) copies) (all_candidates s items n es)) ≡ option_map (as_candidate s items n) (space.tried_first s items (filter (choices.may_be_first s items es copies n) es))
+    first : candidate_tried_first (among (may_be_first_candidate (all_candidates s items n es) copies) (all_candidates s items n es)) ≡ option_map (as_candidate s items n) (space.tried_first s items (filter (choices.may_be_first s items es copies n) es))
     first =
-        ap (λ (l : List Candidate). tried_first l) (among_map s items n (may_be_first (all_candidates s items n es) copies) (with_room s items n es) ∙ ap (map (as_candidate s items n)) (first_is s items n es copies))
+        ap (λ (l : List Candidate). candidate_tried_first l) (among_map s items n (may_be_first_candidate (all_candidates s items n es) copies) (with_room s items n es) ∙ ap (map (as_candidate s items n)) (first_is s items n es copies))
         ∙ tried_map s items n (filter (choices.may_be_first s items es copies n) es)
 
     by : (o : Option Entry) → space.tried_first s items (filter (choices.may_be_first s items es copies n) es) ≡ o

@@ -13,7 +13,7 @@ use Rattle.asm_placement.specs.DiskSets.{numbers}
 use Rattle.asm_placement.specs.Layout.{units_of}
 use Rattle.allocator.specs.UnitMaps.{IsFreeRun, UnitMap, with_run}
 use Rattle.partnership.specs.Candidates.{candidates, chosen_homes, is_free_from}
-use Rattle.partnership.specs.Rows.{Choosing, IsRow, home_used, homes_at, homes_used}
+use Rattle.partnership.specs.Rows.{Choosing, IsRow, home_used, homes_for_extent, homes_used}
 use Rattle.partnership.proofs.FreeHomes.{chosen_free}
 use Rattle.partnership.proofs.Runs.{no_run, run_all, units_long}
 
@@ -60,18 +60,18 @@ chosen_used n es ms new copies hs r up chosen e = by (chosen_free n es ms copies
 -- ---- rows
 
 -- a row with one more extent behind it
-row_more : (c : Choosing) (i j : ℕ) (ms mid last : List UnitMap) (xs : List Homes) (hs : Homes) → j ≡ i + length xs → IsRow c i ms xs mid → homes_at c mid j ≡ Some hs → homes_used (units_of c.step j) mid hs ≡ Some last
+row_more : (c : Choosing) (i j : ℕ) (ms mid last : List UnitMap) (xs : List Homes) (hs : Homes) → j ≡ i + length xs → IsRow c i ms xs mid → homes_for_extent c mid j ≡ Some hs → homes_used (units_of c.step j) mid hs ≡ Some last
     → IsRow c i ms (xs ++ hs ∷ []) last
 row_more c i j ms mid last [] hs at same chosen used =
     let e : j ≡ i = omega (arith, at) in
-    subst (λ (k : ℕ). (homes_at c ms k ≡ Some hs) × ((next : List UnitMap) × (homes_used (units_of c.step k) ms hs ≡ Some next) × (next ≡ last))) e
-    (subst (λ (us : List UnitMap). (homes_at c us j ≡ Some hs) × ((next : List UnitMap) × (homes_used (units_of c.step j) us hs ≡ Some next) × (next ≡ last))) (sym same) (chosen, (last, used, refl)))
+    subst (λ (k : ℕ). (homes_for_extent c ms k ≡ Some hs) × ((next : List UnitMap) × (homes_used (units_of c.step k) ms hs ≡ Some next) × (next ≡ last))) e
+    (subst (λ (us : List UnitMap). (homes_for_extent c us j ≡ Some hs) × ((next : List UnitMap) × (homes_used (units_of c.step j) us hs ≡ Some next) × (next ≡ last))) (sym same) (chosen, (last, used, refl)))
 row_more c i j ms mid last (x ∷ xs) hs at row chosen used =
     (row.0, (row.1.0, row.1.1, row_more c (i + 1) j row.1.0 mid last xs hs (omega (arith, at)) row.1.2 chosen used))
 
 -- one more place of a row
 pub place_more : (c : Choosing) (first place j : ℕ) (ms mid last : List UnitMap) (row : List Homes) (hs : Homes) → j ≡ first + place → place < length row → IsRow c first ms (take place row) mid
-    → Some hs ≡ homes_at c mid j → homes_used (units_of c.step j) mid hs ≡ Some last → IsRow c first ms (take (place + 1) (set row place hs)) last
+    → Some hs ≡ homes_for_extent c mid j → homes_used (units_of c.step j) mid hs ≡ Some last → IsRow c first ms (take (place + 1) (set row place hs)) last
 place_more c first place j ms mid last row hs at within so_far chosen used =
     subst (λ (xs : List Homes). IsRow c first ms xs last) (sym (take_more_set row place hs within))
     (row_more c first j ms mid last (take place row) hs (omega (arith, at, length-take place row)) so_far (sym chosen) used)

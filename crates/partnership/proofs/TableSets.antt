@@ -10,7 +10,7 @@ use Rattle.asm_formats.specs.asm_group.declared.GroupKind.{GroupKind}
 use Rattle.asm_formats.specs.Sets.{has_bit, elements}
 use Rattle.asm_formats.specs.Status.{Entry, Status, entry_of}
 use Rattle.asm_placement.specs.Modes.{is_target, leaves, mode_is}
-use Rattle.asm_placement.specs.DiskSets.{is_among, with_bit, set_of, numbers, groups_of, by_group}
+use Rattle.asm_placement.specs.DiskSets.{is_among, with_bit, set_of, numbers, distinct_failgroups, by_group}
 use Rattle.asm_placement.specs.TableDisks.{table_count, table_set, copy_count, directory_set, in_rounds, has_leaving, staying, targets, copies_due, groups_with_copy, directory_target}
 use Rattle.partnership.specs.declared.choice.Choice.{Choice}
 use Rattle.partnership.specs.Rounds.{none_of, with_disk, round}
@@ -96,12 +96,12 @@ leaving_end es set d past so_far =
 -- ---- a directory copy that is due
 
 pub directory_due : (kind : GroupKind) (r : Status) (es holding takers : List Entry) (few due : ℕ) (target : Option ℕ) → es ≡ r.entries → holding ≡ staying es r.directories → takers ≡ targets es
-    → few ≡ length (groups_of holding) → due ≡ min (copy_count kind) (length (groups_of takers)) → few < due
-    → target ≡ option_map (λ (e : Entry). e.number) (find (λ (e : Entry). is_target e && not (is_among (groups_of holding) e.failgroup)) es) → target ≡ directory_target kind r
+    → few ≡ length (distinct_failgroups holding) → due ≡ min (copy_count kind) (length (distinct_failgroups takers)) → few < due
+    → target ≡ option_map (λ (e : Entry). e.number) (find (λ (e : Entry). is_target e && not (is_among (distinct_failgroups holding) e.failgroup)) es) → target ≡ directory_target kind r
 unfolding directory_target
 directory_due kind r es holding takers few due target es_is holding_is takers_is few_is due_is less found =
     let holding_all : holding ≡ staying r.entries r.directories = holding_is ∙ ap (λ (l : List Entry). staying l r.directories) es_is in
     let takers_all : takers ≡ targets r.entries = takers_is ∙ ap targets es_is in
-    let short : ltb (length (groups_of holding)) (min (copy_count kind) (length (groups_of takers))) ≡ true = lt-ltb _ _ (omega (arith, few_is, due_is, less)) in
+    let short : ltb (length (distinct_failgroups holding)) (min (copy_count kind) (length (distinct_failgroups takers))) ≡ true = lt-ltb _ _ (omega (arith, few_is, due_is, less)) in
     let tested : ltb (length (groups_with_copy r)) (copies_due kind r.entries) ≡ true = rw (holding_all, takers_all) at short in
     found ∙ rw (holding_all, es_is) refl ∙ sym (ap (λ (b : Bool). cond b (option_map (λ (e : Entry). e.number) (find (λ (e : Entry). is_target e && not (is_among (groups_with_copy r) e.failgroup)) r.entries)) None) tested)

@@ -6,12 +6,12 @@ use Rattle.std.proofs.lemmas.List.{drop_more, drop_all}
 use Rattle.asm_formats.specs.Status.{Entry}
 use Rattle.allocator.specs.UnitMaps.{UnitMap, used_of, total_of}
 use Rattle.asm_placement.specs.Modes.{is_target}
-use Rattle.partnership.specs.Candidates.{Candidate, candidate, candidate_at, candidates, home_at, lowest, among, tried_first}
+use Rattle.partnership.specs.Candidates.{Candidate, candidate, candidate_at, candidates, lowest_home, lowest, among, candidate_tried_first}
 use Rattle.partnership.specs.Steps.{candidate_if, with_next}
 
 among_one : (test : Entry → Bool) (n : ℕ) (e : Entry) (m : UnitMap) (cs : List Candidate) → among test (cons_option (candidate n e m) cs) ≡ cons_option (cond (test e) (candidate n e m) None) (among test cs)
 unfolding candidate
-among_one test n e m cs = by (record { entry = e; used = used_of m; total = total_of m; home = home_at n e m }) (is_target e && is_some (lowest n m)) (test e) refl
+among_one test n e m cs = by (record { entry = e; used = used_of m; total = total_of m; home = lowest_home n e m }) (is_target e && is_some (lowest n m)) (test e) refl
   where
     by : (c : Candidate) (fits t : Bool) → test c.entry ≡ t → among test (cons_option (cond fits (Some c) None) cs) ≡ cons_option (cond t (cond fits (Some c) None) None) (among test cs)
     by c true true is = rw is refl
@@ -44,7 +44,7 @@ pub among_from : (test : Entry → Bool) (n : ℕ) (es : List Entry) (ms : List 
 among_from test n es ms i e within e_is =
     ap (λ (cs : List Candidate). among test cs) (candidates_from n es ms i e within e_is) ∙ among_cons test n e ms (candidates n (drop (i + 1) es) ms)
 
-tried_cons : (o : Option Candidate) (cs : List Candidate) → with_next o (tried_first cs) ≡ tried_first (cons_option o cs)
+tried_cons : (o : Option Candidate) (cs : List Candidate) → with_next o (candidate_tried_first cs) ≡ candidate_tried_first (cons_option o cs)
 tried_cons None cs = refl
 tried_cons (Some c) cs = refl
 
@@ -54,13 +54,13 @@ none_from n es ms i past = rw (drop_all i es past) refl
 
 -- the first of those from a place on, by the first of those behind it
 pub tried_from : (test : Entry → Bool) (n : ℕ) (es : List Entry) (ms : List UnitMap) (i : ℕ) (e : Entry) (next best : Option Candidate) → i < length es → e ≡ get_or es i e
-    → best ≡ tried_first (among test (candidates n (drop (i + 1) es) ms)) → next ≡ candidate_if test n e ms
-    → with_next next best ≡ tried_first (among test (candidates n (drop i es) ms))
+    → best ≡ candidate_tried_first (among test (candidates n (drop (i + 1) es) ms)) → next ≡ candidate_if test n e ms
+    → with_next next best ≡ candidate_tried_first (among test (candidates n (drop i es) ms))
 tried_from test n es ms i e next best within e_is so_far is =
     rw (so_far, is) (tried_cons (candidate_if test n e ms) (among test (candidates n (drop (i + 1) es) ms))
-    ∙ sym (ap (λ (cs : List Candidate). tried_first cs) (among_from test n es ms i e within e_is)))
+    ∙ sym (ap (λ (cs : List Candidate). candidate_tried_first cs) (among_from test n es ms i e within e_is)))
 
-pub tried_start : (test : Entry → Bool) (n : ℕ) (es : List Entry) (ms : List UnitMap) (i : ℕ) → length es ≤ i → None ≡ tried_first (among test (candidates n (drop i es) ms))
+pub tried_start : (test : Entry → Bool) (n : ℕ) (es : List Entry) (ms : List UnitMap) (i : ℕ) → length es ≤ i → None ≡ candidate_tried_first (among test (candidates n (drop i es) ms))
 tried_start test n es ms i past = rw (none_from n es ms i past) refl
 
 -- ---- two tests in turn

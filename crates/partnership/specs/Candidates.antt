@@ -8,7 +8,7 @@ use Rattle.asm_formats.specs.Status.{Entry, entry_of}
 use Rattle.asm_formats.specs.Items.{Home, Homes}
 use Rattle.allocator.specs.UnitMaps.{UnitMap, is_free, total_of, used_of}
 use Rattle.asm_placement.specs.Modes.{is_target}
-use Rattle.asm_placement.specs.DiskSets.{is_among, groups_of}
+use Rattle.asm_placement.specs.DiskSets.{is_among, distinct_failgroups}
 
 -- ---- room
 
@@ -32,12 +32,12 @@ unit_of None = 0
 unit_of (Some h) = h.unit
 
 -- the home of a copy of n units on a disk: its lowest run
-abbrev pub home_at : ℕ → Entry → UnitMap → Option Home
-home_at n e m = option_map (λ u. record { disk = e.number; unit = u }) (lowest n m)
+abbrev pub lowest_home : ℕ → Entry → UnitMap → Option Home
+lowest_home n e m = option_map (λ u. record { disk = e.number; unit = u }) (lowest n m)
 
 -- the disk, where it may take a copy of n units: Online, regular and with room
 unfoldable pub candidate : ℕ → Entry → UnitMap → Option Candidate
-candidate n e m = if is_target e && is_some (lowest n m) then Some (record { entry = e; used = used_of m; total = total_of m; home = home_at n e m }) else None
+candidate n e m = if is_target e && is_some (lowest n m) then Some (record { entry = e; used = used_of m; total = total_of m; home = lowest_home n e m }) else None
 
 -- the disk, where the copy would begin at this unit
 abbrev pub candidate_from : Entry → UnitMap → ℕ → Candidate
@@ -55,17 +55,17 @@ candidates n (e ∷ es) ms = cons_option (candidate_at n e ms) (candidates n es 
 -- ---- the fuller-last order
 
 -- a is tried before b: it is less full, by cross products, or as full and of a lower number
-unfoldable pub is_before : Candidate → Candidate → Bool
-is_before a b = nat_lt (a.used * b.total) (b.used * a.total) || ((a.used * b.total == b.used * a.total) && nat_lt a.entry.number b.entry.number)
+unfoldable pub is_less_full : Candidate → Candidate → Bool
+is_less_full a b = nat_lt (a.used * b.total) (b.used * a.total) || ((a.used * b.total == b.used * a.total) && nat_lt a.entry.number b.entry.number)
 
-abbrev pub earlier : Candidate → Option Candidate → Option Candidate
-earlier c None = Some c
-earlier c (Some best) = if is_before best c then Some best else Some c
+abbrev pub earlier_candidate : Candidate → Option Candidate → Option Candidate
+earlier_candidate c None = Some c
+earlier_candidate c (Some best) = if is_less_full best c then Some best else Some c
 
 -- the one of these that is tried first
-abbrev pub tried_first : List Candidate → Option Candidate
-tried_first [] = None
-tried_first (c ∷ cs) = earlier c (tried_first cs)
+abbrev pub candidate_tried_first : List Candidate → Option Candidate
+candidate_tried_first [] = None
+candidate_tried_first (c ∷ cs) = earlier_candidate c (candidate_tried_first cs)
 
 -- ---- homes for a new extent
 
@@ -76,35 +76,35 @@ entries cs = map (λ (c : Candidate). c.entry) cs
 abbrev pub among : (Entry → Bool) → List Candidate → List Candidate
 among test cs = filter (λ (c : Candidate). test c.entry) cs
 
-abbrev pub is_within : ℕ → Entry → Bool
-is_within set e = has_bit set e.number
+abbrev pub is_disk_in_set : ℕ → Entry → Bool
+is_disk_in_set set e = has_bit set e.number
 
 abbrev pub is_outside : List ℕ → Entry → Bool
 is_outside taken e = not (is_among taken e.failgroup)
 
 -- in how many failure groups they lie
 abbrev pub group_count : List Candidate → ℕ
-group_count cs = length (groups_of (entries cs))
+group_count cs = length (distinct_failgroups (entries cs))
 
 -- it has partners for the other copies among these
-unfoldable pub may_be_first : List Candidate → ℕ → Entry → Bool
-may_be_first cs copies e = nat_le copies (group_count (among (is_within e.partners) cs) + 1)
+unfoldable pub may_be_first_candidate : List Candidate → ℕ → Entry → Bool
+may_be_first_candidate cs copies e = nat_le copies (group_count (among (is_disk_in_set e.partners) cs) + 1)
 
 -- so many disks in turn, each the first in order of those whose failure group isn't taken yet
-abbrev pub in_turn : List Candidate → List ℕ → ℕ → List Candidate
-in_turn cs taken zero = []
-in_turn cs taken (suc k) = next (λ (c : Candidate). c ∷ in_turn cs (c.entry.failgroup ∷ taken) k) (tried_first (among (is_outside taken) cs))
+abbrev pub candidates_in_turn : List Candidate → List ℕ → ℕ → List Candidate
+candidates_in_turn cs taken zero = []
+candidates_in_turn cs taken (suc k) = next (λ (c : Candidate). c ∷ candidates_in_turn cs (c.entry.failgroup ∷ taken) k) (candidate_tried_first (among (is_outside taken) cs))
   where
     next : (Candidate → List Candidate) → Option Candidate → List Candidate
     next go None = []
     next go (Some c) = go c
 
 abbrev pub with_others : List Candidate → ℕ → Candidate → List Candidate
-with_others cs copies c = c ∷ in_turn (among (is_within c.entry.partners) cs) (c.entry.failgroup ∷ []) (copies - 1)
+with_others cs copies c = c ∷ candidates_in_turn (among (is_disk_in_set c.entry.partners) cs) (c.entry.failgroup ∷ []) (copies - 1)
 
 -- the disks of a new extent's copies: the first, and partners of it in turn
 abbrev pub chosen : List Candidate → ℕ → Option (List Candidate)
-chosen cs copies = option_map (with_others cs copies) (tried_first (among (may_be_first cs copies) cs))
+chosen cs copies = option_map (with_others cs copies) (candidate_tried_first (among (may_be_first_candidate cs copies) cs))
 
 abbrev pub homes : List Candidate → Homes
 homes cs = map (λ (c : Candidate). c.home) cs
@@ -122,13 +122,13 @@ chosen_homes cs copies = option_map (λ ds. three (homes ds)) (chosen cs copies)
 abbrev pub lies_on : ℕ → Home → Bool
 lies_on d h = h.disk == d
 
-abbrev pub is_of_group : ℕ → Option Entry → Bool
-is_of_group g None = false
-is_of_group g (Some e) = e.failgroup == g
+abbrev pub has_entry_of_failgroup : ℕ → Option Entry → Bool
+has_entry_of_failgroup g None = false
+has_entry_of_failgroup g (Some e) = e.failgroup == g
 
 -- the home's disk is of the failure group
 abbrev pub lies_in_group : List Entry → ℕ → Home → Bool
-lies_in_group es g h = is_of_group g (entry_of es h.disk)
+lies_in_group es g h = has_entry_of_failgroup g (entry_of es h.disk)
 
 abbrev pub has_partner : ℕ → Option Entry → Bool
 has_partner d None = false
@@ -154,18 +154,18 @@ may_take_at es kept holders (Some e) = may_take es kept holders e
 -- the disk is of the set, where one is given
 abbrev pub is_allowed : Option ℕ → Entry → Bool
 is_allowed None e = true
-is_allowed (Some set) e = is_within set e
+is_allowed (Some set) e = is_disk_in_set set e
 
 abbrev pub may_take_of : Option ℕ → List Entry → List Home → List Home → Entry → Bool
 may_take_of on es kept holders e = is_allowed on e && may_take es kept holders e
 
-abbrev pub home_of : Candidate → Option Home
-home_of c = c.home
+abbrev pub candidate_home : Candidate → Option Home
+candidate_home c = c.home
 
 -- the home of the copy: on the first of the disks that may take it
 abbrev pub chosen_copy : List Entry → List Home → List Home → List Candidate → Option Home
-chosen_copy es kept holders cs = option_and_then home_of (tried_first (among (may_take es kept holders) cs))
+chosen_copy es kept holders cs = option_and_then candidate_home (candidate_tried_first (among (may_take es kept holders) cs))
 
 -- the same on a disk of the set, where one is given
 abbrev pub chosen_copy_of : Option ℕ → List Entry → List Home → List Home → List Candidate → Option Home
-chosen_copy_of on es kept holders cs = option_and_then home_of (tried_first (among (may_take_of on es kept holders) cs))
+chosen_copy_of on es kept holders cs = option_and_then candidate_home (candidate_tried_first (among (may_take_of on es kept holders) cs))

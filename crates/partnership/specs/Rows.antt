@@ -33,11 +33,11 @@ pub record Choosing : Type 0 where
   pub step : ℕ
 
 -- the homes of extent i by these maps, or none
-abbrev pub homes_at : Choosing → List UnitMap → ℕ → Option Homes
-homes_at c ms i = chosen_homes (candidates (units_of c.step i) c.entries ms) c.copies
+abbrev pub homes_for_extent : Choosing → List UnitMap → ℕ → Option Homes
+homes_for_extent c ms i = chosen_homes (candidates (units_of c.step i) c.entries ms) c.copies
 
 -- The homes are those of the extents from i on, each chosen by the maps in which the units of those before it are used. The last
 -- maps are those in which the units of all are used.
 abbrev pub IsRow : Choosing → ℕ → List UnitMap → List Homes → List UnitMap → Type 0
 IsRow c i ms [] last = ms ≡ last
-IsRow c i ms (hs ∷ more) last = (homes_at c ms i ≡ Some hs) × ((next : List UnitMap) × (homes_used (units_of c.step i) ms hs ≡ Some next) × IsRow c (i + 1) next more last)
+IsRow c i ms (hs ∷ more) last = (homes_for_extent c ms i ≡ Some hs) × ((next : List UnitMap) × (homes_used (units_of c.step i) ms hs ≡ Some next) × IsRow c (i + 1) next more last)

@@ -18,5 +18,5 @@ abbrev pub lies_in : ℕ → Entry → Bool
 lies_in g e = e.failgroup == g
 
 -- a set may have each of the disks
-abbrev pub AreNumbered : List Entry → Type 0
-AreNumbered es = All (λ e. e.number < 64) es
+abbrev pub FitInSet : List Entry → Type 0
+FitInSet es = All (λ e. e.number < 64) es

@@ -31,16 +31,16 @@ held (None ∷ hs) = held hs
 held (Some h ∷ hs) = h ∷ held hs
 
 -- those on disks that stay, but for copy number `replaced`
-abbrev pub kept_from : List Entry → ℕ → ℕ → Homes → List Home
-kept_from es replaced copy [] = []
-kept_from es replaced copy (None ∷ hs) = kept_from es replaced (suc copy) hs
-kept_from es replaced copy (Some h ∷ hs) =
-    if copy == replaced then kept_from es replaced (suc copy) hs
-    else if is_some (staying_disk es (Some h)) then h ∷ kept_from es replaced (suc copy) hs
-    else kept_from es replaced (suc copy) hs
+abbrev pub kept_homes_from : List Entry → ℕ → ℕ → Homes → List Home
+kept_homes_from es replaced copy [] = []
+kept_homes_from es replaced copy (None ∷ hs) = kept_homes_from es replaced (suc copy) hs
+kept_homes_from es replaced copy (Some h ∷ hs) =
+    if copy == replaced then kept_homes_from es replaced (suc copy) hs
+    else if is_some (staying_disk es (Some h)) then h ∷ kept_homes_from es replaced (suc copy) hs
+    else kept_homes_from es replaced (suc copy) hs
 
 abbrev pub kept : List Entry → ℕ → Homes → List Home
-kept es replaced homes = kept_from es replaced 0 homes
+kept es replaced homes = kept_homes_from es replaced 0 homes
 
 -- the lists are those of an extent with these homes whose copy number `replaced` is to be replaced
 pub record AreHomesOf (es : List Entry) (replaced : ℕ) (homes : Homes) (kept_homes holding : List Home) : Type 0 where

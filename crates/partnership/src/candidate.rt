@@ -4,7 +4,7 @@ ghost use Rattle.std.specs.Prelude.{◌≡◌, ◌<◌};
 ghost use Rattle.std.specs.List.{slice_get};
 ghost use Rattle.std.specs.Option.{option_and_then, option_copied};
 ghost use Rattle.asm_placement.specs.Modes.{is_target};
-ghost use Rattle.partnership.specs.Candidates.{candidate, candidate_at, candidate_from, earlier, home_of, is_before, lowest};
+ghost use Rattle.partnership.specs.Candidates.{candidate, candidate_at, candidate_from, earlier_candidate, candidate_home, is_less_full, lowest};
 ghost use Rattle.partnership.specs.Steps.{with_next};
 
 use allocator::{Home, Mode, Units};
@@ -104,7 +104,7 @@ pub fn lowest(units: &Units, n: u32) -> Option<u32>
 /// Whether a is tried before b: it is less full, or as full and of a lower number. Fills are compared by cross products.
 #[tactic(auto, unfolding(crate::specs::Candidates::is_before))]
 fn is_before(a: &Candidate, b: &Candidate) -> bool
-    ensures { result ≡ is_before a.now b.now }
+    ensures { result ≡ is_less_full a.now b.now }
 {
     let fill_of_a = a.used as u64 * b.total as u64;
     let fill_of_b = b.used as u64 * a.total as u64;
@@ -113,7 +113,7 @@ fn is_before(a: &Candidate, b: &Candidate) -> bool
 
 /// The one of the two that is tried first.
 fn earlier(candidate: Candidate, best: Option<Candidate>) -> Candidate
-    ensures { Some result ≡ earlier candidate best }
+    ensures { Some result ≡ earlier_candidate candidate best }
 {
     match best {
         Some(best) if is_before(&best, &candidate) => best,
@@ -132,7 +132,7 @@ pub fn with_next(next: Option<Candidate>, best: Option<Candidate>) -> Option<Can
 }
 
 pub fn home_of(candidate: Option<Candidate>) -> Option<Home>
-    ensures { result ≡ option_and_then home_of candidate }
+    ensures { result ≡ option_and_then candidate_home candidate }
 {
     match candidate {
         Some(candidate) => Some(candidate.home()),

@@ -3,7 +3,7 @@
 ghost use Rattle.std.specs.Prelude.{◌≡◌, ◌<◌, ◌++◌, filter, fold, IfSome, slice_get};
 ghost use Rattle.asm_placement.specs.DiskSets.{by_group};
 ghost use Rattle.asm_placement.specs.TableDisks.{in_rounds};
-ghost use Rattle.partnership.specs.Selections.{AreNumbered, lies_in};
+ghost use Rattle.partnership.specs.Selections.{FitInSet, lies_in};
 ghost use Rattle.partnership.specs.Rounds.{none_of, round, with_disk, with_found};
 
 use crate::failure_groups::has_group;
@@ -57,8 +57,8 @@ impl Choice {
 /// So many disks in rounds over the failure groups, quorum groups first. Each round takes the next disk of each group.
 #[tactic(auto, using(crate::proofs::Rounds::round_step, crate::proofs::Rounds::rounds_start, crate::proofs::Rounds::rounds_end, crate::proofs::Rounds::none_left))]
 pub fn in_rounds(quorum: &[PstEntry], regular: &[PstEntry], rounds: usize, count: usize) -> Choice
-    requires quorum_numbers { AreNumbered quorum.now }
-    requires numbers { AreNumbered regular.now }
+    requires quorum_numbers { FitInSet quorum.now }
+    requires numbers { FitInSet regular.now }
     ensures { result ≡ fold with_disk (none_of count) (in_rounds rounds (by_group quorum.now ++ by_group regular.now)) }
 {
     let mut choice = Choice::none_of(count);
@@ -75,7 +75,7 @@ pub fn in_rounds(quorum: &[PstEntry], regular: &[PstEntry], rounds: usize, count
 /// Takes of each failure group the disk before which it has so many.
 #[tactic(auto, using(crate::proofs::Rounds::group_step, crate::proofs::Rounds::group_past, crate::proofs::Rounds::round_start, crate::proofs::Rounds::round_end))]
 pub fn with_round(from: Choice, disks: &[PstEntry], k: usize) -> Choice
-    requires { AreNumbered disks.now }
+    requires { FitInSet disks.now }
     ensures { result ≡ fold with_disk from (round k disks.now) }
 {
     let mut choice = from;
@@ -92,7 +92,7 @@ pub fn with_round(from: Choice, disks: &[PstEntry], k: usize) -> Choice
 /// The disk of the failure group before which it has so many.
 #[tactic(auto, using(crate::proofs::Rounds::nth_step, crate::proofs::Rounds::nth_past, crate::proofs::Rounds::nth_found, crate::proofs::Rounds::nth_end))]
 fn nth_of_group(disks: &[PstEntry], failgroup: u8, n: usize) -> Option<PstEntry>
-    requires { AreNumbered disks.now }
+    requires { FitInSet disks.now }
     ensures disk { result ≡ slice_get (filter (lies_in failgroup) disks.now) n }
     ensures number { IfSome result (λ e. e.number < 64) }
 {

@@ -6,7 +6,7 @@ ghost use Rattle.asm_formats.specs.asm_group.Shape.{Shape};
 ghost use Rattle.asm_formats.specs.Items.{Item, Homes};
 ghost use Rattle.asm_formats.specs.Status.{entry_of};
 ghost use Rattle.asm_placement.specs.Choices.{replacement, replacement_on};
-ghost use Rattle.partnership.specs.Candidates.{among, candidates, chosen_copy, chosen_copy_of, has_partner, is_allowed, is_of_group, is_partner_of_kept, is_within, lies_in_group, lies_on, may_take, may_take_at, may_take_of, tried_first};
+ghost use Rattle.partnership.specs.Candidates.{among, candidates, chosen_copy, chosen_copy_of, has_partner, is_allowed, has_entry_of_failgroup, is_partner_of_kept, is_disk_in_set, lies_in_group, lies_on, may_take, may_take_at, may_take_of, candidate_tried_first};
 ghost use Rattle.partnership.specs.Steps.{candidate_if};
 ghost use Rattle.partnership.specs.UnitsOf.{AreHomesOf, AreUnitsOf, is_eligible_at};
 
@@ -66,7 +66,7 @@ pub fn choose_copy_on(
     requires { 0 < n }
     ensures chosen { result ≡ chosen_copy_of (Some on) disks.now kept.now holders.now (candidates n disks.now units.now) }
     // Where the units are those of a group's records, and the homes those of an extent, the home takes a copy's place.
-    ensures placement { (s : Shape) (items : List Item) (replaced : ℕ) (homes : Homes) → AreUnitsOf s items disks.now units.now → AreHomesOf disks.now replaced homes kept.now holders.now → result ≡ replacement_on (is_within on) s disks.now items n replaced homes }
+    ensures placement { (s : Shape) (items : List Item) (replaced : ℕ) (homes : Homes) → AreUnitsOf s items disks.now units.now → AreHomesOf disks.now replaced homes kept.now holders.now → result ≡ replacement_on (is_disk_in_set on) s disks.now items n replaced homes }
 {
     chosen_copy_of(disks, units, kept, holders, &Some(on), n)
 }
@@ -95,7 +95,7 @@ fn first_eligible(
     n: u32,
 ) -> Option<Candidate>
     requires { 0 < n }
-    ensures { result ≡ tried_first (among (may_take_of on.now disks.now kept.now holders.now) (candidates n disks.now units.now)) }
+    ensures { result ≡ candidate_tried_first (among (may_take_of on.now disks.now kept.now holders.now) (candidates n disks.now units.now)) }
 {
     let mut best = None;
     for i in (0..disks.len()).rev() {

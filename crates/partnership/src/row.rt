@@ -4,7 +4,7 @@ ghost use Rattle.std.specs.Prelude.{◌≡◌, ◌<◌, ◌≤◌, ◌+◌, ◌�
 ghost use Rattle.asm_formats.specs.Status.{ascends_from};
 ghost use Rattle.asm_placement.specs.DiskSets.{numbers};
 ghost use Rattle.partnership.specs.Candidates.{candidates, chosen_homes};
-ghost use Rattle.partnership.specs.Rows.{IsRow, home_used, homes_at, homes_used};
+ghost use Rattle.partnership.specs.Rows.{IsRow, home_used, homes_for_extent, homes_used};
 
 use crate::homes::choose_homes;
 use allocator::{Home, Homes, Units};
@@ -28,7 +28,7 @@ pub fn choose_row(
     ensures places { length row.new ≡ length row.old }
     ensures within { result ≤ length row.new }
     ensures row { IsRow (record { entries = disks.now; copies = copies; step = step }) first units.old (take result row.new) units.new }
-    ensures no_space { result < length row.new → homes_at (record { entries = disks.now; copies = copies; step = step }) units.new (first + result) ≡ None }
+    ensures no_space { result < length row.new → homes_for_extent (record { entries = disks.now; copies = copies; step = step }) units.new (first + result) ≡ None }
 {
     for place in 0..row.len() {
         match choose_next(disks, units, copies, units_of(step, first + place as u64)) {

@@ -6,9 +6,9 @@ ghost use Rattle.std.specs.Option.{option_map};
 ghost use Rattle.asm_formats.specs.Sets.{elements, has_bit};
 ghost use Rattle.asm_formats.specs.Status.{Entry, entry_of, is_status};
 ghost use Rattle.asm_placement.specs.Modes.{is_online, is_target, leaves, mode_is};
-ghost use Rattle.asm_placement.specs.DiskSets.{groups_of, is_among};
+ghost use Rattle.asm_placement.specs.DiskSets.{distinct_failgroups, is_among};
 ghost use Rattle.asm_placement.specs.TableDisks.{copy_count, directory_set, directory_target, due_set, has_leaving, is_status_move_due, status_target, table_count, table_set};
-ghost use Rattle.partnership.specs.Selections.{AreNumbered};
+ghost use Rattle.partnership.specs.Selections.{FitInSet};
 
 use crate::choice::{Choice, in_rounds, with_round};
 use crate::disks::{Disks, Which};
@@ -24,7 +24,7 @@ use status_table::{PstEntry, PstRecord};
 #[tactic(auto, using(crate::proofs::TableSets::holders_are, crate::proofs::Selected::numbered))]
 pub fn first_holders(kind: GroupKind, disks: &[PstEntry]) -> DiskSet
     requires few { length disks.now ≤ 64 }
-    requires numbers { AreNumbered disks.now }
+    requires numbers { FitInSet disks.now }
     ensures { result ≡ table_set kind disks.now }
 {
     let quorum = Disks::of(disks, Which::Quorum);
@@ -38,7 +38,7 @@ pub fn first_holders(kind: GroupKind, disks: &[PstEntry]) -> DiskSet
 #[tactic(auto, using(crate::proofs::TableSets::directories_are, crate::proofs::Selected::numbered))]
 pub fn first_directories(kind: GroupKind, disks: &[PstEntry]) -> DiskSet
     requires few { length disks.now ≤ 64 }
-    requires numbers { AreNumbered disks.now }
+    requires numbers { FitInSet disks.now }
     ensures { result ≡ directory_set kind disks.now }
 {
     let regular = Disks::of(disks, Which::Regular);
@@ -151,7 +151,7 @@ pub fn directory_target(kind: GroupKind, status: &PstRecord) -> Option<u8>
 
 /// The least disk that may take a copy and lies in another failure group than each of the disks that hold one.
 fn first_outside(disks: &[PstEntry], holding: &[PstEntry]) -> Option<u8>
-    ensures { result ≡ option_map (λ (e : Entry). e.number) (find (λ (e : Entry). is_target e && not (is_among (groups_of holding.now) e.failgroup)) disks.now) }
+    ensures { result ≡ option_map (λ (e : Entry). e.number) (find (λ (e : Entry). is_target e && not (is_among (distinct_failgroups holding.now) e.failgroup)) disks.now) }
 {
     for disk in disks {
         if is_outside(disk, holding) {
@@ -163,7 +163,7 @@ fn first_outside(disks: &[PstEntry], holding: &[PstEntry]) -> Option<u8>
 
 #[tactic(auto, using(crate::proofs::FailureGroups::groups_any))]
 fn is_outside(disk: &PstEntry, holding: &[PstEntry]) -> bool
-    ensures { result ≡ (is_target disk.now && not (is_among (groups_of holding.now) disk.now.failgroup)) }
+    ensures { result ≡ (is_target disk.now && not (is_among (distinct_failgroups holding.now) disk.now.failgroup)) }
 {
     Which::Targets.has(disk) && !has_group(holding, disk.failgroup)
 }

@@ -18,7 +18,7 @@ use Rattle.asm_formats.specs.Header.{Header}
 use Rattle.asm_formats.specs.Metadata.{Metadata, metadata, header_of}
 use Rattle.asm_formats.specs.Status.{Status, Entry, entry_of}
 use Rattle.asm_formats.specs.Items.{Item, Home}
-use Rattle.asm_images.specs.Members.{Image, Member, members, metadata_of, all_members, within, AreDistinct}
+use Rattle.asm_images.specs.Members.{ImageBytes, Member, members, metadata_of, all_members, within, AreDistinct}
 use Rattle.asm_images.specs.Copies.{is_kept, is_disk_in}
 use Rattle.asm_images.specs.Describing.{DescribesGroup}
 use Rattle.asm_images.specs.Stands.{IsDiskOf, HoldsBytes, Describes}
@@ -34,13 +34,13 @@ use Rattle.asm_images.proofs.UserBytes.{home_is_placed, all_of_list, reserved_co
 -- ---- an open content
 
 -- an open content describes the group that the image is sound for
-pub record Tells (id : ℕ) (image : Image) (r : Status) (items : List Item) (g : Group) : Type 0 where
+pub record Tells (id : ℕ) (image : ImageBytes) (r : Status) (items : List Item) (g : Group) : Type 0 where
   pub distinct : AreDistinct (all_members id image)
   pub disks : (m : Member) → IsAmong (all_members id image) m → IsDiskOf g r m
   pub describes : DescribesGroup r items g
   pub bytes : HoldsBytes image (all_members id image) r items g
 
-pub told : (id : ℕ) (image : Image) (g : Group) (completed : Option Status) (begun : List Status) → SoundBy id image (g ∷ []) completed begun
+pub told : (id : ℕ) (image : ImageBytes) (g : Group) (completed : Option Status) (begun : List Status) → SoundBy id image (g ∷ []) completed begun
     → (r : Status) (items : List Item) → IsOpen id image completed begun r items → Tells id image r items g
 told id image g completed begun sound r items o =
     let found = (sound.covered r o.counts o.not_gone).described o.readable o.content o.found in

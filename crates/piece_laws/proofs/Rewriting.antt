@@ -7,7 +7,7 @@ use Rattle.std.proofs.lemmas.Option.{same_Some}
 use Rattle.asm_group.specs.Names.{ByNumber}
 use Rattle.asm_group.specs.declared.Stripe.{Stripe}
 use Rattle.asm_group.specs.Group.{Cell, File, Group}
-use Rattle.asm_placement.specs.Layout.{has_extent}
+use Rattle.asm_placement.specs.Layout.{has_extent_by_size}
 use Rattle.asm_placement.specs.Tables.{head_of}
 use Rattle.asm_formats.specs.Status.{Status}
 use Rattle.asm_formats.specs.Items.{Item, FileHead}
@@ -86,8 +86,8 @@ module _ (r : Status) (items : List Item) (g h : Group) (w : RewritesFile g h) (
     extents = λ f i copy new found has lt.
         let k = is_of f new found in
         d.extents f i copy k.old k.is
-        (subst (λ (t : Stripe). IsTrue (has_extent t g.shape.au g.shape.step (length k.old.cells) i)) (sym k.stripe)
-        (subst (λ (n : ℕ). IsTrue (has_extent new.stripe g.shape.au g.shape.step n i)) (sym k.len) has))
+        (subst (λ (t : Stripe). IsTrue (has_extent_by_size t g.shape.au g.shape.step (length k.old.cells) i)) (sym k.stripe)
+        (subst (λ (n : ℕ). IsTrue (has_extent_by_size new.stripe g.shape.au g.shape.step n i)) (sym k.len) has))
         (omega (arith, lt, k.copies));
     owned = λ f c has. subst (λ (b : Bool). IsTrue (b || is_pending f (pending_of items))) (sym (still_there f)) (d.owned f c has);
     disks = d.disks;

@@ -24,7 +24,7 @@ use Rattle.asm_images.specs.Describing.{extent_size}
 use Rattle.asm_images.specs.Stands.{Standing}
 use Rattle.asm_images.specs.Sound.{SoundBy}
 use Rattle.asm_images.specs.Steps.{IsOpen, KeepsByte}
-use Rattle.asm_images.specs.Spans.{Span, is_inside, freed, FitsIn}
+use Rattle.asm_images.specs.Spans.{Span, is_inside_span, freed, FitsIn}
 use Rattle.asm_images.specs.WriteLaws.{AreApart}
 use Rattle.asm_images.specs.Bridge.{disk_bytes, disks_in}
 use Rattle.asm_images.specs.Kept.{Kept, header_in, IsHeld}
@@ -71,7 +71,7 @@ meets au u n v m inner from len (inl le) fits lt low high = omega (arith, mul-le
 meets au u n v m inner from len (inr le) fits lt low high = omega (arith, mul-le-mul_right au le, add-mul v m au, lt, low)
 
 -- an inner byte between the span's ends is in the span
-in_span : (x : Span) (f i inner : ℕ) → f ≡ x.file → i ≡ x.index → x.from ≤ inner → inner < x.from + x.len → is_inside x f i inner ≡ true
+in_span : (x : Span) (f i inner : ℕ) → f ≡ x.file → i ≡ x.index → x.from ≤ inner → inner < x.from + x.len → is_inside_span x f i inner ≡ true
 in_span x f i inner file index low high =
     and_from _ _ (and_from _ _ (and_from _ _ (eq-eqb f x.file file) (eq-eqb i x.index index)) (le-leb x.from inner low)) (lt-ltb inner (x.from + x.len) high)
 
@@ -131,7 +131,7 @@ module _ (n id : ℕ) (g : Group) (kept : Kept) (x : Span) (homes : Homes) (mark
   same_members slots = ap (λ (l : List Metadata). members id l) (stays slots)
 
   piece_bytes : (slots : ℕ) (r : Status) (items : List Item) (f i copy inner : ℕ) (h : Home) (m : Member) → IsOpen id (disks_in slots old) (Some kept.completed) kept.begun r items
-      → IsAmong (all_members id (disks_in slots old)) m → IsCurrent r items f i copy h m → inner < extent_size m.header.shape i → is_inside x f i inner ≡ false
+      → IsAmong (all_members id (disks_in slots old)) m → IsCurrent r items f i copy h m → inner < extent_size m.header.shape i → is_inside_span x f i inner ≡ false
       → KeepsByte (disks_in slots old) (disks_in slots new) m h inner
   piece_bytes slots r items f i copy inner h m is_open among current lt out =
       let tells = told id (disks_in slots old) g (Some kept.completed) kept.begun (is.sound slots) r items is_open in

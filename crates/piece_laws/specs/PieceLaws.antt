@@ -7,7 +7,7 @@ use Rattle.asm_formats.specs.Among.{IsAmong}
 use Rattle.asm_formats.specs.Status.{Status}
 use Rattle.asm_formats.specs.Items.{Item, Homes}
 use Rattle.asm_placement.specs.Tables.{home_of, is_stale}
-use Rattle.asm_images.specs.Members.{Image, Member}
+use Rattle.asm_images.specs.Members.{ImageBytes, Member}
 use Rattle.asm_images.specs.Stands.{HoldsBytes}
 use Rattle.asm_images.specs.Spans.{Span, FitsIn, freed, settled}
 use Rattle.asm_images.specs.Kept.{Kept, IsHeld}
@@ -44,5 +44,5 @@ FreedIsHeld =
 -- Where the same homes have more stale marks, the disks hold the group still.
 abbrev pub FewerCurrentHold : Type 0
 FewerCurrentHold =
-    (image : Image) (ms : List Member) (r : Status) (items more : List Item) (g : Group) → ((f i copy : ℕ) → home_of more f i copy ≡ home_of items f i copy)
+    (image : ImageBytes) (ms : List Member) (r : Status) (items more : List Item) (g : Group) → ((f i copy : ℕ) → home_of more f i copy ≡ home_of items f i copy)
     → ((f i copy : ℕ) → is_stale more f i copy ≡ false → is_stale items f i copy ≡ false) → HoldsBytes image ms r items g → HoldsBytes image ms r more g

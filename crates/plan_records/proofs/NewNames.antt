@@ -138,16 +138,16 @@ same_name_is b xs ys test = one_answer b (is_same_name xs ys) test (λ e. lower 
 
 -- ---- the bytes of the system name
 
-digit_is : (c : ℕ) → grammar.is_digit c ≡ true → is_part_byte c ≡ true
+digit_is : (c : ℕ) → grammar.is_digit_byte c ≡ true → is_part_byte c ≡ true
 digit_is c e = rw e (rw (right (is_letter c)) refl) where
   right : (b : Bool) → (b || true) ≡ true
   right true = refl
   right false = refl
 
-all_digits : (cs : Bytes) → list_all grammar.is_digit cs ≡ true → list_all is_part_byte cs ≡ true
+all_digits : (cs : Bytes) → list_all grammar.is_digit_byte cs ≡ true → list_all is_part_byte cs ≡ true
 all_digits [] e = refl
 all_digits (c ∷ cs) e =
-    let p = and_parts (grammar.is_digit c) (list_all grammar.is_digit cs) e in
+    let p = and_parts (grammar.is_digit_byte c) (list_all grammar.is_digit_byte cs) e in
     and_from (is_part_byte c) (list_all is_part_byte cs) (digit_is c p.0) (all_digits cs p.1)
 
 -- a dot and a number

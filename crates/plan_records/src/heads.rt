@@ -2,7 +2,7 @@
 
 ghost use Rattle.std.specs.Prelude.{◌≡◌, ◌<◌, ◌^◌, ◌∷◌, [], IfOk, if◌then◌else◌, ◌==◌};
 ghost use Rattle.catalog_units.specs.catalog_tables.Faults.{file_key, node_key};
-ghost use Rattle.plan_records.specs.Heads.{with_alias, with_size};
+ghost use Rattle.plan_records.specs.Heads.{head_with_alias, with_size};
 
 use asm_base::{Key, List, NoMemory};
 use catalog_units::{FileHead, file_key, node_key};
@@ -25,7 +25,7 @@ pub fn with_size(head: &FileHead, size: u64) -> Result<FileHead, NoMemory>
 
 /// The head with this alias node, or with none by 0.
 pub fn with_alias(head: &FileHead, alias: u32) -> Result<FileHead, NoMemory>
-    ensures head { IfOk result (λ h. h ≡ with_alias head.now alias) }
+    ensures head { IfOk result (λ h. h ≡ head_with_alias head.now alias) }
     ensures small { alias < 2 ^ 32 }
 {
     Ok(FileHead {

@@ -2,7 +2,7 @@
 use Rattle.std.proofs.Common.{◌≡◌, List, sym, ◌∙◌}
 use Rattle.asm_formats.specs.Status.{Status}
 use Rattle.asm_formats.specs.Items.{Item}
-use Rattle.asm_placement.specs.Work.{AreRecords}
+use Rattle.asm_placement.specs.Work.{AreGroupRecords}
 use Rattle.asm_placement.proofs.Falling.{work_falls}
 use Rattle.catalog_laws.specs.catalog_tables.Faults.{IsCatalog}
 use Rattle.catalog_laws.specs.catalog_tables.Items.{AreItemsOf}
@@ -16,7 +16,7 @@ use Rattle.rebalance.specs.Searching.{IsStatusOf, next_in}
 use Rattle.rebalance.proofs.Searching.{next_is}
 
 -- the items of a catalog are records of a group
-pub records_are : (c : Catalogued) (r : Status) (items : List Item) → IsCatalog c → IsStatusOf c r → AreItemsOf c.tables items → AreRecords r items
+pub records_are : (c : Catalogued) (r : Status) (items : List Item) → IsCatalog c → IsStatusOf c r → AreItemsOf c.tables items → AreGroupRecords r items
 records_are c r items cat of is =
     let say = items_say c.tables items cat.rules.tables is in
     record { status = of.status; allowed = say.allowed; keys = say.keys; regular = copies_are_regular r.entries c.tables items cat.rules.tables is of.regular }

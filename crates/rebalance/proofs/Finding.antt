@@ -5,7 +5,7 @@ use Rattle.std.specs.Option.{is_some, option_and_then, option_map, option_or}
 use Rattle.asm_group.specs.Shape.{Shape}
 use Rattle.asm_formats.specs.Status.{Entry}
 use Rattle.asm_formats.specs.Items.{FileHead, Homes}
-use Rattle.asm_placement.specs.Rebalancing.{Next, when}
+use Rattle.asm_placement.specs.Rebalancing.{Next, option_when}
 use Rattle.catalog_laws.specs.extent_map.Extents.{Chunked, has_home}
 use Rattle.asm_base.specs.Chunks.{Chunk}
 use Rattle.catalog_laws.specs.file_directory.Files.{head_at}
@@ -16,9 +16,9 @@ use Rattle.rebalance.specs.declared.search.Asked.TheVariants as asked
 use Rattle.rebalance.specs.declared.search.Found.{Found}
 use Rattle.rebalance.specs.declared.stages.Stage.{Stage}
 use Rattle.rebalance.specs.Due.{any_of_chunk, any_of_extents, any_with, first_due_of, is_due, is_due_in, passes_there}
-use Rattle.rebalance.specs.Finding.{found_from, found_in, found_of_chunk, found_of_chunks, found_of_extents}
+use Rattle.rebalance.specs.Finding.{found_from, found_in_chunk, found_of_chunk, found_of_chunks, found_of_extents}
 use Rattle.rebalance.specs.Moves.{next_meant}
-use Rattle.rebalance.specs.Searching.{extent_of, extent_says, first_of_chunk, first_of_chunks, first_of_extents, says_of, with_copies}
+use Rattle.rebalance.specs.Searching.{extent_in_tables, extent_says, first_of_chunk, first_of_chunks, first_of_extents, says_of, with_copies}
 use Rattle.rebalance.specs.Sums.{Sums}
 
 -- ---- what is due
@@ -28,7 +28,7 @@ module _ (test : Extent → Bool) (s : Shape) (t : Tables) where
   row_due f n i [] = refl
   row_due f n i (hs ∷ more) = by (passes_there test s t f n i hs) (row_due f n (suc i) more) where
     by : (b : Bool) → any_of_extents test s t f n (suc i) more ≡ is_some (found_of_extents test s t f n (suc i) more)
-        → (b || any_of_extents test s t f n (suc i) more) ≡ is_some (option_or (cond b (Some (extent_of s t f n i hs)) None) (found_of_extents test s t f n (suc i) more))
+        → (b || any_of_extents test s t f n (suc i) more) ≡ is_some (option_or (cond b (Some (extent_in_tables s t f n i hs)) None) (found_of_extents test s t f n (suc i) more))
     by true rest = refl
     by false rest = rest
 
@@ -63,9 +63,9 @@ module _ (says : Extent → Option Next) (s : Shape) (t : Tables) where
 
   row_says : (f n i : ℕ) (xs : List Homes) → Says (first_of_extents says s t f n i xs) (found_of_extents test s t f n i xs)
   row_says f n i [] = refl
-  row_says f n i (hs ∷ more) = by (has_home hs && nat_lt i (2 ^ 32)) (says (extent_of s t f n i hs)) refl (row_says f n (suc i) more) where
-    by : (b : Bool) (o : Option Next) → says (extent_of s t f n i hs) ≡ o → Says (first_of_extents says s t f n (suc i) more) (found_of_extents test s t f n (suc i) more)
-        → Says (option_or (when b o) (first_of_extents says s t f n (suc i) more)) (option_or (cond (b && is_some o) (Some (extent_of s t f n i hs)) None) (found_of_extents test s t f n (suc i) more))
+  row_says f n i (hs ∷ more) = by (has_home hs && nat_lt i (2 ^ 32)) (says (extent_in_tables s t f n i hs)) refl (row_says f n (suc i) more) where
+    by : (b : Bool) (o : Option Next) → says (extent_in_tables s t f n i hs) ≡ o → Says (first_of_extents says s t f n (suc i) more) (found_of_extents test s t f n (suc i) more)
+        → Says (option_or (option_when b o) (first_of_extents says s t f n (suc i) more)) (option_or (cond (b && is_some o) (Some (extent_in_tables s t f n i hs)) None) (found_of_extents test s t f n (suc i) more))
     by false o is rest = rest
     by true None is rest = rest
     by true (Some next) is rest = (is, refl)
@@ -94,7 +94,7 @@ said_some (Some next) o is = ap is_some is
 -- ---- in a group
 
 module _ (at : Stage) (es : List Entry) (c : Catalogued) (t : Sums) where
-  pub due_in_found : (x : Chunked) → is_due_in at es c t x ≡ is_some (found_in (asked.Due at) es c t x)
+  pub due_in_found : (x : Chunked) → is_due_in at es c t x ≡ is_some (found_in_chunk (asked.Due at) es c t x)
   due_in_found x = chunk_due (is_due at es c.units t) c.shape c.tables x
 
   due_is : (xs : List Chunked) → first_due_of at es c t xs ≡ option_map (λ (f : Found). f.at) (found_from (asked.Due at) es c t xs)

@@ -14,8 +14,8 @@ use Rattle.asm_base.specs.Records.{Ascend}
 use Rattle.asm_placement.specs.Layout.{units_of}
 use Rattle.asm_placement.specs.Moves.{without_bit}
 use Rattle.asm_placement.proofs.MovedCopies.{in_chunk}
-use Rattle.catalog_laws.specs.extent_map.Extents.{Chunked, absent, chunk_at, chunks_from, has_home, item_of, with_chunk, with_extent, with_homes}
-use Rattle.asm_base.specs.Chunks.{Chunk, chunk_cmp, is_before}
+use Rattle.catalog_laws.specs.extent_map.Extents.{Chunked, absent_homes, chunk_at, chunks_from, has_home, item_of_chunk, with_chunk, with_extent, with_homes}
+use Rattle.asm_base.specs.Chunks.{Chunk, chunk_cmp, is_chunk_before}
 use Rattle.catalog_laws.proofs.extent_map.Laws.{chunk_total, same_chunk}
 use Rattle.catalog_laws.proofs.extent_map.Lookups.{put_other, set_other}
 use Rattle.catalog_laws.specs.staleness_directory.Marks.{Marked, marks_at}
@@ -27,10 +27,10 @@ use Rattle.extent_copies.specs.declared.extent.Extent.{Extent}
 use Rattle.rebalance.specs.declared.stages.Stage.{Stage}
 use Rattle.rebalance.specs.declared.stages.Stage.TheVariants as stage
 use Rattle.rebalance.specs.Sums.{Sums, sums_at}
-use Rattle.rebalance.specs.Searching.{extent_of}
+use Rattle.rebalance.specs.Searching.{extent_in_tables}
 use Rattle.rebalance.specs.Due.{any_of_chunk, any_of_extents, any_with, is_due, is_due_in, passes_there}
 use Rattle.rebalance.proofs.Searching.{chunk_parts}
-use Rattle.rebalance.specs.Cursors.{AreClear, IsClearBefore, IsCursor, IsFollowed, IsSameBut, MarksChangeOne, MovesChangeOne, SearchPlaces, copies_at, followed, is_passed, passes_at, passes_found, place_after, start}
+use Rattle.rebalance.specs.Cursors.{AreClear, IsClearBefore, IsCursor, IsFollowed, IsSameBut, MarksChangeOne, MovesChangeOne, SearchPlaces, copy_count_of_file, followed, is_passed, passes_at, passes_found, place_after, search_start}
 
 -- ---- the order of chunks
 
@@ -39,7 +39,7 @@ less_is Less e = refl
 less_is Equal e = absurd cc
 less_is Greater e = absurd cc
 
-before_trans : (a b c : Chunk) → is_before a b ≡ true → is_before b c ≡ true → is_before a c ≡ true
+before_trans : (a b c : Chunk) → is_chunk_before a b ≡ true → is_chunk_before b c ≡ true → is_chunk_before a c ≡ true
 before_trans a b c e f = ap is_lt (chunk_total.trans a b c (less_is (chunk_cmp a b) e) (less_is (chunk_cmp b c) f))
 
 equal_is : (o : Ordering) → is_eq o ≡ true → o ≡ Equal
@@ -47,7 +47,7 @@ equal_is Less e = absurd cc
 equal_is Equal e = refl
 equal_is Greater e = absurd cc
 
-not_before : (p : Chunk) → is_before p p ≡ true → ⊥
+not_before : (p : Chunk) → is_chunk_before p p ≡ true → ⊥
 not_before p lt = itself (chunk_cmp p p) (chunk_total.antisymm p p) lt where
   itself : (o : Ordering) → o ≡ ordering_reverse o → is_lt o ≡ true → ⊥
   itself Less e lt = absurd cc
@@ -55,7 +55,7 @@ not_before p lt = itself (chunk_cmp p p) (chunk_total.antisymm p p) lt where
   itself Greater e lt = absurd cc
 
 -- what comes before a passed chunk is passed
-passed_on : (place : Option Chunk) (at p : Chunk) → is_passed place at ≡ true → is_before p at ≡ true → is_passed place p ≡ true
+passed_on : (place : Option Chunk) (at p : Chunk) → is_passed place at ≡ true → is_chunk_before p at ≡ true → is_passed place p ≡ true
 passed_on None at p e f = refl
 passed_on (Some first) at p e f = before_trans p at first f e
 
@@ -70,21 +70,21 @@ module _ (c d : Catalogued) (f n : ℕ) (q : ℕ) (before after : Extent → Boo
   abbrev extent_with : ℕ → Homes → ℕ → Extent
   extent_with i hs marks = record { id = record { file = f; index = i }; homes = hs; marks = marks; copies = n; units = units_of d.shape.step i }
 
-  extent_same : (i : ℕ) (hs : Homes) → i / 256 ≡ q → extent_of d.shape d.tables f n i hs ≡ extent_of c.shape c.tables f n i hs
+  extent_same : (i : ℕ) (hs : Homes) → i / 256 ≡ q → extent_in_tables d.shape d.tables f n i hs ≡ extent_in_tables c.shape c.tables f n i hs
   extent_same i hs chunk =
       ap (extent_with i hs) (marks_same i chunk)
-      ∙ ap (λ (s : Shape). extent_of s c.tables f n i hs) shape
+      ∙ ap (λ (s : Shape). extent_in_tables s c.tables f n i hs) shape
 
   row_same : (i : ℕ) (xs : List Homes) → q * 256 ≤ i → i + length xs ≤ q * 256 + 256 → any_of_extents after d.shape d.tables f n i xs ≡ any_of_extents before c.shape c.tables f n i xs
   row_same i [] low high = refl
   row_same i (hs ∷ more) low high =
       let chunk : i / 256 ≡ q = in_chunk q i low (omega (arith, high)) in
-      let test : after (extent_of d.shape d.tables f n i hs) ≡ before (extent_of c.shape c.tables f n i hs) = same (extent_of d.shape d.tables f n i hs) ∙ ap before (extent_same i hs chunk) in
+      let test : after (extent_in_tables d.shape d.tables f n i hs) ≡ before (extent_in_tables c.shape c.tables f n i hs) = same (extent_in_tables d.shape d.tables f n i hs) ∙ ap before (extent_same i hs chunk) in
       let rest = row_same (suc i) more (omega (arith, low)) (omega (arith, high)) in
       ap (λ (b : Bool). ((has_home hs && nat_lt i (2 ^ 32)) && b) || any_of_extents after d.shape d.tables f n (suc i) more) test
       ∙ ap (λ (b : Bool). passes_there before c.shape c.tables f n i hs || b) rest
 
-module _ (c d : Catalogued) (p : Chunk) (homes : List Homes) (shape : d.shape ≡ c.shape) (marks : marks_at d.tables.stale p ≡ marks_at c.tables.stale p) (copies : copies_at d.tables p.0 ≡ copies_at c.tables p.0)
+module _ (c d : Catalogued) (p : Chunk) (homes : List Homes) (shape : d.shape ≡ c.shape) (marks : marks_at d.tables.stale p ≡ marks_at c.tables.stale p) (copies : copy_count_of_file d.tables p.0 ≡ copy_count_of_file c.tables p.0)
     (before after : Extent → Bool) (same : (x : Extent) → after x ≡ before x) (size : length homes ≡ 256) where
   with_same : (o : Option ℕ) → any_with (λ n. any_of_extents after d.shape d.tables p.0 n (p.1 * 256) homes) o ≡ any_with (λ n. any_of_extents before c.shape c.tables p.0 n (p.1 * 256) homes) o
   with_same None = refl
@@ -92,7 +92,7 @@ module _ (c d : Catalogued) (p : Chunk) (homes : List Homes) (shape : d.shape �
 
   chunk_same : any_of_chunk after d.shape d.tables (p, homes) ≡ any_of_chunk before c.shape c.tables (p, homes)
   chunk_same =
-      with_same (copies_at d.tables p.0)
+      with_same (copy_count_of_file d.tables p.0)
       ∙ ap (any_with (λ n. any_of_extents before c.shape c.tables p.0 n (p.1 * 256) homes)) copies
 
 -- ---- one place
@@ -117,7 +117,7 @@ clear_after : (g : Stage) (es : List Entry) (c d : Catalogued) (t u : Sums) (at 
     → IsClearBefore g es c t place → IsClearBefore g es d u (place_after (is_due_in g es d u) d.tables.extents at place)
 clear_after g es c d t u at place tables same shape is clear p homes found passed = by (is_at (chunk_cmp p) at) refl where
   size : length homes ≡ 256
-  size = (chunk_parts p.0 p.1 homes (each_of (λ (y : Chunked). is_item (item_of y) ≡ true) d.tables.extents (p, homes) tables.extents.0.1 (found_is chunk_cmp chunk_total chunks_exact p d.tables.extents homes found))).size
+  size = (chunk_parts p.0 p.1 homes (each_of (λ (y : Chunked). is_item (item_of_chunk y) ≡ true) d.tables.extents (p, homes) tables.extents.0.1 (found_is chunk_cmp chunk_total chunks_exact p d.tables.extents homes found))).size
 
   by : (b : Bool) → is_at (chunk_cmp p) at ≡ b → is_due_in g es d u (p, homes) ≡ false
   by true here =
@@ -131,7 +131,7 @@ clear_after g es c d t u at place tables same shape is clear p homes found passe
 
 -- ---- the first chunk
 
-none_below : (p : Chunk) → is_before p (0, 0) ≡ true → ⊥
+none_below : (p : Chunk) → is_chunk_before p (0, 0) ≡ true → ⊥
 none_below p e = by (nat_cmp p.0 0) (nat_cmp p.1 0) (λ is. never p.0 is) (λ is. never p.1 is) e where
   never : (n : ℕ) → nat_cmp n 0 ≡ Less → ⊥
   never n is = grind (arith, is)
@@ -146,7 +146,7 @@ none_below p e = by (nat_cmp p.0 0) (nat_cmp p.1 0) (λ is. never p.0 is) (λ is
 pub clear_start : (g : Stage) (es : List Entry) (c : Catalogued) (t : Sums) → IsClearBefore g es c t (Some (0, 0))
 clear_start g es c t p homes found passed = absurd (none_below p passed)
 
-pub start_is : (c : Catalogued) (r : Status) → IsCursor c r start
+pub start_is : (c : Catalogued) (r : Status) → IsCursor c r search_start
 start_is c r = record {
   recopy = clear_start stage.Recopy r.entries c (sums_at c.units r.entries);
   fill = clear_start stage.Fill r.entries c (sums_at c.units r.entries);
@@ -175,7 +175,7 @@ abbrev first_passes : (Chunked → Bool) → Chunk → List Chunked → Bool
 first_passes due at [] = false
 first_passes due at (x ∷ xs) = is_at (chunk_cmp at) x.0 && due x
 
-first_is : (due : Chunked → Bool) (at : Chunk) (xs : List Chunked) → Ascend is_before xs → first_passes due at (chunks_from xs at) ≡ passes_at due xs at
+first_is : (due : Chunked → Bool) (at : Chunk) (xs : List Chunked) → Ascend is_chunk_before xs → first_passes due at (chunks_from xs at) ≡ passes_at due xs at
 first_is due at [] up = refl
 first_is due at (x ∷ xs) up = by (chunk_cmp at x.0) refl (first_is due at xs (tail_up chunk_cmp chunk_total chunks_exact x xs up))
   where
@@ -192,10 +192,10 @@ first_is due at (x ∷ xs) up = by (chunk_cmp at x.0) refl (first_is due at xs (
     by Equal e rest = rw (e, e) (ap (λ (k : Chunk). due (k, x.1)) (sym (chunks_exact at x.0 e)))
     by Greater e rest = rw e rest
 
-pub due_none : (due : Chunked → Bool) (at : Chunk) (xs left : List Chunked) → Ascend is_before xs → left ≡ chunks_from xs at → left ≡ [] → false ≡ passes_at due xs at
+pub due_none : (due : Chunked → Bool) (at : Chunk) (xs left : List Chunked) → Ascend is_chunk_before xs → left ≡ chunks_from xs at → left ≡ [] → false ≡ passes_at due xs at
 due_none due at xs left up is none = ap (first_passes due at) (sym none ∙ is) ∙ first_is due at xs up
 
-pub due_some : (due : Chunked → Bool) (at : Chunk) (xs left : List Chunked) (x : Chunked) (more : List Chunked) → Ascend is_before xs → left ≡ chunks_from xs at → left ≡ x ∷ more → (is_at (chunk_cmp at) x.0 && due x) ≡ passes_at due xs at
+pub due_some : (due : Chunked → Bool) (at : Chunk) (xs left : List Chunked) (x : Chunked) (more : List Chunked) → Ascend is_chunk_before xs → left ≡ chunks_from xs at → left ≡ x ∷ more → (is_at (chunk_cmp at) x.0 && due x) ≡ passes_at due xs at
 due_some due at xs left x more up is some = ap (first_passes due at) (sym some ∙ is) ∙ first_is due at xs up
 
 -- ---- the tables that plans lead to
@@ -204,7 +204,7 @@ chunk_stays : (t : List Chunked) (f i : ℕ) (hs : Homes) (p : Chunk) → is_at 
 chunk_stays t f i hs p miss =
     let k : Chunk = (f, i / 256) in
     let there = slice_set (unwrap_or (chunk_at t k) []) (i % 256) hs in
-    let new = slice_set (replicate 256 absent) (i % 256) hs in
+    let new = slice_set (replicate 256 absent_homes) (i % 256) hs in
     cond_both (is_some (chunk_at t k)) (with_homes t k (i % 256) hs) (with_chunk t k new) (λ (x : List Chunked). chunk_at x p ≡ chunk_at t p)
     (λ yes. set_other chunk_cmp same_chunk k there p miss t)
     (λ no. put_other chunk_cmp same_chunk k new p miss t)

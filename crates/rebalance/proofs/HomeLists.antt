@@ -5,7 +5,7 @@ use Rattle.std.specs.Option.{is_some, option_to_list}
 use Rattle.asm_formats.specs.Status.{Entry}
 use Rattle.asm_formats.specs.Items.{Home, Homes}
 use Rattle.asm_placement.specs.Choices.{staying_disk}
-use Rattle.partnership.specs.UnitsOf.{held, kept, kept_from}
+use Rattle.partnership.specs.UnitsOf.{held, kept, kept_homes_from}
 use Rattle.rebalance.specs.Extents.{kept_home}
 
 held_three : (a b c : Option Home) → option_to_list a ++ option_to_list b ++ option_to_list c ≡ held (a ∷ b ∷ c ∷ [])
@@ -22,15 +22,15 @@ pub held_is : (a b c : Option Home) (list : List Home) (homes : Homes) → a ∷
 held_is a b c list homes is made = made ∙ held_three a b c ∙ ap held is
 
 -- one home more in front
-kept_one : (es : List Entry) (replaced copy : ℕ) (h : Option Home) (hs : Homes) → kept_from es replaced copy (h ∷ hs) ≡ option_to_list (kept_home es replaced copy h) ++ kept_from es replaced (suc copy) hs
+kept_one : (es : List Entry) (replaced copy : ℕ) (h : Option Home) (hs : Homes) → kept_homes_from es replaced copy (h ∷ hs) ≡ option_to_list (kept_home es replaced copy h) ++ kept_homes_from es replaced (suc copy) hs
 kept_one es replaced copy None hs = by (not (eqb copy replaced))
   where
-    by : (b : Bool) → kept_from es replaced (suc copy) hs ≡ option_to_list (cond (b && false) None None) ++ kept_from es replaced (suc copy) hs
+    by : (b : Bool) → kept_homes_from es replaced (suc copy) hs ≡ option_to_list (cond (b && false) None None) ++ kept_homes_from es replaced (suc copy) hs
     by true = refl
     by false = refl
 kept_one es replaced copy (Some h) hs = by (eqb copy replaced) (is_some (staying_disk es (Some h)))
   where
-    by : (same stays : Bool) → cond same (kept_from es replaced (suc copy) hs) (cond stays (h ∷ kept_from es replaced (suc copy) hs) (kept_from es replaced (suc copy) hs)) ≡ option_to_list (cond (not same && stays) (Some h) None) ++ kept_from es replaced (suc copy) hs
+    by : (same stays : Bool) → cond same (kept_homes_from es replaced (suc copy) hs) (cond stays (h ∷ kept_homes_from es replaced (suc copy) hs) (kept_homes_from es replaced (suc copy) hs)) ≡ option_to_list (cond (not same && stays) (Some h) None) ++ kept_homes_from es replaced (suc copy) hs
     by true stays = refl
     by false true = refl
     by false false = refl

@@ -8,13 +8,13 @@ use Rattle.std.proofs.lemmas.List.{append-nil}
 use Rattle.std.proofs.lemmas.List.Elements.{filter-append}
 use Rattle.std.proofs.lemmas.Nat.{div-add-mod', mod_below}
 use Rattle.std.proofs.lemmas.Option.{same_Some, none-some}
-use Rattle.asm_formats.specs.Items.{Item, chunk_item, FileHead, Homes, is_item, is_homes, key, is_same_key}
+use Rattle.asm_formats.specs.Items.{Item, chunk_item, FileHead, Homes, is_item, is_homes, item_key, is_same_key}
 use Rattle.asm_placement.specs.Tables.{head_of, homes_in, if_is}
-use Rattle.asm_placement.specs.Copies.{Copy, copies_at, copies_from, file_copies, item_copies, all_copies, has_home, same_extent}
+use Rattle.asm_placement.specs.Copies.{Copy, copies_at, copies_from, file_copies, item_copies, all_copies, has_any_home, same_extent}
 use Rattle.asm_placement.specs.Work.{keys_differ}
 use Rattle.asm_placement.proofs.MovedCopies.{in_chunk}
 use Rattle.extent_copies.specs.declared.extent.Extent.{Extent}
-use Rattle.extent_copies.specs.Extents.{copy_of, copies_of}
+use Rattle.extent_copies.specs.Extents.{copy_of, copies_of_extent}
 use Rattle.rebalance.specs.Extents.{IsInRecords}
 
 abbrev is_its : ℕ → ℕ → Copy → Bool
@@ -34,11 +34,11 @@ none_from : (f i g n k : ℕ) (homes : List Homes) → ((j : ℕ) → k ≤ j �
 none_from f i g n k [] other = refl
 none_from f i g n k (hs ∷ more) other =
     let later : filter (is_its f i) (copies_from g (suc k) n more) ≡ [] = none_from f i g n (suc k) more (λ j low high. other j (omega arith) (omega arith)) in
-    cond_both (has_home hs) (copies_at g k hs 0 n ++ copies_from g (suc k) n more) (copies_from g (suc k) n more) (λ (l : List Copy). filter (is_its f i) l ≡ [])
+    cond_both (has_any_home hs) (copies_at g k hs 0 n ++ copies_from g (suc k) n more) (copies_from g (suc k) n more) (λ (l : List Copy). filter (is_its f i) l ≡ [])
     (λ there. filter-append (is_its f i) (copies_at g k hs 0 n) (copies_from g (suc k) n more) ∙ rw (none_at f i g k hs 0 n (other k (omega arith) (omega arith)), later) refl)
     (λ gone. later)
 
-one_from : (f i n k q : ℕ) (homes : List Homes) → i ≡ k + q → q < length homes → has_home (get_or homes q []) ≡ true → filter (is_its f i) (copies_from f k n homes) ≡ copies_at f i (get_or homes q []) 0 n
+one_from : (f i n k q : ℕ) (homes : List Homes) → i ≡ k + q → q < length homes → has_any_home (get_or homes q []) ≡ true → filter (is_its f i) (copies_from f k n homes) ≡ copies_at f i (get_or homes q []) 0 n
 one_from f i n k q [] at less there = absurd (omega arith)
 one_from f i n k zero (hs ∷ more) at less there =
     let here : i ≡ k = omega arith in
@@ -47,7 +47,7 @@ one_from f i n k zero (hs ∷ more) at less there =
     rw there (filter-append (is_its f i) (copies_at f k hs 0 n) (copies_from f (suc k) n more) ∙ rw (own, rest) (append-nil (copies_at f i hs 0 n)))
 one_from f i n k (suc q) (hs ∷ more) at less there =
     let later : filter (is_its f i) (copies_from f (suc k) n more) ≡ copies_at f i (get_or more q []) 0 n = one_from f i n (suc k) q more (omega arith) (omega arith) there in
-    cond_both (has_home hs) (copies_at f k hs 0 n ++ copies_from f (suc k) n more) (copies_from f (suc k) n more) (λ (l : List Copy). filter (is_its f i) l ≡ copies_at f i (get_or more q []) 0 n)
+    cond_both (has_any_home hs) (copies_at f k hs 0 n ++ copies_from f (suc k) n more) (copies_from f (suc k) n more) (λ (l : List Copy). filter (is_its f i) l ≡ copies_at f i (get_or more q []) 0 n)
     (λ first. filter-append (is_its f i) (copies_at f k hs 0 n) (copies_from f (suc k) n more) ∙ rw (none_at f i f k hs 0 n (and_right (eqb f f) (eqb i k) (ne_eqb i k (λ e. omega arith)))) later)
     (λ gone. later)
 
@@ -80,7 +80,7 @@ none_in look f i g c homes ok other = by (look g)
     by None = refl
     by (Some head) = none_from f i g head.copies (c * 256) homes (λ j low high. apart f i g c j other low (omega (arith, chunk_size g c homes ok, high)))
 
-other_key : (f i g c : ℕ) (homes bs : List Homes) → not (is_same_key (key (chunk_item f (i / 256) bs)) (key (chunk_item g c homes))) ≡ true → is_its_chunk f i g c ≡ false
+other_key : (f i g c : ℕ) (homes bs : List Homes) → not (is_same_key (item_key (chunk_item f (i / 256) bs)) (item_key (chunk_item g c homes))) ≡ true → is_its_chunk f i g c ≡ false
 other_key f i g c homes bs differ = false_from_ne_true (is_its_chunk f i g c) (λ same.
     let parts = and_parts (eqb g f) (eqb c (i / 256)) same in
     let file : f ≡ g = sym (eqb-true g f parts.0) in
@@ -88,19 +88,19 @@ other_key f i g c homes bs differ = false_from_ne_true (is_its_chunk f i g c) (�
     both_ways (eqb f g && eqb (i / 256 + 1) (c + 1)) (not-true (eqb f g && eqb (i / 256 + 1) (c + 1)) differ) (and_from (eqb f g) (eqb (i / 256 + 1) (c + 1)) (eq-eqb f g file) (eq-eqb (i / 256 + 1) (c + 1) chunk)))
 
 -- items of other keys have none of them
-none_rest : (look : ℕ → Option FileHead) (f i : ℕ) (bs : List Homes) (items : List Item) → list_all is_item items ≡ true → list_all (λ j. not (is_same_key (key (chunk_item f (i / 256) bs)) (key j))) items ≡ true
+none_rest : (look : ℕ → Option FileHead) (f i : ℕ) (bs : List Homes) (items : List Item) → list_all is_item items ≡ true → list_all (λ j. not (is_same_key (item_key (chunk_item f (i / 256) bs)) (item_key j))) items ≡ true
     → filter (is_its f i) (flat_map (item_copies look) items) ≡ []
 none_rest look f i bs [] ok differ = refl
 none_rest look f i bs (chunk_item g c homes ∷ items) ok differ =
     let a = and_parts (is_item (chunk_item g c homes)) (list_all is_item items) ok in
-    let d = and_parts (not (is_same_key (key (chunk_item f (i / 256) bs)) (key (chunk_item g c homes)))) (list_all (λ j. not (is_same_key (key (chunk_item f (i / 256) bs)) (key j))) items) differ in
+    let d = and_parts (not (is_same_key (item_key (chunk_item f (i / 256) bs)) (item_key (chunk_item g c homes)))) (list_all (λ j. not (is_same_key (item_key (chunk_item f (i / 256) bs)) (item_key j))) items) differ in
     filter-append (is_its f i) (file_copies g (c * 256) homes (look g)) (flat_map (item_copies look) items)
     ∙ rw (none_in look f i g c homes a.0 (other_key f i g c homes bs d.0), none_rest look f i bs items a.1 d.1) refl
 none_rest look f i bs (item ∷ items) ok differ =
     none_rest look f i bs items (and_parts (is_item item) (list_all is_item items) ok).1
-    (and_parts (not (is_same_key (key (chunk_item f (i / 256) bs)) (key item))) (list_all (λ j. not (is_same_key (key (chunk_item f (i / 256) bs)) (key j))) items) differ).1
+    (and_parts (not (is_same_key (item_key (chunk_item f (i / 256) bs)) (item_key item))) (list_all (λ j. not (is_same_key (item_key (chunk_item f (i / 256) bs)) (item_key j))) items) differ).1
 
-own_chunk : (look : ℕ → Option FileHead) (f i g c : ℕ) (head : FileHead) (homes : List Homes) → is_item (chunk_item g c homes) ≡ true → g ≡ f → c ≡ i / 256 → look f ≡ Some head → has_home (get_or homes (i % 256) []) ≡ true
+own_chunk : (look : ℕ → Option FileHead) (f i g c : ℕ) (head : FileHead) (homes : List Homes) → is_item (chunk_item g c homes) ≡ true → g ≡ f → c ≡ i / 256 → look f ≡ Some head → has_any_home (get_or homes (i % 256) []) ≡ true
     → filter (is_its f i) (file_copies g (c * 256) homes (look g)) ≡ copies_at f i (get_or homes (i % 256) []) 0 head.copies
 own_chunk look f i g c head homes ok file chunk has there =
     let found : look g ≡ Some head = ap look file ∙ has in
@@ -110,17 +110,17 @@ own_chunk look f i g c head homes ok file chunk has there =
     rw found (subst (λ (h : ℕ). filter (is_its f i) (copies_from h (c * 256) head.copies homes) ≡ copies_at f i (get_or homes (i % 256) []) 0 head.copies) (sym file)
     (one_from f i head.copies (c * 256) (i % 256) homes index (omega arith) there))
 
-own : (look : ℕ → Option FileHead) (f i : ℕ) (head : FileHead) (hs : List Homes) (items : List Item) → list_all is_item items ≡ true → keys_differ items ≡ true → look f ≡ Some head → homes_in items f (i / 256) ≡ Some hs → has_home (get_or hs (i % 256) []) ≡ true
+own : (look : ℕ → Option FileHead) (f i : ℕ) (head : FileHead) (hs : List Homes) (items : List Item) → list_all is_item items ≡ true → keys_differ items ≡ true → look f ≡ Some head → homes_in items f (i / 256) ≡ Some hs → has_any_home (get_or hs (i % 256) []) ≡ true
     → filter (is_its f i) (flat_map (item_copies look) items) ≡ copies_at f i (get_or hs (i % 256) []) 0 head.copies
 unfolding homes_in
 own look f i head hs [] ok differ has found there = absurd (none-some hs found)
 own look f i head hs (chunk_item g c homes ∷ items) ok differ has found there =
     let a = and_parts (is_item (chunk_item g c homes)) (list_all is_item items) ok in
-    let d = and_parts (list_all (λ j. not (is_same_key (key (chunk_item g c homes)) (key j))) items) (keys_differ items) differ in
+    let d = and_parts (list_all (λ j. not (is_same_key (item_key (chunk_item g c homes)) (item_key j))) items) (keys_differ items) differ in
     filter-append (is_its f i) (file_copies g (c * 256) homes (look g)) (flat_map (item_copies look) items)
     ∙ by (is_its_chunk f i g c) refl a.0 a.1 d.0 found (λ later. own look f i head hs items a.1 d.1 has later there)
   where
-    by : (b : Bool) → is_its_chunk f i g c ≡ b → is_item (chunk_item g c homes) ≡ true → list_all is_item items ≡ true → list_all (λ j. not (is_same_key (key (chunk_item g c homes)) (key j))) items ≡ true
+    by : (b : Bool) → is_its_chunk f i g c ≡ b → is_item (chunk_item g c homes) ≡ true → list_all is_item items ≡ true → list_all (λ j. not (is_same_key (item_key (chunk_item g c homes)) (item_key j))) items ≡ true
         → option_or (if_is b homes) (homes_in items f (i / 256)) ≡ Some hs
         → (homes_in items f (i / 256) ≡ Some hs → filter (is_its f i) (flat_map (item_copies look) items) ≡ copies_at f i (get_or hs (i % 256) []) 0 head.copies)
         → filter (is_its f i) (file_copies g (c * 256) homes (look g)) ++ filter (is_its f i) (flat_map (item_copies look) items) ≡ copies_at f i (get_or hs (i % 256) []) 0 head.copies
@@ -129,27 +129,27 @@ own look f i head hs (chunk_item g c homes ∷ items) ok differ has found there 
         let parts = and_parts (eqb g f) (eqb c (i / 256)) is in
         let file : g ≡ f = eqb-true g f parts.0 in
         let chunk : c ≡ i / 256 = eqb-true c (i / 256) parts.1 in
-        let there_here : has_home (get_or homes (i % 256) []) ≡ true = subst (λ (l : List Homes). has_home (get_or l (i % 256) []) ≡ true) (sym same) there in
-        let keys : list_all (λ j. not (is_same_key (key (chunk_item f (i / 256) homes)) (key j))) items ≡ true = subst (λ (h : ℕ). list_all (λ j. not (is_same_key (key (chunk_item h (i / 256) homes)) (key j))) items ≡ true) file
-        (subst (λ (k : ℕ). list_all (λ j. not (is_same_key (key (chunk_item g k homes)) (key j))) items ≡ true) chunk others) in
+        let there_here : has_any_home (get_or homes (i % 256) []) ≡ true = subst (λ (l : List Homes). has_any_home (get_or l (i % 256) []) ≡ true) (sym same) there in
+        let keys : list_all (λ j. not (is_same_key (item_key (chunk_item f (i / 256) homes)) (item_key j))) items ≡ true = subst (λ (h : ℕ). list_all (λ j. not (is_same_key (item_key (chunk_item h (i / 256) homes)) (item_key j))) items ≡ true) file
+        (subst (λ (k : ℕ). list_all (λ j. not (is_same_key (item_key (chunk_item g k homes)) (item_key j))) items ≡ true) chunk others) in
         rw (own_chunk look f i g c head homes one file chunk has there_here, none_rest look f i homes items all keys)
         (append-nil (copies_at f i (get_or homes (i % 256) []) 0 head.copies) ∙ ap (λ (l : List Homes). copies_at f i (get_or l (i % 256) []) 0 head.copies) same)
     by false is one all others at later = rw (none_in look f i g c homes one is) (later at)
 own look f i head hs (item ∷ items) ok differ has found there =
-    own look f i head hs items (and_parts (is_item item) (list_all is_item items) ok).1 (and_parts (list_all (λ j. not (is_same_key (key item) (key j))) items) (keys_differ items) differ).1 has found there
+    own look f i head hs items (and_parts (is_item item) (list_all is_item items) ok).1 (and_parts (list_all (λ j. not (is_same_key (item_key item) (item_key j))) items) (keys_differ items) differ).1 has found there
 
 -- the copies of an extent among all are its own
-pub own_copies : (items : List Item) (x : Extent) → list_all is_item items ≡ true → keys_differ items ≡ true → IsInRecords items x → filter (same_extent (copy_of x 0)) (all_copies items) ≡ copies_of x
+pub own_copies : (items : List Item) (x : Extent) → list_all is_item items ≡ true → keys_differ items ≡ true → IsInRecords items x → filter (same_extent (copy_of x 0)) (all_copies items) ≡ copies_of_extent x
 unfolding all_copies
 own_copies items x ok differ is = by (homes_in items x.id.file (x.id.index / 256)) refl
   where
-    by : (o : Option (List Homes)) → homes_in items x.id.file (x.id.index / 256) ≡ o → filter (same_extent (copy_of x 0)) (flat_map (item_copies (head_of items)) items) ≡ copies_of x
+    by : (o : Option (List Homes)) → homes_in items x.id.file (x.id.index / 256) ≡ o → filter (same_extent (copy_of x 0)) (flat_map (item_copies (head_of items)) items) ≡ copies_of_extent x
     by None none =
         let homes : x.homes ≡ [] = is.homes ∙ ap (λ (p : Option (List Homes)). get_or (unwrap_or p []) (x.id.index % 256) []) none in
-        let gone : has_home [] ≡ true = subst (λ (h : Homes). has_home h ≡ true) homes is.there in
+        let gone : has_any_home [] ≡ true = subst (λ (h : Homes). has_any_home h ≡ true) homes is.there in
         absurd cc
     by (Some hs) found =
         let homes : x.homes ≡ get_or hs (x.id.index % 256) [] = is.homes ∙ ap (λ (p : Option (List Homes)). get_or (unwrap_or p []) (x.id.index % 256) []) found in
-        let there : has_home (get_or hs (x.id.index % 256) []) ≡ true = subst (λ (h : Homes). has_home h ≡ true) homes is.there in
+        let there : has_any_home (get_or hs (x.id.index % 256) []) ≡ true = subst (λ (h : Homes). has_any_home h ≡ true) homes is.there in
         own (head_of items) x.id.file x.id.index is.head hs items ok differ is.has_head found there
         ∙ sym (ap (λ (h : Homes). copies_at x.id.file x.id.index h 0 x.copies) homes ∙ ap (λ (n : ℕ). copies_at x.id.file x.id.index (get_or hs (x.id.index % 256) []) 0 n) is.copies)

@@ -11,10 +11,10 @@ use Rattle.asm_formats.specs.Among.{IsAmong}
 use Rattle.asm_formats.specs.Status.{Entry}
 use Rattle.asm_formats.specs.Items.{FileHead, Homes}
 use Rattle.asm_base.specs.Records.{Ascend}
-use Rattle.asm_placement.specs.Rebalancing.{Next, when}
+use Rattle.asm_placement.specs.Rebalancing.{Next, option_when}
 use Rattle.allocator.specs.UnitMaps.{UnitMap}
 use Rattle.catalog_laws.specs.extent_map.Extents.{Chunked, chunks_from, has_home}
-use Rattle.asm_base.specs.Chunks.{Chunk, chunk_cmp, is_before}
+use Rattle.asm_base.specs.Chunks.{Chunk, chunk_cmp, is_chunk_before}
 use Rattle.catalog_laws.proofs.extent_map.Laws.{chunk_total}
 use Rattle.catalog_laws.specs.file_directory.Files.{head_at}
 use Rattle.catalog_laws.specs.catalog_tables.Tables.{AreTables, Catalogued, Tables}
@@ -25,15 +25,15 @@ use Rattle.rebalance.specs.declared.stages.Stage.{Stage}
 use Rattle.rebalance.specs.Sums.{Sums}
 use Rattle.rebalance.specs.Extents.{any_from, first_from}
 use Rattle.rebalance.specs.Moves.{next_meant}
-use Rattle.rebalance.specs.Stages.{answer_at, is_due_at, said_at}
-use Rattle.rebalance.specs.Searching.{extent_of, extent_says, first_of_chunk, first_of_extents, group_says, said_there, says_of, with_copies}
+use Rattle.rebalance.specs.Stages.{answer_at, is_due_at, copy_says}
+use Rattle.rebalance.specs.Searching.{extent_in_tables, extent_says, first_of_chunk, first_of_extents, group_says, said_there, says_of, with_copies}
 use Rattle.rebalance.specs.Due.{any_of_chunk, any_of_extents, any_with, first_due, first_due_of, is_due, is_due_in, passes_there}
 use Rattle.rebalance.specs.Cursors.{IsClearBefore, is_passed}
 
 -- ---- where nothing is due, nothing is said
 
-quiet_at : (at : Stage) (es : List Entry) (ms : List UnitMap) (t : Sums) (x : Extent) (k : ℕ) → is_due_at at es ms t x k ≡ false → said_at at es ms t x k ≡ None
-quiet_at at es ms t x k e = ap (λ (b : Bool). when b (answer_at at es ms t x k)) e
+quiet_at : (at : Stage) (es : List Entry) (ms : List UnitMap) (t : Sums) (x : Extent) (k : ℕ) → is_due_at at es ms t x k ≡ false → copy_says at es ms t x k ≡ None
+quiet_at at es ms t x k e = ap (λ (b : Bool). option_when b (answer_at at es ms t x k)) e
 
 quiet_from : (test : ℕ → Bool) (says : ℕ → Option Next) → ((j : ℕ) → test j ≡ false → says j ≡ None) → (k n : ℕ) → any_from test k n ≡ false → first_from says k n ≡ None
 quiet_from test says quiet k zero e = refl
@@ -42,10 +42,10 @@ quiet_from test says quiet k (suc n) e =
     rw (quiet k p.0) (quiet_from test says quiet (suc k) n p.1)
 
 quiet_extent : (at : Stage) (es : List Entry) (ms : List UnitMap) (t : Sums) (x : Extent) → is_due at es ms t x ≡ false → extent_says at es ms t x ≡ None
-quiet_extent at es ms t x e = quiet_from (is_due_at at es ms t x) (said_at at es ms t x) (λ j quiet. quiet_at at es ms t x j quiet) 0 x.copies e
+quiet_extent at es ms t x e = quiet_from (is_due_at at es ms t x) (copy_says at es ms t x) (λ j quiet. quiet_at at es ms t x j quiet) 0 x.copies e
 
 module _ (test : Extent → Bool) (says : Extent → Option Next) (quiet : (x : Extent) → test x ≡ false → says x ≡ None) (s : Shape) (t : Tables) where
-  quiet_there : (b : Bool) (x : Extent) → (b && test x) ≡ false → when b (says x) ≡ None
+  quiet_there : (b : Bool) (x : Extent) → (b && test x) ≡ false → option_when b (says x) ≡ None
   quiet_there true x e = quiet x e
   quiet_there false x e = refl
 
@@ -53,7 +53,7 @@ module _ (test : Extent → Bool) (says : Extent → Option Next) (quiet : (x : 
   quiet_row f copies i [] e = refl
   quiet_row f copies i (hs ∷ more) e =
       let p = or_parts (passes_there test s t f copies i hs) (any_of_extents test s t f copies (suc i) more) e in
-      let here : said_there says s t f copies i hs ≡ None = quiet_there (has_home hs && nat_lt i (2 ^ 32)) (extent_of s t f copies i hs) p.0 in
+      let here : said_there says s t f copies i hs ≡ None = quiet_there (has_home hs && nat_lt i (2 ^ 32)) (extent_in_tables s t f copies i hs) p.0 in
       ap (λ (o : Option Next). option_or o (first_of_extents says s t f copies (suc i) more)) here ∙ quiet_row f copies (suc i) more p.1
 
   quiet_with : (f i : ℕ) (xs : List Homes) (o : Option ℕ) → any_with (λ copies. any_of_extents test s t f copies i xs) o ≡ false → with_copies (λ copies. first_of_extents says s t f copies i xs) o ≡ None
@@ -68,12 +68,12 @@ quiet_in at es c t x e = quiet_chunk (is_due at es c.units t) (extent_says at es
 
 -- ---- the chunks from one on
 
-comes_before : (from p : Chunk) → chunk_cmp from p ≡ Greater → is_before p from ≡ true
+comes_before : (from p : Chunk) → chunk_cmp from p ≡ Greater → is_chunk_before p from ≡ true
 comes_before from p e = ap is_lt (chunk_total.antisymm p from ∙ ap ordering_reverse e)
 
 -- chunks that say nothing may be left out in front
 pub says_later : (says : Chunked → Option Next) (first : List Chunked → Option Next) (from : Chunk) → ((x : Chunked) (xs : List Chunked) → first (x ∷ xs) ≡ option_or (says x) (first xs))
-    → (xs : List Chunked) → ((x : Chunked) → IsAmong xs x → is_before x.0 from ≡ true → says x ≡ None) → first xs ≡ first (chunks_from xs from)
+    → (xs : List Chunked) → ((x : Chunked) → IsAmong xs x → is_chunk_before x.0 from ≡ true → says x ≡ None) → first xs ≡ first (chunks_from xs from)
 says_later says first from more [] quiet = refl
 says_later says first from more (x ∷ xs) quiet = by (chunk_cmp from x.0) refl (says_later says first from more xs (λ y h. quiet y (inr h)))
   where
@@ -86,7 +86,7 @@ says_later says first from more (x ∷ xs) quiet = by (chunk_cmp from x.0) refl 
     by Greater e rest = rw e (more x xs ∙ ap (λ (o : Option Next). option_or o (first xs)) (quiet x (inl refl) (comes_before from x.0 e)) ∙ rest)
 
 -- and those in which nothing is due
-pub due_later : (due : Chunked → Bool) (from : Chunk) (xs : List Chunked) → ((x : Chunked) → IsAmong xs x → is_before x.0 from ≡ true → due x ≡ false) → find due xs ≡ find due (chunks_from xs from)
+pub due_later : (due : Chunked → Bool) (from : Chunk) (xs : List Chunked) → ((x : Chunked) → IsAmong xs x → is_chunk_before x.0 from ≡ true → due x ≡ false) → find due xs ≡ find due (chunks_from xs from)
 due_later due from [] quiet = refl
 due_later due from (x ∷ xs) quiet = by (chunk_cmp from x.0) refl (due_later due from xs (λ y h. quiet y (inr h)))
   where
@@ -103,7 +103,7 @@ none_due due [] quiet = refl
 none_due due (x ∷ xs) quiet = rw (quiet x (inl refl)) (none_due due xs (λ y h. quiet y (inr h)))
 
 -- before the first chunk in which something is due nothing is
-first_clear : (due : Chunked → Bool) (xs : List Chunked) (x : Chunked) → Ascend is_before xs → IsAmong xs x → is_passed (option_map (λ (y : Chunked). y.0) (find due xs)) x.0 ≡ true → due x ≡ false
+first_clear : (due : Chunked → Bool) (xs : List Chunked) (x : Chunked) → Ascend is_chunk_before xs → IsAmong xs x → is_passed (option_map (λ (y : Chunked). y.0) (find due xs)) x.0 ≡ true → due x ≡ false
 first_clear due [] x up h passed = absurd h
 first_clear due (y ∷ xs) x up (inl e) passed = subst (λ (z : Chunked). due z ≡ false) (sym e) (by (due y) refl passed)
   where
@@ -112,18 +112,18 @@ first_clear due (y ∷ xs) x up (inl e) passed = subst (λ (z : Chunked). due z 
     itself Equal e lt = absurd cc
     itself Greater e lt = absurd cc
 
-    never : is_before y.0 y.0 ≡ true → ⊥
+    never : is_chunk_before y.0 y.0 ≡ true → ⊥
     never lt = itself (chunk_cmp y.0 y.0) (chunk_total.antisymm y.0 y.0) lt
 
     by : (b : Bool) → due y ≡ b → is_passed (option_map (λ (z : Chunked). z.0) (cond b (Some y) (find due xs))) x.0 ≡ true → due y ≡ false
-    by true is passed = absurd (never (subst (λ (z : Chunked). is_before z.0 y.0 ≡ true) e passed))
+    by true is passed = absurd (never (subst (λ (z : Chunked). is_chunk_before z.0 y.0 ≡ true) e passed))
     by false is passed = is
 first_clear due (y ∷ xs) x up (inr h) passed = by (due y) passed (first_clear due xs x (tail_up chunk_cmp chunk_total chunks_exact y xs up) h)
   where
     behind : chunk_cmp x.0 y.0 ≡ Greater
     behind = chunk_total.antisymm x.0 y.0 ∙ ap ordering_reverse (below chunk_cmp chunk_total chunks_exact y xs x up h)
 
-    after : is_before x.0 y.0 ≡ false
+    after : is_chunk_before x.0 y.0 ≡ false
     after = ap is_lt behind
 
     by : (b : Bool) → is_passed (option_map (λ (z : Chunked). z.0) (cond b (Some y) (find due xs))) x.0 ≡ true → (is_passed (option_map (λ (z : Chunked). z.0) (find due xs)) x.0 ≡ true → due x ≡ false) → due x ≡ false

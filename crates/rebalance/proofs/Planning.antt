@@ -9,13 +9,13 @@ use Rattle.std.proofs.lemmas.Option.{same_Some, none-some}
 use Rattle.asm_group.specs.Shape.{Shape}
 use Rattle.asm_formats.specs.Among.{IsAmong}
 use Rattle.asm_formats.specs.Status.{Entry, Status, entry_of, is_entry}
-use Rattle.asm_formats.specs.Items.{FileHead, Home, Homes, Item, is_homes, is_item, key}
+use Rattle.asm_formats.specs.Items.{FileHead, Home, Homes, Item, is_homes, is_item, item_key}
 use Rattle.asm_formats.proofs.Among.{all_among}
 use Rattle.asm_placement.specs.Choices.{holds_copy, home_on, is_eligible, replacement, replacement_on}
 use Rattle.asm_placement.specs.Copies.{Copy, all_copies, entry_at_home, file_copies, has_other_source, has_source, home, is_marked, is_on, units, wants_fill, wants_shift}
 use Rattle.asm_placement.specs.Modes.{is_online}
 use Rattle.asm_placement.specs.Moves.{items_after, record_after}
-use Rattle.asm_placement.specs.Rebalancing.{Move, Next, above_or_none, balancing, directory, done, fill, first_of, lost, move, new_home, next, next_balancing, next_directory, next_fill, next_lost, next_no_space, next_recopy, next_shift, next_tables, no_space, recopy, shift, tables, when}
+use Rattle.asm_placement.specs.Rebalancing.{Move, Next, above_or_none, balancing, directory, done, fill, first_of, lost_extent, move, new_home, next, next_balancing, next_directory, next_fill, next_lost, next_no_space, next_recopy, next_shift, next_tables, lacks_space, recopy, shift, tables, option_when}
 use Rattle.asm_placement.specs.Space.{has_room, is_above, is_below, lowest_run, tried_first}
 use Rattle.asm_placement.specs.TableDisks.{directory_target, status_target}
 use Rattle.asm_placement.specs.Tables.{is_stale}
@@ -30,7 +30,7 @@ use Rattle.allocator.specs.UnitMaps.{UnitMap, is_free}
 use Rattle.partnership.specs.Candidates.{is_free_from, lowest}
 use Rattle.partnership.specs.UnitsOf.{AreUnits, AreUnitsOf}
 use Rattle.partnership.proofs.Runs.{lowest_of_disk}
-use Rattle.catalog_laws.specs.extent_map.Extents.{Chunked, chunk_at, has_home, item_of}
+use Rattle.catalog_laws.specs.extent_map.Extents.{Chunked, chunk_at, has_home, item_of_chunk}
 use Rattle.asm_base.specs.Chunks.{chunk_cmp}
 use Rattle.catalog_laws.proofs.extent_map.Laws.{chunk_total}
 use Rattle.catalog_laws.specs.file_directory.Files.{head_at}
@@ -52,7 +52,7 @@ use Rattle.catalog_laws.proofs.RecopyItems.{clears_items, may_clear}
 use Rattle.catalog_laws.proofs.catalog_tables.TableItems.{among_found, chunks_exact, each_of}
 use Rattle.catalog_laws.proofs.UnitLaws.{units_are}
 use Rattle.partnership.proofs.status_table.Allowed.{entry_fits, parts_of}
-use Rattle.rebalance.specs.Falling.{MayBePlanned, NextMayBePlanned, PlannedMovesAreRegular, PlannedWorkFalls, planned}
+use Rattle.rebalance.specs.Falling.{MayBePlanned, NextMayBePlanned, PlannedMovesAreRegular, PlannedWorkFalls, tables_after_move}
 use Rattle.rebalance.specs.Searching.{IsStatusOf}
 use Rattle.rebalance.proofs.Falling.{records_are}
 use Rattle.rebalance.proofs.Searching.{chunk_parts, same_home}
@@ -81,7 +81,7 @@ copy_in c items x cat is among =
     by y there None has h = absurd h
     by y there (Some head) has h =
         let p = from_place y.0.0 (y.0.1 * 256) head.copies y.1 x h in
-        let parts = chunk_parts y.0.0 y.0.1 y.1 (each_of (λ (z : Chunked). is_item (item_of z) ≡ true) c.tables.extents y cat.rules.tables.extents.0.1 there) in
+        let parts = chunk_parts y.0.0 y.0.1 y.1 (each_of (λ (z : Chunked). is_item (item_of_chunk z) ≡ true) c.tables.extents y cat.rules.tables.extents.0.1 there) in
         let chunk : x.index / 256 ≡ y.0.1 = in_chunk y.0.1 x.index p.low (omega (arith, p.high, parts.size)) in
         let at : x.index % 256 ≡ x.index - y.0.1 * 256 = omega (arith, div-add-mod' x.index 256, chunk, p.low) in
         let found : chunk_at c.tables.extents (x.file, x.index / 256) ≡ Some y.1 =
@@ -217,8 +217,8 @@ module _ (c : Catalogued) (r : Status) (items : List Item) (cat : IsCatalog c) (
   -- what a move is that may be planned: the items after it are those of the tables that its plan leads to
   record IsReady (m : Move) : Type 0 where
     may : MayBePlanned c m
-    after : AreItemsOf (planned m c.tables) (items_after m items)
-    regular : AreOnRegular r.entries (planned m c.tables)
+    after : AreItemsOf (tables_after_move m c.tables) (items_after m items)
+    regular : AreOnRegular r.entries (tables_after_move m c.tables)
 
   fill_ready : (x : Copy) (h : Home) → IsMove x h → IsReady (fill x.file x.index x.copy h)
   fill_ready x h its = record { may = its.may; after = moves_items c x.file x.index x.copy h items cat its.may its.unit is; regular = moving_keeps r.entries c.tables x.file x.index x.copy h of.regular its.regular }
@@ -249,10 +249,10 @@ module _ (c : Catalogued) (r : Status) (items : List Item) (cat : IsCatalog c) (
 
   -- what gives a copy another home
   by_home : (test : Copy → Bool) (to : Copy → Home → Move) (m : Move) → ((x : Copy) (h : Home) → IsMove x h → IsReady (to x h))
-      → first_of (λ x. when (test x) (option_map (λ h. move (to x h)) (new_home c.shape r.entries items x))) (all_copies items) ≡ Some (move m) → IsReady m
+      → first_of (λ x. option_when (test x) (option_map (λ h. move (to x h)) (new_home c.shape r.entries items x))) (all_copies items) ≡ Some (move m) → IsReady m
   unfolding replacement
   by_home test to m ready e =
-      let p = said_by (λ x. when (test x) (option_map (λ h. move (to x h)) (new_home c.shape r.entries items x))) (all_copies items) (move m) e in
+      let p = said_by (λ x. option_when (test x) (option_map (λ h. move (to x h)) (new_home c.shape r.entries items x))) (all_copies items) (move m) e in
       let x : Copy = p.0 in
       let w = when_said (test x) _ (move m) p.2 in
       let h = mapped (λ h. move (to x h)) (new_home c.shape r.entries items x) (move m) w.1 in
@@ -275,18 +275,18 @@ module _ (c : Catalogued) (r : Status) (items : List Item) (cat : IsCatalog c) (
       subst IsReady (move_is (tables d.0) m d.2) (record { may = tt; after = is; regular = of.regular })
 
   -- what ends a rebalance is no move
-  by_end : (test : Copy → Bool) (end : Copy → Next) (m : Move) → ((x : Copy) → end x ≡ move m → ⊥) → first_of (λ x. when (test x) (Some (end x))) (all_copies items) ≡ Some (move m) → IsReady m
+  by_end : (test : Copy → Bool) (end : Copy → Next) (m : Move) → ((x : Copy) → end x ≡ move m → ⊥) → first_of (λ x. option_when (test x) (Some (end x))) (all_copies items) ≡ Some (move m) → IsReady m
   by_end test end m differ e =
-      let p = said_by (λ x. when (test x) (Some (end x))) (all_copies items) (move m) e in
+      let p = said_by (λ x. option_when (test x) (Some (end x))) (all_copies items) (move m) e in
       let w = when_said (test p.0) _ (move m) p.2 in
       absurd (differ p.0 (same_Some (end p.0) (move m) w.1))
 
   by_lost : (m : Move) → next_lost r.entries items (all_copies items) ≡ Some (move m) → IsReady m
-  by_lost m e = by_end (λ x. not (has_source r.entries items (all_copies items) x)) (λ x. lost x.file x.index) m (λ x k. cc) e
+  by_lost m e = by_end (λ x. not (has_source r.entries items (all_copies items) x)) (λ x. lost_extent x.file x.index) m (λ x k. cc) e
 
   by_space : (m : Move) → next_no_space c.shape r.entries items (all_copies items) ≡ Some (move m) → IsReady m
   by_space m e =
-      by_end (λ x. (wants_fill r.entries x || wants_shift r.entries x) && is_none (new_home c.shape r.entries items x)) (λ x. no_space x.file x.index) m (λ x k. cc) e
+      by_end (λ x. (wants_fill r.entries x || wants_shift r.entries x) && is_none (new_home c.shape r.entries items x)) (λ x. lacks_space x.file x.index) m (λ x k. cc) e
 
   by_balancing : (m : Move) → next_balancing c.shape r.entries items (all_copies items) ≡ Some (move m) → IsReady m
   unfolding balancing
@@ -332,10 +332,10 @@ planned_regular c r m items cat of is e = (next_ready c r items cat of is m e).r
 
 -- tables have one list of items
 one_items : (t : Tables) (xs ys : List Item) → AreItemsOf t xs → AreItemsOf t ys → xs ≡ ys
-one_items t xs ys a b = one_list xs ys 0 a.in_order b.in_order (λ i h. b.from_table (key i) i (a.to_table i h)) (λ i h. a.from_table (key i) i (b.to_table i h))
+one_items t xs ys a b = one_list xs ys 0 a.in_order b.in_order (λ i h. b.from_table (item_key i) i (a.to_table i h)) (λ i h. a.from_table (item_key i) i (b.to_table i h))
 
 pub planned_falls : PlannedWorkFalls
 planned_falls c r m items later cat of is e after =
     let ready = next_ready c r items cat of is m e in
-    subst (λ (xs : List Item). IsLess (work c.shape (record_after m r) xs) (work c.shape r items)) (one_items (planned m c.tables) (items_after m items) later ready.after after)
+    subst (λ (xs : List Item). IsLess (work c.shape (record_after m r) xs) (work c.shape r items)) (one_items (tables_after_move m c.tables) (items_after m items) later ready.after after)
     (work_falls c.shape r items m (records_are c r items cat of is) e)

@@ -13,21 +13,21 @@ use Rattle.asm_placement.specs.Modes.{serves}
 use Rattle.asm_placement.specs.Space.{is_above, is_below, has_room, tried_first}
 use Rattle.asm_placement.specs.Choices.{home_on, is_eligible, replacement, replacement_on}
 use Rattle.asm_placement.specs.Copies.{Copy, home, units, copies_at, entry_at_home, is_on, is_marked, can_be_read, has_source, has_other_source, wants_fill, wants_shift}
-use Rattle.asm_placement.specs.Rebalancing.{Next, first_of, move, no_space, shift, when, new_home, above_or_none, balancing}
+use Rattle.asm_placement.specs.Rebalancing.{Next, first_of, move, lacks_space, shift, option_when, new_home, above_or_none, balancing}
 use Rattle.asm_placement.proofs.Bits.{passing_is}
-use Rattle.partnership.specs.Candidates.{is_within}
+use Rattle.partnership.specs.Candidates.{is_disk_in_set}
 use Rattle.partnership.specs.UnitsOf.{AreUnits, AreUnitsOf, held, kept}
 use Rattle.partnership.proofs.Kept.{copy_is, copy_on_is}
 use Rattle.extent_copies.specs.declared.extent.Extent.{Extent}
 use Rattle.rebalance.specs.declared.moves.Next.{Next as CodeNext}
 use Rattle.rebalance.specs.declared.stages.Stage.{Stage}
 use Rattle.rebalance.specs.declared.stages.Stage.TheVariants as stage
-use Rattle.extent_copies.specs.Extents.{copy_of, copies_of, IsExtentOf, can_be_read_at}
+use Rattle.extent_copies.specs.Extents.{copy_of, copies_of_extent, IsExtentOf, can_be_read_at}
 use Rattle.rebalance.specs.Extents.{any_from, first_from, is_marked_at, has_source_at, is_other_source_at, has_other_at}
 use Rattle.rebalance.specs.Moves.{next_meant}
-use Rattle.partnership.specs.Selections.{AreNumbered}
+use Rattle.partnership.specs.Selections.{FitInSet}
 use Rattle.rebalance.specs.Sums.{Sums, sums_of, below_set, below_from, is_below_of}
-use Rattle.rebalance.specs.Stages.{said, said_at, home_for, home_below, below_if_above, balancing_at}
+use Rattle.rebalance.specs.Stages.{records_say, copy_says, home_for, home_below, below_if_above, balancing_at}
 use Rattle.rebalance.proofs.Sharing.{own_map, above_number, below_number}
 
 -- ---- numbers of copies, one by one
@@ -129,18 +129,18 @@ home_is s items all es ms x k long units are =
     ∙ ap (λ (n : ℕ). replacement s es items n k x.homes) are.units
 
 -- the disks of the set are those below their shares
-set_is : (s : Shape) (items : List Item) (es : List Entry) (ms : List UnitMap) (t : Sums) (n : ℕ) (e : Entry) → e.number < 64 → IsSomeAnd (slice_get ms e.number) (AreUnits s items e) → t ≡ sums_of s items es → is_within (below_set t n ms) e ≡ is_below s items es n e
+set_is : (s : Shape) (items : List Item) (es : List Entry) (ms : List UnitMap) (t : Sums) (n : ℕ) (e : Entry) → e.number < 64 → IsSomeAnd (slice_get ms e.number) (AreUnits s items e) → t ≡ sums_of s items es → is_disk_in_set (below_set t n ms) e ≡ is_below s items es n e
 unfolding below_from
 set_is s items es ms t n e small units is = passing_is (is_below_of t n ms) e.number small ∙ below_number s items ms es n e t units is
 
 -- so the tests of a disk agree
 below_agree : (s : Shape) (items : List Item) (es : List Entry) (ms : List UnitMap) (t : Sums) (n : ℕ) (fits : Entry → Bool) (fs : List Entry) → AllByRecursion (λ e. e.number < 64) fs → AreUnitsOf s items fs ms → t ≡ sums_of s items es
-    → filter (λ (e : Entry). fits e && is_within (below_set t n ms) e) fs ≡ filter (λ (e : Entry). fits e && is_below s items es n e) fs
+    → filter (λ (e : Entry). fits e && is_disk_in_set (below_set t n ms) e) fs ≡ filter (λ (e : Entry). fits e && is_below s items es n e) fs
 below_agree s items es ms t n fits [] small units is = refl
 below_agree s items es ms t n fits (e ∷ fs) small units is =
     rw (set_is s items es ms t n e small.0 units.0 is, below_agree s items es ms t n fits fs small.1 units.1 is) refl
 
-below_is : (s : Shape) (items : List Item) (all : List Copy) (es : List Entry) (ms : List UnitMap) (t : Sums) (x : Extent) (k : ℕ) → AreNumbered es → 0 < x.units → AreUnitsOf s items es ms → t ≡ sums_of s items es → IsExtentOf s items all x
+below_is : (s : Shape) (items : List Item) (all : List Copy) (es : List Entry) (ms : List UnitMap) (t : Sums) (x : Extent) (k : ℕ) → FitInSet es → 0 < x.units → AreUnitsOf s items es ms → t ≡ sums_of s items es → IsExtentOf s items all x
     → home_below es ms t x k ≡ replacement_on (is_below s items es (units s (copy_of x k))) s es items (units s (copy_of x k)) k x.homes
 below_is s items all es ms t x k small long units is are =
     copy_on_is s items es ms (below_set t x.units ms) x.units k x.homes (kept es k x.homes) (held x.homes) long units (record { kept_is = refl; holders_are = refl })
@@ -148,14 +148,14 @@ below_is s items all es ms t x k small long units is are =
     (below_agree s items es ms t x.units (λ (e : Entry). is_eligible es k x.homes e && has_room s items x.units e) es (recursion_from_All (λ (e : Entry). e.number < 64) es small) units is)
     ∙ ap (λ (n : ℕ). replacement_on (is_below s items es n) s es items n k x.homes) are.units
 
-above_is : (s : Shape) (items : List Item) (all : List Copy) (es : List Entry) (ms : List UnitMap) (t : Sums) (x : Extent) (k : ℕ) (h : Home) (o : Option Entry) → entry_of es h.disk ≡ o → AreNumbered es → 0 < x.units → AreUnitsOf s items es ms → t ≡ sums_of s items es → IsExtentOf s items all x
+above_is : (s : Shape) (items : List Item) (all : List Copy) (es : List Entry) (ms : List UnitMap) (t : Sums) (x : Extent) (k : ℕ) (h : Home) (o : Option Entry) → entry_of es h.disk ≡ o → FitInSet es → 0 < x.units → AreUnitsOf s items es ms → t ≡ sums_of s items es → IsExtentOf s items all x
     → below_if_above es ms t x k o ≡ above_or_none s es items (copy_of x k) o
 above_is s items all es ms t x k h None found small long units is are = refl
 above_is s items all es ms t x k h (Some e) found small long units is are =
     rw (above_number s items ms es x.units e t (own_map s items ms es h.disk e units found) is, below_is s items all es ms t x k small long units is are)
-    (ap (λ (n : ℕ). when (is_above s items es n e) (replacement_on (is_below s items es (units_of s.step x.id.index)) s es items (units_of s.step x.id.index) k x.homes)) are.units)
+    (ap (λ (n : ℕ). option_when (is_above s items es n e) (replacement_on (is_below s items es (units_of s.step x.id.index)) s es items (units_of s.step x.id.index) k x.homes)) are.units)
 
-balancing_is : (s : Shape) (items : List Item) (all : List Copy) (es : List Entry) (ms : List UnitMap) (t : Sums) (x : Extent) (k : ℕ) → AreNumbered es → 0 < x.units → AreUnitsOf s items es ms → t ≡ sums_of s items es → IsExtentOf s items all x
+balancing_is : (s : Shape) (items : List Item) (all : List Copy) (es : List Entry) (ms : List UnitMap) (t : Sums) (x : Extent) (k : ℕ) → FitInSet es → 0 < x.units → AreUnitsOf s items es ms → t ≡ sums_of s items es → IsExtentOf s items all x
     → balancing_at es ms t x k ≡ balancing s es items (copy_of x k)
 unfolding balancing
 balancing_is s items all es ms t x k small long units is are = by (home (copy_of x k))
@@ -164,17 +164,17 @@ balancing_is s items all es ms t x k small long units is are = by (home (copy_of
     by None = refl
     by (Some h) = above_is s items all es ms t x k h (entry_of es h.disk) refl small long units is are
 
-when_both : (a b : Bool) (o : Option Next) → when a (when b o) ≡ when (a && b) o
+when_both : (a b : Bool) (o : Option Next) → option_when a (option_when b o) ≡ option_when (a && b) o
 when_both true b o = refl
 when_both false b o = refl
 
-when_some : (f : Home → Next) (o : Option Home) → when (is_some o) (option_map f o) ≡ option_map f o
+when_some : (f : Home → Next) (o : Option Home) → option_when (is_some o) (option_map f o) ≡ option_map f o
 when_some f None = refl
 when_some f (Some h) = refl
 
 -- what a copy says by its number is what it says by the records
-said_copy : (stage : Stage) (s : Shape) (items : List Item) (all : List Copy) (es : List Entry) (ms : List UnitMap) (t : Sums) (x : Extent) (k : ℕ) → AreNumbered es → 0 < x.units → AreUnitsOf s items es ms → t ≡ sums_of s items es → IsExtentOf s items all x → k < x.copies
-    → said_at stage es ms t x k ≡ said stage s es items all (copy_of x k)
+said_copy : (stage : Stage) (s : Shape) (items : List Item) (all : List Copy) (es : List Entry) (ms : List UnitMap) (t : Sums) (x : Extent) (k : ℕ) → FitInSet es → 0 < x.units → AreUnitsOf s items es ms → t ≡ sums_of s items es → IsExtentOf s items all x → k < x.copies
+    → copy_says stage es ms t x k ≡ records_say stage s es items all (copy_of x k)
 said_copy stage.Recopy s items all es ms t x k small long units is are less =
     rw (marked_is s items all x k are less, other_is s items all es x k are) refl
 said_copy stage.Fill s items all es ms t x k small long units is are less =
@@ -184,12 +184,12 @@ said_copy stage.Shift s items all es ms t x k small long units is are less =
 said_copy stage.Lost s items all es ms t x k small long units is are less = rw (source_is s items all es x k are) refl
 said_copy stage.NoSpace s items all es ms t x k small long units is are less =
     rw (home_is s items all es ms x k long units are)
-    (when_both (wants_fill es (copy_of x k) || wants_shift es (copy_of x k)) (is_none (new_home s es items (copy_of x k))) (Some (no_space x.id.file x.id.index)))
+    (when_both (wants_fill es (copy_of x k) || wants_shift es (copy_of x k)) (is_none (new_home s es items (copy_of x k))) (Some (lacks_space x.id.file x.id.index)))
 said_copy stage.Balance s items all es ms t x k small long units is are less =
     rw (balancing_is s items all es ms t x k small long units is are) (when_some (λ h. move (shift x.id.file x.id.index k h)) (balancing s es items (copy_of x k)))
 
-pub said_agrees : (stage : Stage) (s : Shape) (items : List Item) (all : List Copy) (es : List Entry) (ms : List UnitMap) (t : Sums) (x : Extent) → AreNumbered es → 0 < x.units → AreUnitsOf s items es ms → t ≡ sums_of s items es → IsExtentOf s items all x
-    → first_from (said_at stage es ms t x) 0 x.copies ≡ first_of (said stage s es items all) (copies_of x)
+pub said_agrees : (stage : Stage) (s : Shape) (items : List Item) (all : List Copy) (es : List Entry) (ms : List UnitMap) (t : Sums) (x : Extent) → FitInSet es → 0 < x.units → AreUnitsOf s items es ms → t ≡ sums_of s items es → IsExtentOf s items all x
+    → first_from (copy_says stage es ms t x) 0 x.copies ≡ first_of (records_say stage s es items all) (copies_of_extent x)
 said_agrees stage s items all es ms t x small long units is are =
-    first_agree (said_at stage es ms t x) (λ k. said stage s es items all (copy_of x k)) 0 x.copies (λ k less. said_copy stage s items all es ms t x k small long units is are (omega arith))
-    ∙ sym (first_copies (said stage s es items all) x 0 x.copies)
+    first_agree (copy_says stage es ms t x) (λ k. records_say stage s es items all (copy_of x k)) 0 x.copies (λ k less. said_copy stage s items all es ms t x k small long units is are (omega arith))
+    ∙ sym (first_copies (records_say stage s es items all) x 0 x.copies)

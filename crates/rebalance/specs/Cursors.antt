@@ -5,7 +5,7 @@ use Rattle.std.specs.Option.{option_map}
 use Rattle.asm_formats.specs.Status.{Entry, Status}
 use Rattle.asm_formats.specs.Items.{FileHead, Home, Homes, chunk_len}
 use Rattle.catalog_laws.specs.extent_map.Extents.{Chunked, chunk_at}
-use Rattle.asm_base.specs.Chunks.{Chunk, chunk_cmp, is_before}
+use Rattle.asm_base.specs.Chunks.{Chunk, chunk_cmp, is_chunk_before}
 use Rattle.catalog_laws.specs.file_directory.Files.{head_at}
 use Rattle.catalog_laws.specs.staleness_directory.Marks.{marks_at}
 use Rattle.catalog_laws.specs.catalog.ExtentPlans.{with_marks_changed, with_move}
@@ -28,7 +28,7 @@ pub record SearchPlaces : Type 0 where
 -- the chunk comes before the place
 abbrev pub is_passed : Option Chunk → Chunk → Bool
 is_passed None p = true
-is_passed (Some place) p = is_before p place
+is_passed (Some place) p = is_chunk_before p place
 
 -- nothing is due at the stage in the chunks before the place
 abbrev pub IsClearBefore : Stage → List Entry → Catalogued → Sums → Option Chunk → Type 0
@@ -48,8 +48,8 @@ abbrev pub IsCursor : Catalogued → Status → SearchPlaces → Type 0
 IsCursor c r k = AreClear r.entries c (sums_at c.units r.entries) k
 
 -- all places at the first chunk
-abbrev pub start : SearchPlaces
-start = record { recopy = Some (0, 0); fill = Some (0, 0); shift = Some (0, 0); lost = Some (0, 0); no_space = Some (0, 0); balance = Some (0, 0) }
+abbrev pub search_start : SearchPlaces
+search_start = record { recopy = Some (0, 0); fill = Some (0, 0); shift = Some (0, 0); lost = Some (0, 0); no_space = Some (0, 0); balance = Some (0, 0) }
 
 -- ---- after a search
 
@@ -96,14 +96,14 @@ followed es c t k at = record {
 }
 
 -- copies that a file has, where it has a head
-abbrev pub copies_at : Tables → ℕ → Option ℕ
-copies_at t f = option_map (λ (h : FileHead). h.copies) (head_at t.files f)
+abbrev pub copy_count_of_file : Tables → ℕ → Option ℕ
+copy_count_of_file t f = option_map (λ (h : FileHead). h.copies) (head_at t.files f)
 
 -- all chunks but one are as they were: their homes, their marks, and how many copies their files have
 pub record IsSameBut (at : Chunk) (old new : Tables) : Type 0 where
   pub chunks : (p : Chunk) → is_at (chunk_cmp p) at ≡ false → chunk_at new.extents p ≡ chunk_at old.extents p
   pub marks : (p : Chunk) → is_at (chunk_cmp p) at ≡ false → marks_at new.stale p ≡ marks_at old.stale p
-  pub copies : (f : ℕ) → copies_at new f ≡ copies_at old f
+  pub copies : (f : ℕ) → copy_count_of_file new f ≡ copy_count_of_file old f
 
 -- What is a cursor of a group is followed to one of each group of the same shape and entries in which all chunks but one are the same.
 abbrev pub IsFollowed : Chunk → SearchPlaces → Catalogued → Status → SearchPlaces → Type 0

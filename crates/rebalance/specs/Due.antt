@@ -14,7 +14,7 @@ use Rattle.rebalance.specs.declared.stages.Stage.{Stage}
 use Rattle.rebalance.specs.Sums.{Sums}
 use Rattle.rebalance.specs.Extents.{any_from}
 use Rattle.rebalance.specs.Stages.{is_due_at}
-use Rattle.rebalance.specs.Searching.{extent_of}
+use Rattle.rebalance.specs.Searching.{extent_in_tables}
 
 -- a copy of the extent lacks what the stage is about
 abbrev pub is_due : Stage → List Entry → List UnitMap → Sums → Extent → Bool
@@ -24,7 +24,7 @@ is_due at es ms t x = any_from (is_due_at at es ms t x) 0 x.copies
 
 -- the extent is there and passes the test; its number has 32 bits
 abbrev pub passes_there : (Extent → Bool) → Shape → Tables → ℕ → ℕ → ℕ → Homes → Bool
-passes_there test s t f copies i homes = (has_home homes && nat_lt i (2 ^ 32)) && test (extent_of s t f copies i homes)
+passes_there test s t f copies i homes = (has_home homes && nat_lt i (2 ^ 32)) && test (extent_in_tables s t f copies i homes)
 
 -- one of some extents does, that have the numbers from i on
 abbrev pub any_of_extents : (Extent → Bool) → Shape → Tables → ℕ → ℕ → ℕ → List Homes → Bool

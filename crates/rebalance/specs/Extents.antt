@@ -6,7 +6,7 @@ use Rattle.asm_formats.specs.Status.{Entry}
 use Rattle.asm_formats.specs.Items.{Item, FileHead, Home, chunk_len}
 use Rattle.asm_placement.specs.Tables.{head_of, homes_in}
 use Rattle.asm_placement.specs.Choices.{staying_disk}
-use Rattle.asm_placement.specs.Copies.{home, has_home}
+use Rattle.asm_placement.specs.Copies.{home, has_any_home}
 use Rattle.extent_copies.specs.declared.extent.Extent.{Extent}
 use Rattle.extent_copies.specs.Extents.{copy_of, can_be_read_at}
 
@@ -16,7 +16,7 @@ pub record IsInRecords (items : List Item) (x : Extent) : Type 0 where
   pub has_head : head_of items x.id.file ≡ Some head
   pub copies : x.copies ≡ head.copies
   pub homes : x.homes ≡ get_or (unwrap_or (homes_in items x.id.file (x.id.index / chunk_len)) []) (x.id.index % chunk_len) []
-  pub there : has_home x.homes ≡ true
+  pub there : has_any_home x.homes ≡ true
 
 -- ---- numbers of copies, so many from k on
 

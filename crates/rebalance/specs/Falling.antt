@@ -19,12 +19,12 @@ Falls c r n = (m : Move) (items : List Item) → n ≡ move m → AreItemsOf c.t
 -- ---- in the words of plans
 
 -- the tables that the plan of a move leads to: directory copies and status tables aren't in them
-abbrev pub planned : Move → Tables → Tables
-planned (recopy f i copy) t = with_marks_changed t f i 0 (2 ^ copy)
-planned (fill f i copy h) t = with_move t f i copy h
-planned (shift f i copy h) t = with_move t f i copy h
-planned (directory d) t = t
-planned (tables to) t = t
+abbrev pub tables_after_move : Move → Tables → Tables
+tables_after_move (recopy f i copy) t = with_marks_changed t f i 0 (2 ^ copy)
+tables_after_move (fill f i copy h) t = with_move t f i copy h
+tables_after_move (shift f i copy h) t = with_move t f i copy h
+tables_after_move (directory d) t = t
+tables_after_move (tables to) t = t
 
 -- what the plan of a move asks of the catalog
 abbrev pub MayBePlanned : Catalogued → Move → Type 0
@@ -40,10 +40,10 @@ NextMayBePlanned = (c : Catalogued) (r : Status) (m : Move) (items : List Item) 
 
 -- By the tables that its plan leads to no home lies on a quorum disk either.
 abbrev pub PlannedMovesAreRegular : Type 0
-PlannedMovesAreRegular = (c : Catalogued) (r : Status) (m : Move) (items : List Item) → IsCatalog c → IsStatusOf c r → AreItemsOf c.tables items → next c.shape r items ≡ move m → AreOnRegular r.entries (planned m c.tables)
+PlannedMovesAreRegular = (c : Catalogued) (r : Status) (m : Move) (items : List Item) → IsCatalog c → IsStatusOf c r → AreItemsOf c.tables items → next c.shape r items ≡ move m → AreOnRegular r.entries (tables_after_move m c.tables)
 
 -- The work that is left by the items of the tables that the plan of the next move leads to is less.
 abbrev pub PlannedWorkFalls : Type 0
 PlannedWorkFalls =
     (c : Catalogued) (r : Status) (m : Move) (items later : List Item) → IsCatalog c → IsStatusOf c r → AreItemsOf c.tables items → next c.shape r items ≡ move m
-    → AreItemsOf (planned m c.tables) later → IsLess (work c.shape (record_after m r) later) (work c.shape r items)
+    → AreItemsOf (tables_after_move m c.tables) later → IsLess (work c.shape (record_after m r) later) (work c.shape r items)

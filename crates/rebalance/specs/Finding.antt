@@ -13,24 +13,24 @@ use Rattle.rebalance.specs.declared.search.Asked.{Asked}
 use Rattle.rebalance.specs.declared.search.Asked.TheVariants as asked
 use Rattle.rebalance.specs.declared.search.Found.{Found}
 use Rattle.rebalance.specs.Sums.{Sums}
-use Rattle.rebalance.specs.Searching.{extent_of, extent_says, with_copies}
+use Rattle.rebalance.specs.Searching.{extent_in_tables, extent_says, with_copies}
 use Rattle.rebalance.specs.Due.{is_due, passes_there}
 
 -- an extent of a file: it has at most three copies, of a unit at least
-pub record IsWhole (x : Extent) : Type 0 where
+pub record IsWholeExtent (x : Extent) : Type 0 where
   pub copies : x.copies ≤ 3
   pub long : 0 < x.units
 
 -- what is asked of an extent is so
-abbrev pub passes : Asked → List Entry → List UnitMap → Sums → Extent → Bool
-passes (asked.Due at) es ms t x = is_due at es ms t x
-passes (asked.Says at) es ms t x = is_some (extent_says at es ms t x)
+abbrev pub is_as_asked : Asked → List Entry → List UnitMap → Sums → Extent → Bool
+is_as_asked (asked.Due at) es ms t x = is_due at es ms t x
+is_as_asked (asked.Says at) es ms t x = is_some (extent_says at es ms t x)
 
 -- ---- one extent after the other
 
 -- the extent, where it is there and passes the test
 abbrev pub found_there : (Extent → Bool) → Shape → Tables → ℕ → ℕ → ℕ → Homes → Option Extent
-found_there test s t f copies i homes = if passes_there test s t f copies i homes then Some (extent_of s t f copies i homes) else None
+found_there test s t f copies i homes = if passes_there test s t f copies i homes then Some (extent_in_tables s t f copies i homes) else None
 
 -- the first that does of some extents, that have the numbers from i on
 abbrev pub found_of_extents : (Extent → Bool) → Shape → Tables → ℕ → ℕ → ℕ → List Homes → Option Extent
@@ -47,8 +47,8 @@ found_of_chunks test s t (x ∷ xs) = option_or (option_map (λ (e : Extent). re
 
 -- ---- in a group
 
-abbrev pub found_in : Asked → List Entry → Catalogued → Sums → Chunked → Option Extent
-found_in what es c t x = found_of_chunk (passes what es c.units t) c.shape c.tables x
+abbrev pub found_in_chunk : Asked → List Entry → Catalogued → Sums → Chunked → Option Extent
+found_in_chunk what es c t x = found_of_chunk (is_as_asked what es c.units t) c.shape c.tables x
 
 abbrev pub found_from : Asked → List Entry → Catalogued → Sums → List Chunked → Option Found
-found_from what es c t xs = found_of_chunks (passes what es c.units t) c.shape c.tables xs
+found_from what es c t xs = found_of_chunks (is_as_asked what es c.units t) c.shape c.tables xs

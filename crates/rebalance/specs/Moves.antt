@@ -15,5 +15,5 @@ move_meant (code.Status to) = r.tables to
 abbrev pub next_meant : Next → r.Next
 next_meant (ending.Move m) = r.move (move_meant m)
 next_meant ending.Done = r.done
-next_meant (ending.NoSpace x) = r.no_space x.file x.index
-next_meant (ending.Lost x) = r.lost x.file x.index
+next_meant (ending.NoSpace x) = r.lacks_space x.file x.index
+next_meant (ending.Lost x) = r.lost_extent x.file x.index

@@ -5,7 +5,7 @@ use Rattle.asm_group.specs.Shape.{Shape}
 use Rattle.asm_formats.specs.Status.{Entry, Status, is_status}
 use Rattle.asm_formats.specs.Items.{FileHead, Homes, chunk_len}
 use Rattle.asm_placement.specs.Layout.{units_of}
-use Rattle.asm_placement.specs.Rebalancing.{Next, done, next_directory, next_tables, when}
+use Rattle.asm_placement.specs.Rebalancing.{Next, done, next_directory, next_tables, option_when}
 use Rattle.allocator.specs.UnitMaps.{UnitMap}
 use Rattle.catalog_laws.specs.extent_map.Extents.{Chunked, has_home}
 use Rattle.catalog_laws.specs.file_directory.Files.{head_at}
@@ -17,7 +17,7 @@ use Rattle.rebalance.specs.declared.stages.Stage.{Stage}
 use Rattle.rebalance.specs.declared.stages.Stage.TheVariants as stage
 use Rattle.rebalance.specs.Sums.{Sums, sums_at}
 use Rattle.rebalance.specs.Extents.{first_from}
-use Rattle.rebalance.specs.Stages.{said_at}
+use Rattle.rebalance.specs.Stages.{copy_says}
 
 -- The status record is that of the catalog: one of the formats, the used units are those of its entries' disks, and no home lies on a quorum disk.
 pub record IsStatusOf (c : Catalogued) (r : Status) : Type 0 where
@@ -28,12 +28,12 @@ pub record IsStatusOf (c : Catalogued) (r : Status) : Type 0 where
 -- ---- one extent after the other
 
 -- an extent of a file with so many copies, as the tables have it
-abbrev pub extent_of : Shape → Tables → ℕ → ℕ → ℕ → Homes → Extent
-extent_of s t f copies i homes = record { id = record { file = f; index = i }; homes = homes; marks = marks_of t f i; copies = copies; units = units_of s.step i }
+abbrev pub extent_in_tables : Shape → Tables → ℕ → ℕ → ℕ → Homes → Extent
+extent_in_tables s t f copies i homes = record { id = record { file = f; index = i }; homes = homes; marks = marks_of t f i; copies = copies; units = units_of s.step i }
 
 -- what the extent says, where it is there; its number has 32 bits
 abbrev pub said_there : (Extent → Option Next) → Shape → Tables → ℕ → ℕ → ℕ → Homes → Option Next
-said_there says s t f copies i homes = when (has_home homes && nat_lt i (2 ^ 32)) (says (extent_of s t f copies i homes))
+said_there says s t f copies i homes = option_when (has_home homes && nat_lt i (2 ^ 32)) (says (extent_in_tables s t f copies i homes))
 
 -- what the first of some extents says, that have the numbers from i on
 abbrev pub first_of_extents : (Extent → Option Next) → Shape → Tables → ℕ → ℕ → ℕ → List Homes → Option Next
@@ -56,7 +56,7 @@ first_of_chunks says s t (x ∷ xs) = option_or (first_of_chunk says s t x) (fir
 
 -- what an extent says at a stage, by maps of units and sums
 abbrev pub extent_says : Stage → List Entry → List UnitMap → Sums → Extent → Option Next
-extent_says at es ms t x = first_from (said_at at es ms t x) 0 x.copies
+extent_says at es ms t x = first_from (copy_says at es ms t x) 0 x.copies
 
 -- what the first extent of some chunks of a group says, and of all
 abbrev pub says_of : Stage → List Entry → Catalogued → Sums → List Chunked → Option Next

@@ -3,7 +3,7 @@
 ghost use Rattle.std.specs.Prelude.{◌≡◌, ◌/◌};
 ghost use Rattle.asm_formats.specs.Status.{Status};
 ghost use Rattle.catalog_laws.specs.catalog_tables.Tables.{AreTables, Catalogued};
-ghost use Rattle.rebalance.specs.Cursors.{IsCursor, IsFollowed, followed, is_passed, passes_at, place_after, start};
+ghost use Rattle.rebalance.specs.Cursors.{IsCursor, IsFollowed, followed, is_passed, passes_at, place_after, search_start};
 ghost use Rattle.rebalance.specs.Due.{is_due_in};
 ghost use Rattle.rebalance.specs.Sums.{sums_at};
 
@@ -50,7 +50,7 @@ impl Cursor {
     }
 
     fn first() -> Cursor
-        ensures { result ≡ start }
+        ensures { result ≡ search_start }
     {
         Cursor {
             recopy: FIRST,

@@ -3,7 +3,7 @@
 ghost use Rattle.std.specs.Prelude.{◌≡◌, ◌<◌, ◌≤◌, ◌&&◌, ◌||◌, ◌==◌, not, get_or, is_some, is_none};
 ghost use Rattle.asm_placement.specs.Modes.{is_dropping, is_forced, is_online};
 ghost use Rattle.asm_placement.specs.Copies.{is_doubled, is_on, shares_group, wants_fill, wants_shift};
-ghost use Rattle.rebalance.specs.Searching.{extent_of};
+ghost use Rattle.rebalance.specs.Searching.{extent_in_tables};
 ghost use Rattle.extent_copies.specs.Extents.{can_be_read_at, copy_of};
 ghost use Rattle.rebalance.specs.Extents.{any_from, has_other_at, has_source_at, is_marked_at};
 
@@ -15,7 +15,7 @@ use partnership::PstEntry;
 
 /// The extent of a file with so many copies, as a catalog has it.
 pub fn extent_of(catalog: &Catalog, id: ExtentId, copies: u8, homes: &Homes) -> Extent
-    ensures is { result ≡ extent_of catalog.now.shape catalog.now.tables id.file copies id.index homes.now }
+    ensures is { result ≡ extent_in_tables catalog.now.shape catalog.now.tables id.file copies id.index homes.now }
     ensures long { 0 < result.units }
 {
     Extent {

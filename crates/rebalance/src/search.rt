@@ -5,7 +5,7 @@ ghost use Rattle.std.specs.Option.{option_map};
 ghost use Rattle.catalog_laws.specs.catalog_tables.Faults.{IsCatalog};
 ghost use Rattle.catalog_laws.specs.extent_map.Extents.{chunks_from};
 ghost use Rattle.rebalance.specs.Due.{first_due_of, is_due_in};
-ghost use Rattle.rebalance.specs.Finding.{IsWhole, found_from, found_in, found_of_extents, found_there, passes};
+ghost use Rattle.rebalance.specs.Finding.{IsWholeExtent, found_from, found_in_chunk, found_of_extents, found_there, is_as_asked};
 ghost use Rattle.rebalance.specs.Moves.{next_meant};
 ghost use Rattle.rebalance.specs.Searching.{says_of};
 ghost use Rattle.rebalance.specs.Sums.{sums_at};
@@ -87,7 +87,7 @@ impl Search<'_> {
     /// The first extent of the chunks from one on of which it is so.
     fn first_from(&self, asked: Asked, first: (u32, u32)) -> Option<Found>
         ensures found { result ≡ found_from asked self.now.disks.now self.now.catalog.now self.now.shares (chunks_from self.now.catalog.now.tables.extents first) }
-        ensures whole { IfSome result (λ found. IsWhole found.extent) }
+        ensures whole { IfSome result (λ found. IsWholeExtent found.extent) }
     {
         for (at, chunk) in self.catalog.chunks_from(first) {
             if let Some(extent) = self.first_in(asked, *at, chunk.as_slice()) {
@@ -100,8 +100,8 @@ impl Search<'_> {
     /// The first extent of a chunk, where its file has a head.
     fn first_in(&self, asked: Asked, at: (u32, u32), extents: &[Homes]) -> Option<Extent>
         requires { length extents.now ≤ 256 }
-        ensures found { result ≡ found_in asked self.now.disks.now self.now.catalog.now self.now.shares (at, extents.now) }
-        ensures whole { IfSome result IsWhole }
+        ensures found { result ≡ found_in_chunk asked self.now.disks.now self.now.catalog.now self.now.shares (at, extents.now) }
+        ensures whole { IfSome result IsWholeExtent }
     {
         match self.catalog.copies_of(at.0) {
             Some(copies) => self.first_in_row(asked, at.0, copies, at.1 as u64 * 256, extents),
@@ -120,8 +120,8 @@ impl Search<'_> {
     ) -> Option<Extent>
         requires copies { copies ≤ 3 }
         requires numbers { first + length extents.now < 2 ^ 63 }
-        ensures found { result ≡ found_of_extents (passes asked self.now.disks.now self.now.catalog.now.units self.now.shares) self.now.catalog.now.shape self.now.catalog.now.tables file copies first extents.now }
-        ensures whole { IfSome result IsWhole }
+        ensures found { result ≡ found_of_extents (is_as_asked asked self.now.disks.now self.now.catalog.now.units self.now.shares) self.now.catalog.now.shape self.now.catalog.now.tables file copies first extents.now }
+        ensures whole { IfSome result IsWholeExtent }
     {
         let mut index = first;
         for homes in extents {
@@ -144,8 +144,8 @@ impl Search<'_> {
         homes: &Homes,
     ) -> Option<Extent>
         requires { copies ≤ 3 }
-        ensures found { result ≡ found_there (passes asked self.now.disks.now self.now.catalog.now.units self.now.shares) self.now.catalog.now.shape self.now.catalog.now.tables file copies index homes.now }
-        ensures whole { IfSome result IsWhole }
+        ensures found { result ≡ found_there (is_as_asked asked self.now.disks.now self.now.catalog.now.units self.now.shares) self.now.catalog.now.shape self.now.catalog.now.tables file copies index homes.now }
+        ensures whole { IfSome result IsWholeExtent }
     {
         // An extent that is there has a number of 32 bits, since it has units of its own.
         if !has_home(homes) || index > u32::MAX as u64 {
@@ -166,8 +166,8 @@ impl Search<'_> {
     /// Whether it is so of an extent.
     #[tactic(auto, using(crate::proofs::Finding::said_some))]
     fn passes(&self, asked: Asked, extent: &Extent) -> bool
-        requires { IsWhole extent.now }
-        ensures { result ≡ passes asked self.now.disks.now self.now.catalog.now.units self.now.shares extent.now }
+        requires { IsWholeExtent extent.now }
+        ensures { result ≡ is_as_asked asked self.now.disks.now self.now.catalog.now.units self.now.shares extent.now }
     {
         match asked {
             Asked::Due(stage) => self.asked_of(extent).is_due(stage),

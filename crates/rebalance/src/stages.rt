@@ -8,10 +8,10 @@ ghost use Rattle.asm_placement.specs.TableDisks.{directory_target, status_target
 ghost use Rattle.asm_placement.specs.Rebalancing.{directory, move, next_directory, next_tables, tables};
 ghost use Rattle.rebalance.specs.Due.{is_due};
 ghost use Rattle.rebalance.specs.Extents.{first_from};
-ghost use Rattle.rebalance.specs.Finding.{IsWhole};
+ghost use Rattle.rebalance.specs.Finding.{IsWholeExtent};
 ghost use Rattle.rebalance.specs.Moves.{next_meant};
 ghost use Rattle.rebalance.specs.Searching.{extent_says};
-ghost use Rattle.rebalance.specs.Stages.{answer_at, balancing_at, home_below, home_for, is_due_at, said_at};
+ghost use Rattle.rebalance.specs.Stages.{answer_at, balancing_at, home_below, home_for, is_due_at, copy_says};
 
 use crate::extent::{has_other_source, has_source, is_stale_online, wants_fill, wants_shift};
 use crate::homes::{HomeList, entry_at};
@@ -72,7 +72,7 @@ pub fn said_first(
 ) -> Option<Next>
     requires copies { extent.now.copies ≤ 3 }
     requires long { 0 < extent.now.units }
-    ensures { option_map next_meant result ≡ first_from (said_at stage disks.now units.now shares.now extent.now) 0 extent.now.copies }
+    ensures { option_map next_meant result ≡ first_from (copy_says stage disks.now units.now shares.now extent.now) 0 extent.now.copies }
 {
     let asked = AskedExtent {
         disks,
@@ -96,7 +96,7 @@ impl AskedExtent<'_> {
     /// Whether something is due of a copy of it.
     #[tactic(auto, using(crate::proofs::Verdicts::any_more, crate::proofs::Verdicts::any_found, crate::proofs::Verdicts::any_start, crate::proofs::Verdicts::any_end))]
     pub fn is_due(&self, stage: Stage) -> bool
-        requires { IsWhole self.now.extent.now }
+        requires { IsWholeExtent self.now.extent.now }
         ensures { result ≡ is_due stage self.now.disks.now self.now.units.now self.now.shares.now self.now.extent.now }
     {
         for copy in 0..self.extent.copies {
@@ -110,7 +110,7 @@ impl AskedExtent<'_> {
     /// What the first of its copies says.
     #[tactic(auto, using(crate::proofs::Verdicts::said_more, crate::proofs::Verdicts::said_found, crate::proofs::Verdicts::said_start, crate::proofs::Verdicts::said_end))]
     pub fn first_said(&self, stage: Stage) -> Option<Next>
-        requires { IsWhole self.now.extent.now }
+        requires { IsWholeExtent self.now.extent.now }
         ensures { option_map next_meant result ≡ extent_says stage self.now.disks.now self.now.units.now self.now.shares.now self.now.extent.now }
     {
         for copy in 0..self.extent.copies {
@@ -125,8 +125,8 @@ impl AskedExtent<'_> {
     /// What a copy says: nothing where nothing is due.
     fn said_by(&self, stage: Stage, copy: u8) -> Option<Next>
         requires number { copy < 3 }
-        requires whole { IsWhole self.now.extent.now }
-        ensures { option_map next_meant result ≡ said_at stage self.now.disks.now self.now.units.now self.now.shares.now self.now.extent.now copy }
+        requires whole { IsWholeExtent self.now.extent.now }
+        ensures { option_map next_meant result ≡ copy_says stage self.now.disks.now self.now.units.now self.now.shares.now self.now.extent.now copy }
     {
         if self.is_due_at(stage, copy) {
             self.answer(stage, copy)
@@ -138,7 +138,7 @@ impl AskedExtent<'_> {
     /// Whether a copy lacks what the stage is about, whether or not a disk has room for it.
     fn is_due_at(&self, stage: Stage, copy: u8) -> bool
         requires number { copy < 3 }
-        requires whole { IsWhole self.now.extent.now }
+        requires whole { IsWholeExtent self.now.extent.now }
         ensures { result ≡ is_due_at stage self.now.disks.now self.now.units.now self.now.shares.now self.now.extent.now copy }
     {
         let disks = self.disks;
@@ -157,7 +157,7 @@ impl AskedExtent<'_> {
 
     /// What is said of a copy of which something is due.
     fn answer(&self, stage: Stage, copy: u8) -> Option<Next>
-        requires { IsWhole self.now.extent.now }
+        requires { IsWholeExtent self.now.extent.now }
         ensures { option_map next_meant result ≡ answer_at stage self.now.disks.now self.now.units.now self.now.shares.now self.now.extent.now copy }
     {
         let x = self.extent.id;

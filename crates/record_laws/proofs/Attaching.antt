@@ -25,13 +25,13 @@ use Rattle.status_register.specs.Surveys.{disk_in}
 use Rattle.status_register.specs.declared.member.Member.{Member as Disk}
 use Rattle.status_register.proofs.Holding.{among_below, entry_birth}
 use Rattle.status_register.proofs.Meeting.{enough_there, found}
-use Rattle.group_engine.specs.Members.{with_disk, without_disk}
+use Rattle.group_engine.specs.Members.{with_attached_disk, without_attached_disk}
 use Rattle.group_engine.specs.Mounts.{AreOwn, IsReady, IsWhole, MountedGroup, Mounts}
 use Rattle.group_engine.specs.declared.attached.Attached.{Attached}
 use Rattle.group_engine.proofs.Members.{set_or_was}
 use Rattle.group_engine.proofs.Renewing.{among_some}
 use Rattle.group_engine.proofs.Slots.{member_there}
-use Rattle.record_laws.specs.Attaching.{AttachedAddsSlot, AttachedMounts, DetachedAddsNone, DetachedMounts, MountedIsKept, OtherFlightsMount, has_slot, is_at, kept_of}
+use Rattle.record_laws.specs.Attaching.{AttachedAddsSlot, AttachedMounts, DetachedAddsNone, DetachedMounts, MountedIsKept, OtherFlightsMount, has_member_in_slot, is_at, kept_of}
 use Rattle.record_laws.proofs.Getting.{is_held, some_copy}
 use Rattle.record_laws.proofs.Images.{content, have}
 
@@ -54,7 +54,7 @@ own_any [] slot i k is at = absurd (none-some k is)
 own_any (o ∷ xs) slot zero k is at = λ j. (ap (is_at slot) is ∙ eq-eqb slot k.slot at) j || list_any (is_at slot) xs
 own_any (o ∷ xs) slot (suc i) k is at = or_true (is_at slot o) (list_any (is_at slot) xs) (own_any xs slot i k is at)
 
-pub slots_are_own : (m : MountedGroup) → AreOwn m (has_slot m)
+pub slots_are_own : (m : MountedGroup) → AreOwn m (has_member_in_slot m)
 slots_are_own m slot = (λ is. any_own m.register.members slot is, λ own. own_any m.register.members slot own.0 own.1 own.2 own.3)
 
 same_bool : (b c : Bool) → (b ≡ true → c ≡ true) → (c ≡ true → b ≡ true) → b ≡ c
@@ -66,7 +66,7 @@ pub mounted_is_kept : (s : BayState) → MountedIsKept s
 mounted_is_kept s n m g kept mounts = λ i. record {
   completed = mounts.completed i;
   begun = mounts.begun i;
-  slots = λ slot. same_bool (kept.slots slot) (has_slot m slot)
+  slots = λ slot. same_bool (kept.slots slot) (has_member_in_slot m slot)
       (λ is. (slots_are_own m slot).1 ((mounts.own slot).0 is)) (λ is. (mounts.own slot).1 ((slots_are_own m slot).0 is)) i;
 }
 
@@ -90,19 +90,19 @@ module _ (n : ℕ) (m : MountedGroup) (s : BayState) (g : Group) (kept : Kept) (
       abbrev attached : List Disk
       attached = attached_to places r
 
-      own_slots : (slot : ℕ) → slots_of attached slot ≡ true → has_slot new slot ≡ true
+      own_slots : (slot : ℕ) → slots_of attached slot ≡ true → has_member_in_slot new slot ≡ true
       own_slots slot is =
           let k = found (λ (j : Disk). j.slot == slot) attached is in
           let f = among_below places r 64 k.0 k.1 in
           own_any places slot f.0 k.0 f.2.there (sym (eqb-true k.0.slot slot k.2))
 
-      enough : IsTrue (is_enough r (within (has_slot new) all))
+      enough : IsTrue (is_enough r (within (has_member_in_slot new) all))
       unfolding is_enough
-      enough = more_enough r (slots_of attached) (has_slot new) all own_slots
+      enough = more_enough r (slots_of attached) (has_member_in_slot new) all own_slots
           (enough_there n id x attached (λ k h. let f = among_below places r 64 k h in on.now x left f.0 k f.2.there) r whole.reached)
 
       -- one of its copies is on a disk that is attached
-      standing : Standing id (disks_in n x) (has_slot new)
+      standing : Standing id (disks_in n x) (has_member_in_slot new)
       standing =
           let d = some_copy n m s g kept mounts x left in
           let c = whole.copies.all d.0 d.1 in
@@ -118,10 +118,10 @@ module _ (n : ℕ) (m : MountedGroup) (s : BayState) (g : Group) (kept : Kept) (
             entry_is = ap (entry_of r.entries) there.number ∙ entry.1;
             birth = entry.2 ∙ sym there.birth;
           } in
-          complete_stands id (disks_in n x) (g ∷ []) r (has_slot new) a (content n m s g kept mounts x left) ((is_held n m s g kept mounts x left).sound n) mounts.whole.alive enough
-          (among_some (has_slot new) all a seen (own_any places k.member.slot c.0.number k.member k.attached refl)) named (have n m s g kept mounts x left n a seen named)
+          complete_stands id (disks_in n x) (g ∷ []) r (has_member_in_slot new) a (content n m s g kept mounts x left) ((is_held n m s g kept mounts x left).sound n) mounts.whole.alive enough
+          (among_some (has_member_in_slot new) all a seen (own_any places k.member.slot c.0.number k.member k.attached refl)) named (have n m s g kept mounts x left n a seen named)
 
-      member_in : (slot : ℕ) → has_slot new slot ≡ true → IsMemberIn id x slot
+      member_in : (slot : ℕ) → has_member_in_slot new slot ≡ true → IsMemberIn id x slot
       member_in slot is =
           let f = any_own places slot is in
           let there = on.now x left f.0 f.1 f.2 in
@@ -149,7 +149,7 @@ module _ (n : ℕ) (m : MountedGroup) (s : BayState) (g : Group) (kept : Kept) (
 
 pub attached_mounts : (s : BayState) → AttachedMounts s
 attached_mounts s n m g kept x size mounts mounted on takes =
-    let new : MountedGroup = with_disk m x size in
+    let new : MountedGroup = with_attached_disk m x size in
     let t = takes mounted in
     other_disks_mount n m s g kept mounts new.register.members new.disks t.0 t.1 (record {
       now = λ image left i k is. ⊎_elim
@@ -160,7 +160,7 @@ attached_mounts s n m g kept x size mounts mounted on takes =
 
 pub detached_mounts : (s : BayState) → DetachedMounts s
 detached_mounts s n m g kept d mounts mounted takes =
-    let new : MountedGroup = without_disk m d in
+    let new : MountedGroup = without_attached_disk m d in
     let t = takes mounted in
     other_disks_mount n m s g kept mounts new.register.members new.disks t.0 t.1 (record {
       now = λ image left i k is. ⊎_elim
@@ -176,9 +176,9 @@ attached_adds_slot m x size = record {
   still = λ absent slot has.
       let f = any_own m.register.members slot has in
       let other : f.0 ≢ x.number = λ same. none-some f.1 (sym absent ∙ ap (λ (i : ℕ). get_or m.register.members i None) (sym same) ∙ f.2) in
-      own_any (with_disk m x size).register.members slot f.0 f.1 (get_or-set_other m.register.members x.number f.0 (Some x) None other ∙ f.2) f.3;
+      own_any (with_attached_disk m x size).register.members slot f.0 f.1 (get_or-set_other m.register.members x.number f.0 (Some x) None other ∙ f.2) f.3;
   alone = λ slot has.
-      let f = any_own (with_disk m x size).register.members slot has in
+      let f = any_own (with_attached_disk m x size).register.members slot has in
       ⊎_elim
       (λ was. inr (own_any m.register.members slot f.0 f.1 was f.3))
       (λ put. inl (f.3 ∙ ap (λ (k : Disk). k.slot) (sym (same_Some x f.1 put.0))))
@@ -187,7 +187,7 @@ attached_adds_slot m x size = record {
 
 pub detached_adds_none : DetachedAddsNone
 detached_adds_none m d slot has =
-    let f = any_own (without_disk m d).register.members slot has in
+    let f = any_own (without_attached_disk m d).register.members slot has in
     ⊎_elim (λ was. own_any m.register.members slot f.0 f.1 was f.3) (λ put. absurd (none-some f.1 put.0)) (set_or_was m.register.members d f.0 None f.1 f.2)
 
 -- ---- the move that is on its way

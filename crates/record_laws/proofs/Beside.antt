@@ -19,7 +19,7 @@ use Rattle.asm_images.proofs.Held.{bystanders_are_held}
 use Rattle.group_engine.proofs.catalog_tables.TableItems.{from_map}
 use Rattle.status_register.specs.Keeping.{EpochStands, HasHistory, ShowsEpoch}
 use Rattle.status_register.specs.SurveyLaws.{IsMemberOn}
-use Rattle.status_register.specs.Surveys.{disk_in, is_there, seen_of, shortfall}
+use Rattle.status_register.specs.Surveys.{disk_in, is_holder_there, seen_of, shortfall}
 use Rattle.status_register.specs.declared.member.Member.{Member as Disk}
 use Rattle.status_register.proofs.Holding.{disk_is}
 use Rattle.status_register.proofs.Losing.{more_among}
@@ -35,11 +35,11 @@ use Rattle.record_laws.proofs.Getting.{is_held}
 
 -- ---- majorities
 
-some_seen : (some more : List Disk) (set : List Holder) → ((h : Holder) → IsAmong set h → is_there some h ≡ true → is_there more h ≡ true) → seen_of some set ≤ seen_of more set
+some_seen : (some more : List Disk) (set : List Holder) → ((h : Holder) → IsAmong set h → is_holder_there some h ≡ true → is_holder_there more h ≡ true) → seen_of some set ≤ seen_of more set
 unfolding seen_of
-some_seen some more set also = more_among (is_there some) (is_there more) set also
+some_seen some more set also = more_among (is_holder_there some) (is_holder_there more) set also
 
-still_enough : (some more : List Disk) (all : List (List Holder)) → ((set : List Holder) (h : Holder) → IsAmong all set → IsAmong set h → is_there some h ≡ true → is_there more h ≡ true)
+still_enough : (some more : List Disk) (all : List (List Holder)) → ((set : List Holder) (h : Holder) → IsAmong all set → IsAmong set h → is_holder_there some h ≡ true → is_holder_there more h ≡ true)
     → shortfall some all ≡ None → shortfall more all ≡ None
 still_enough some more [] also none = refl
 still_enough some more (one ∷ others) also none = cond_both (nat_lt (length one) (2 * seen_of some one)) (shortfall some others) (Some (seen_of some one, length one / 2 + 1))
@@ -89,7 +89,7 @@ module _ (slot : ℕ) (x y : bay.Image) (changes : ChangesSlot slot x y) where
     apart : (k : Disk) → IsAmong (filter (λ (j : Disk). not (j.slot == slot)) stands.on) k → k.slot ≢ slot
     apart k among same = false≢true (sym (ap not (eq-eqb k.slot slot same)) ∙ filter_out (λ (j : Disk). not (j.slot == slot)) stands.on k among)
 
-    also_there : (set : List Holder) (h : Holder) → IsAmong (sets r) set → IsAmong set h → is_there stands.on h ≡ true → is_there (filter (λ (j : Disk). not (j.slot == slot)) stands.on) h ≡ true
+    also_there : (set : List Holder) (h : Holder) → IsAmong (sets r) set → IsAmong set h → is_holder_there stands.on h ≡ true → is_holder_there (filter (λ (j : Disk). not (j.slot == slot)) stands.on) h ≡ true
     also_there set h listed among is =
         let k = found (λ (j : Disk). (j.number == h.0) && (j.birth == h.1)) stands.on is in
         let parts = and_parts (k.0.number == h.0) (k.0.birth == h.1) k.2 in

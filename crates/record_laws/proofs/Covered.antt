@@ -13,11 +13,11 @@ use Rattle.asm_formats.specs.Content.{Content}
 use Rattle.asm_formats.specs.Among.{IsAmong}
 use Rattle.asm_placement.specs.Tables.{home_of}
 use Rattle.asm_placement.specs.Placed.{Placed, placed, fits_entry, is_inside, all_apart, places_fit}
-use Rattle.asm_images.specs.Members.{Image, Member, all_members, within}
+use Rattle.asm_images.specs.Members.{ImageBytes, Member, all_members, within}
 use Rattle.asm_images.specs.Directories.{directories, IsNamed}
 use Rattle.asm_images.specs.Copies.{is_kept}
 use Rattle.asm_images.specs.Describing.{DescribesGroup}
-use Rattle.asm_images.specs.Stands.{Describes, HasUnits}
+use Rattle.asm_images.specs.Stands.{Describes, HasEntryUnits}
 use Rattle.asm_images.specs.Sound.{IsCovered}
 use Rattle.asm_images.proofs.Membership.{among_within}
 use Rattle.asm_images.proofs.OneContent.{found_is_held}
@@ -35,17 +35,17 @@ home_has_entry s entries items f i copy h fit e =
     subst (λ (x : Home). is_some (entry_of entries x.disk) ≡ true) p.2 (entry_there s p.0 (entry_of entries p.0.home.disk) inside)
 
 -- Of two records: which copies the second names the first names too, all of these have one content, and what else the second must have.
-pub record IsAlike (id : ℕ) (image : Image) (g : Group) (r q : Status) (content : Content) (items : List Item) : Type 0 where
+pub record IsAlike (id : ℕ) (image : ImageBytes) (g : Group) (r q : Status) (content : Content) (items : List Item) : Type 0 where
   pub decodes : content.items ≡ Some items
   pub have : (k : Member) → IsAmong (all_members id image) k → IsNamed r k.header → k.disk.content ≡ Some content
   pub found : (k : Member) → IsAmong (all_members id image) k → IsNamed r k.header → directories r (within (λ any. true) (all_members id image)) ≡ Some content
   pub named : (h : Header) → IsNamed q h → IsNamed r h
   pub births : r.births ≤ q.births
-  pub units : (k : Member) → IsAmong (all_members id image) k → k.header.shape ≡ g.shape → HasUnits r k → HasUnits q k
+  pub units : (k : Member) → IsAmong (all_members id image) k → k.header.shape ≡ g.shape → HasEntryUnits r k → HasEntryUnits q k
   pub kept : (d : ℕ) (h : Header) → is_some (entry_of r.entries d) ≡ true → IsTrue (is_kept q d h) → IsTrue (is_kept r d h)
   pub describes : DescribesGroup q items g
 
-module _ (id : ℕ) (image : Image) (g : Group) (r q : Status) (content : Content) (items : List Item) (a : IsAlike id image g r q content items)
+module _ (id : ℕ) (image : ImageBytes) (g : Group) (r q : Status) (content : Content) (items : List Item) (a : IsAlike id image g r q content items)
     (cover : IsCovered id image (all_members id image) (g ∷ []) r) where
   abbrev ms : List Member
   ms = all_members id image

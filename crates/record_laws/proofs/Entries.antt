@@ -20,11 +20,11 @@ use Rattle.asm_placement.specs.Work.{is_regular}
 use Rattle.asm_images.specs.Bridge.{disks_in}
 use Rattle.asm_images.specs.Kept.{Kept, header_in}
 use Rattle.asm_images.specs.Copies.{is_disk_in, is_kept}
-use Rattle.asm_images.specs.Describing.{DescribesGroup, has_info}
+use Rattle.asm_images.specs.Describing.{DescribesGroup, has_info_in_items}
 use Rattle.asm_images.specs.Tables.{info_of}
 use Rattle.asm_images.specs.Members.{Member, all_members, is_disk}
 use Rattle.asm_images.proofs.UserBytes.{all_of_list}
-use Rattle.asm_images.specs.Stands.{HasUnits}
+use Rattle.asm_images.specs.Stands.{HasEntryUnits}
 use Rattle.asm_images.proofs.Bridges.{bytes_are_listed}
 use Rattle.group_engine.proofs.catalog_tables.TableItems.{from_map}
 use Rattle.group_engine.specs.catalog_tables.Items.{AreItemsOf}
@@ -85,7 +85,7 @@ module _ (s : BayState) (sound : IsSound s) (n : ℕ) (m : MountedGroup) (next :
         let born : on.header.birth ≡ k.header.birth = on.birth ∙ may.births d j.0 e j.1 is ∙ birth in
         fits_in e.units a.image.size (size_of_slot a.image.slot a.image.size (in_slot j.0.slot on.header on.header_is on.group number born ∙ j.2) (mounts.ready.sizes d a.image at)) a.units
 
-    kept_fits : KeepsEntry m e → HasUnits m.register.value k → e.units ≤ units_in k.header.shape k.disk.size
+    kept_fits : KeepsEntry m e → HasEntryUnits m.register.value k → e.units ≤ units_in k.header.shape k.disk.size
     kept_fits w had = ⊎_elim
         (λ le. omega (arith, le, had w.was (ap (λ (j : ℕ). entry_of m.register.value.entries j) (sym number_is) ∙ w.there) (w.birth ∙ birth)))
         (λ attached. attached_fits attached) w.room
@@ -93,7 +93,7 @@ module _ (s : BayState) (sound : IsSound s) (n : ℕ) (m : MountedGroup) (next :
     shown_fits : JoinsDisk m s e → e.units ≤ units_in k.header.shape k.disk.size
     shown_fits w = fits_in e.units w.size (size_of_slot w.slot w.size (in_slot w.slot w.header (w.shows.now x left) w.group (w.number ∙ number_is) (w.birth ∙ birth)) w.attached) w.units
 
-  has_units : HasUnits m.register.value k → HasUnits next k
+  has_units : HasEntryUnits m.register.value k → HasEntryUnits next k
   has_units had e is birth = ⊎_elim (λ w. kept_fits e is birth w had) (λ w. shown_fits e is birth w) (change.each e (entry_among next.entries k.header.number e is).0)
 
 -- ---- what does not depend on an image
@@ -124,11 +124,11 @@ module _ (s : BayState) (m : MountedGroup) (next : Status) (change : ChangesDisk
   kept_was d h some is = still_kept d h (entry_of next.entries d) refl some is
 
   module _ (may : IsNextOf m next) (g : Group) (shape : g.shape ≡ m.catalog.shape) (l : List Item) (are : AreItemsOf m.catalog.tables l) (d : DescribesGroup r l g) where
-    info : (e : Entry) → IsAmong next.entries e → has_info l e ≡ true
+    info : (e : Entry) → IsAmong next.entries e → has_info_in_items l e ≡ true
     info e h = ⊎_elim
         (λ w.
         let f = entry_among r.entries e.number w.was w.there in
-        (λ i. is_birth (sym w.birth i) (info_of l (sym f.1 i))) ∙ all_of_list (has_info l) r.entries w.was d.disks f.0)
+        (λ i. is_birth (sym w.birth i) (info_of l (sym f.1 i))) ∙ all_of_list (has_info_in_items l) r.entries w.was d.disks f.0)
         (λ w. ap (is_birth e.birth) (infos_are m.catalog.tables l are e.number) ∙ w.info)
         (change.each e h)
 
@@ -154,7 +154,7 @@ module _ (s : BayState) (m : MountedGroup) (next : Status) (change : ChangesDisk
       templates = d.templates;
       attributes = d.attributes;
       next = d.next;
-      disks = all_true (has_info l) next.entries info;
+      disks = all_true (has_info_in_items l) next.entries info;
       partners = change.partners;
       room = d.room;
     }

@@ -15,7 +15,7 @@ use Rattle.asm_images.specs.Describing.{DescribesGroup}
 use Rattle.asm_images.specs.Kept.{Kept, IsHeld}
 use Rattle.asm_images.specs.Members.{Member, all_members, within}
 use Rattle.asm_images.specs.Sound.{IsCovered}
-use Rattle.asm_images.specs.Stands.{HasUnits}
+use Rattle.asm_images.specs.Stands.{HasEntryUnits}
 use Rattle.asm_images.proofs.OneContent.{found_is_held}
 use Rattle.group_engine.specs.catalog_tables.Items.{AreItemsOf}
 use Rattle.status_register.specs.Holders.{numbered}
@@ -36,7 +36,7 @@ pub record HasBirth (r : Status) (birth : ℕ) : Type 0 where
 
 -- each member that has the units of its entry in r has those of its entry in q
 abbrev pub KeepsUnits : ℕ → bay.Image → Group → Status → Status → Type 0
-KeepsUnits id x g r q = (slots : ℕ) (k : Member) → IsAmong (all_members id (disks_in slots x)) k → k.header.shape ≡ g.shape → HasUnits r k → HasUnits q k
+KeepsUnits id x g r q = (slots : ℕ) (k : Member) → IsAmong (all_members id (disks_in slots x)) k → k.header.shape ≡ g.shape → HasEntryUnits r k → HasEntryUnits q k
 
 module _ (n : ℕ) (m : MountedGroup) (s : BayState) (g : Group) (kept : Kept) (mounts : Mounts n m s g kept) where
   abbrev r : Status

@@ -12,14 +12,14 @@ use Rattle.asm_formats.specs.Places.{SameElsewhere}
 use Rattle.asm_formats.specs.Status.{Entry, Status, is_status, status_spelling}
 use Rattle.asm_images.specs.Bridge.{disk_bytes, disks_in}
 use Rattle.asm_images.specs.Kept.{Kept, IsHeld}
-use Rattle.asm_images.specs.Members.{Image, all_members}
+use Rattle.asm_images.specs.Members.{ImageBytes, all_members}
 use Rattle.asm_images.specs.Sound.{IsCovered, SoundBy}
 use Rattle.asm_images.specs.Stands.{Standing}
 use Rattle.asm_images.specs.Steps.{RaisesRecords}
 use Rattle.asm_images.proofs.Bridges.{beyond_is_unseen, disks_are_listed, range_change, same_is_same}
 use Rattle.asm_images.proofs.History.{status_counts, status_parts}
 use Rattle.asm_images.proofs.Slots.{fewer_slots_are_sound}
-use Rattle.status_register.specs.History.{FitsIn}
+use Rattle.status_register.specs.History.{FitsHistory}
 use Rattle.status_register.specs.Holders.{attached_to}
 use Rattle.status_register.specs.Keeping.{KeepsOn}
 use Rattle.status_register.specs.Registered.{Registered}
@@ -51,25 +51,25 @@ module _ (id : ℕ) (s : Status) (allowed : IsTrue (is_status s)) (groups : List
       (λ (lt : slot < slots).
       let there = disks_are_listed slots slot x lt in
       let change = range_change slots slot (status_gate id slot x * block_size) (2 * block_size) x y step.elsewhere in
-      subst (λ (image : Image). IsCovered id image (all_members id image) groups r) (sym change.0)
+      subst (λ (image : ImageBytes). IsCovered id image (all_members id image) groups r) (sym change.0)
       (record_covers id (disks_in slots x) groups r s slot (disk_bytes y slot) (status_gate id slot x * block_size) (2 * block_size) (omega (arith, lt, there.0))
       (subst (λ (bytes : List ℕ). RaisesRecords id (metadata bytes) (metadata (disk_bytes y slot)) s) (sym there.1) (raises (suc slot) id slot s allowed (omega arith) x y long step))
       (subst (λ (bytes : List ℕ). SameElsewhere bytes (disk_bytes y slot) (status_gate id slot x * block_size) (2 * block_size)) (sym there.1) change.1)
       (⊎_elim (λ is. omega (arith, is)) (λ is. omega (arith, is)) (status_gate_either id slot x)) births before))
-      (λ le. subst (λ (image : Image). IsCovered id image (all_members id image) groups r)
+      (λ le. subst (λ (image : ImageBytes). IsCovered id image (all_members id image) groups r)
       (sym (beyond_is_unseen slots slot x y le (record { size = λ k differ. step.elsewhere.size k; byte = λ k j differ. step.elsewhere.byte k j (λ inside. differ inside.0) }))) before)
       (cases_lt slot slots)
 
   -- on several
   row_covers : (ms : List Disk) (x y : bay.Image) → AreLong ms x → PutsRow (status_gate id) ms (status_spelling s) x y
       → (slots : ℕ) → IsCovered id (disks_in slots x) (all_members id (disks_in slots x)) groups r → IsCovered id (disks_in slots y) (all_members id (disks_in slots y)) groups r
-  row_covers ms x y long (no_put a b same) slots before = subst (λ (image : Image). IsCovered id image (all_members id image) groups r) (sym (same_is_same slots a b same)) before
+  row_covers ms x y long (no_put a b same) slots before = subst (λ (image : ImageBytes). IsCovered id image (all_members id image) groups r) (sym (same_is_same slots a b same)) before
   row_covers ms x z long (one_put a y b m among row step) slots before =
       put_covers m.slot y b (omega (arith, long m among, row_sizes (status_gate id) ms (status_spelling s) a y row m.slot)) step slots (row_covers ms a y long row slots before)
 
 -- ---- nothing stands by a record that is gone
 
-gone_has_none : (id : ℕ) (image : Image) (q : Status) (readable : ℕ → Bool) → q.gone ≡ true → SoundBy id image [] (Some q) [] → Standing id image readable → ⊥
+gone_has_none : (id : ℕ) (image : ImageBytes) (q : Status) (readable : ℕ → Bool) → q.gone ≡ true → SoundBy id image [] (Some q) [] → Standing id image readable → ⊥
 gone_has_none id image q readable gone sound stands =
     let same : stands.record_ ≡ q = ⊎_elim (λ e. e) (λ none. absurd none) (status_counts id (all_members id image) (Some q) [] readable stands.record_ sound.fits stands.status_is) in
     let p = status_parts id _ stands.record_ stands.status_is in
@@ -120,8 +120,8 @@ module _ (s t : BayState) (sound : IsSound s) (n : ℕ) (old new : MountedGroup)
             (λ begun. ⊎_elim (λ (same : u ≡ q). absurd (false≢true (sym alive ∙ ap (λ (v : Status). v.gone) same))) (λ none. absurd none) begun) counts;
       })
 
-  fits_now : (b : ℕ) (y : bay.Image) → n ≤ b → t.leaves t.calls y → FitsIn b id (Some q) [] y
-  fits_now b y le left = subst (λ (x : Registered). FitsIn b x.id (Some x.value) [] y) gone.written.register ((wide b le).after.now.now y left).fits
+  fits_now : (b : ℕ) (y : bay.Image) → n ≤ b → t.leaves t.calls y → FitsHistory b id (Some q) [] y
+  fits_now b y le left = subst (λ (x : Registered). FitsHistory b x.id (Some x.value) [] y) gone.written.register ((wide b le).after.now.now y left).fits
 
   gone_from : (y : bay.Image) → t.leaves t.calls y → (few : ℕ) → SoundBy id (disks_in few y) [] (Some q) []
   gone_from y left few =

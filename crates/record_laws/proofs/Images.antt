@@ -29,7 +29,7 @@ use Rattle.status_register.specs.Surveys.{disk_in}
 use Rattle.status_register.specs.declared.member.Member.{Member as Disk}
 use Rattle.status_register.proofs.Holding.{among_below, entry_birth}
 use Rattle.status_register.proofs.Meeting.{enough_there, found}
-use Rattle.group_engine.specs.CommitSteps.{content_of}
+use Rattle.group_engine.specs.CommitSteps.{content_of_items}
 use Rattle.group_engine.specs.Mounts.{MountedGroup, Mounts}
 use Rattle.group_engine.specs.Recorded.{IsThere}
 use Rattle.group_engine.specs.Statuses.{IsNextOf}
@@ -53,7 +53,7 @@ module _ (n : ℕ) (m : MountedGroup) (s : BayState) (g : Group) (kept : Kept) (
   said = (items n m s g kept mounts).0
 
   abbrev pub content : Content
-  content = content_of m.store.number said
+  content = content_of_items m.store.number said
 
   no_change : ChangesOnly (RegionsOf m.store.copies) x x
   no_change = record { size = λ slot. refl; byte = λ slot k out. refl }

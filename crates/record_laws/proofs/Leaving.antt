@@ -24,7 +24,7 @@ use Rattle.asm_images.proofs.Spans.{widen_keeps}
 use Rattle.group_engine.proofs.catalog_tables.TableItems.{from_map}
 use Rattle.status_register.specs.declared.member.Member.{Member as Disk}
 use Rattle.group_engine.specs.Commits.{CommitsChange, LeadsTo, StandsIn}
-use Rattle.group_engine.specs.Members.{without_disk}
+use Rattle.group_engine.specs.Members.{without_attached_disk}
 use Rattle.group_engine.specs.Mounts.{IsOwn, MountedGroup, Mounts, Takes, slot_at}
 use Rattle.group_engine.specs.Recorded.{MayGet}
 use Rattle.group_engine.proofs.Cuts.{disk_surplus}
@@ -32,7 +32,7 @@ use Rattle.group_engine.proofs.Endings.{kept_before}
 use Rattle.group_engine.proofs.Members.{detached_takes, left_own, none_filtered, none_left, set_or_was}
 use Rattle.group_engine.proofs.Records.{record_parts}
 use Rattle.group_engine.proofs.Surplus.{surplus_leads_on}
-use Rattle.record_laws.specs.Attaching.{has_slot, kept_of}
+use Rattle.record_laws.specs.Attaching.{has_member_in_slot, kept_of}
 use Rattle.record_laws.specs.Beside.{HasNoEntry}
 use Rattle.record_laws.specs.Getting.{ComesNext}
 use Rattle.record_laws.specs.Leaving.{GoesOnWithSome, IsLetGo, LeavesInSteps, LeavesOut, LeavingGoesOn, LeavingLetsGo, LeftRecordMayBeGot, StandsWithSome}
@@ -129,7 +129,7 @@ module _ (s t u : BayState) (sound : IsSound s) (n : ℕ) (a b c : MountedGroup)
   none = ap (λ (r : Status). entry_of r.entries d) steps.written.recorded ∙ ap (λ (es : List Entry). entry_of es d) out.entries ∙ none_filtered a.register.value.entries d
 
   abbrev left : MountedGroup
-  left = without_disk b d
+  left = without_attached_disk b d
 
   takes : Takes left t
   takes = detached_takes b d t none (λ mounted. (steps.written.keeps.whole mounted, steps.written.keeps.ready mounted))
@@ -146,7 +146,7 @@ module _ (s t u : BayState) (sound : IsSound s) (n : ℕ) (a b c : MountedGroup)
   same_id : b.register.id ≡ a.register.id
   same_id = steps.written.keeps.same.id
 
-  fewer : (slot : ℕ) → has_slot left slot ≡ true → kept.slots slot ≡ true
+  fewer : (slot : ℕ) → has_member_in_slot left slot ≡ true → kept.slots slot ≡ true
   fewer slot has =
       let of = left_own b d t slot ((slots_are_own left slot).0 has) in
       (comes.mounts.own slot).1 (of.0, of.1, ap (λ (l : List (Option Disk)). get_or l of.0 None) (sym steps.written.keeps.same.members) ∙ of.2, of.3)

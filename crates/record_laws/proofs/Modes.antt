@@ -11,7 +11,7 @@ use Rattle.asm_placement.specs.Modes.{is_forced}
 use Rattle.asm_placement.specs.Partners.{HasPartners}
 use Rattle.asm_images.specs.Copies.{is_disk_in, is_kept}
 use Rattle.asm_images.specs.Members.{Member, is_disk}
-use Rattle.asm_images.specs.Stands.{HasUnits}
+use Rattle.asm_images.specs.Stands.{HasEntryUnits}
 use Rattle.asm_images.specs.RecordLaws.{ChangesModes, bare}
 use Rattle.group_engine.proofs.Calls.{items}
 use Rattle.group_engine.proofs.NextRecords.{same_disks_are_next}
@@ -20,7 +20,7 @@ use Rattle.asm_images.proofs.Bare.{births_in, has_bare}
 use Rattle.record_laws.proofs.Described.{modes_describe}
 use Rattle.record_laws.proofs.Getting.{may_be_got}
 
-same_units : (r s : Status) (k : Member) → ChangesModes r s → HasUnits r k → HasUnits s k
+same_units : (r s : Status) (k : Member) → ChangesModes r s → HasEntryUnits r k → HasEntryUnits s k
 same_units r s k change had e is birth =
     let b = has_bare s.entries r.entries k.header.number e change.entries is in
     subst (λ (n : ℕ). n ≤ units_in k.header.shape k.disk.size) (sym (ap (λ (x : ℕ × ℕ × ℕ × Bool). x.2) b.same))

@@ -15,10 +15,10 @@ use Rattle.asm_placement.specs.Modes.{stays}
 use Rattle.asm_images.specs.Bridge.{disks_in}
 use Rattle.asm_images.specs.Kept.{IsHeld, Kept}
 use Rattle.asm_images.specs.Stands.{Standing}
-use Rattle.group_engine.specs.catalog.Plans.{IsPlan, with_record}
+use Rattle.group_engine.specs.catalog.Plans.{IsPlan, with_disk_record}
 use Rattle.group_engine.specs.catalog_tables.Rules.{KeepsRules}
 use Rattle.group_engine.specs.Commits.{CommitsPlan}
-use Rattle.group_engine.specs.Members.{without_disk}
+use Rattle.group_engine.specs.Members.{without_attached_disk}
 use Rattle.group_engine.specs.Mounts.{IsMounted, IsOwn, MountedGroup, Mounts, slot_at}
 use Rattle.group_engine.specs.Recorded.{MayGet}
 use Rattle.group_engine.specs.Statuses.{WritesStatus}
@@ -47,11 +47,11 @@ pub record LeavesInSteps (a b c : MountedGroup) (d : ℕ) (next : Status) (s t u
   pub written : WritesStatus a next (Ok tt) b s t
   -- turns don't run out
   pub turns : b.register.turn + 1 < 2 ^ 64
-  pub put : List records.Entry
+  pub put : List records.DirectoryRecord
   pub gone : List Key
-  pub plan : IsPlan b.catalog put gone (record b.catalog.tables { disks = with_record b.catalog.tables.disks d None })
+  pub plan : IsPlan b.catalog put gone (record b.catalog.tables { disks = with_disk_record b.catalog.tables.disks d None })
   pub answer : Result (Unit {0}) Refusal
-  pub commit : CommitsPlan (without_disk b d) put gone answer c t u
+  pub commit : CommitsPlan (without_attached_disk b d) put gone answer c t u
 
 -- The image is held for the groups with some of the disks that were attached, by the history that was kept or one that goes on from it.
 pub record StandsWithSome (n id : ℕ) (groups : List Group) (kept : Kept) (image : Image) : Type 0 where

@@ -5,7 +5,7 @@ use Rattle.std.specs.Option.{option_map}
 use Rattle.std.proofs.lemmas.Bool.{and_parts, eqb-true, eq-eqb, lt-ltb, ne_eqb}
 use Rattle.asm_base.specs.asm_group.Names.{Bytes}
 use Rattle.asm_base.specs.asm_formats.Items.{Homes, chunk_item, is_home, is_homes, is_item}
-use Rattle.asm_base.specs.asm_formats.Values.{value, decoded_item, item_by, home_fields, homes_at}
+use Rattle.asm_base.specs.asm_formats.Values.{value, decoded_item, item_by, home_fields, homes_in_bytes}
 use Rattle.asm_base.specs.Records.{all_of}
 use Rattle.asm_base.proofs.Exact.{AreFitting, IsExact, repeated_exact}
 use Rattle.record_values.specs.Values.{chunk_reading, extent_reading}
@@ -58,13 +58,13 @@ chunk_spelt : (f c : ℕ) (homes : List Homes) → value (chunk_item f c homes) 
 unfolding value
 chunk_spelt f c homes = refl
 
-chunk_form : (f c : ℕ) (bytes : Bytes) → item_by (record { kind = 1; a = f; b = c + 1 }) bytes ≡ chunk_item f c (homes_at bytes)
+chunk_form : (f c : ℕ) (bytes : Bytes) → item_by (record { kind = 1; a = f; b = c + 1 }) bytes ≡ chunk_item f c (homes_in_bytes bytes)
 unfolding item_by
 chunk_form f c bytes =
     let some : eqb (c + 1) 0 ≡ false = ne_eqb (c + 1) 0 (λ e. omega (arith, e)) in
     let back : c + 1 - 1 ≡ c = omega arith in
-    rw some (ap (λ (b : ℕ). chunk_item f b (homes_at bytes)) back)
+    rw some (ap (λ (b : ℕ). chunk_item f b (homes_in_bytes bytes)) back)
 
 pub chunk_decoded : (f c : ℕ) (bytes : Bytes) → f < 2 ^ 32 → c + 1 < 2 ^ 32 → option_map (chunk_item f c) (all_of chunk_reading bytes) ≡ decoded_item (record { kind = 1; a = f; b = c + 1 }) bytes
 chunk_decoded f c bytes file number =
-    value_decoded chunk_exact (record { kind = 1; a = f; b = c + 1 }) (chunk_item f c) (homes_at bytes) bytes (chunk_form f c bytes) (chunk_spelt f c) (λ homes fits. (chunk_allowed f c homes file number fits, refl)) (chunk_fits f c)
+    value_decoded chunk_exact (record { kind = 1; a = f; b = c + 1 }) (chunk_item f c) (homes_in_bytes bytes) bytes (chunk_form f c bytes) (chunk_spelt f c) (λ homes fits. (chunk_allowed f c homes file number fits, refl)) (chunk_fits f c)

@@ -5,10 +5,10 @@ use Rattle.std.specs.Option.{option_and_then, option_map}
 use Rattle.std.proofs.lemmas.Bool.{and_parts, cases_eq, eqb-true, eq-eqb, leb-true, lt-ltb, ltb-true, ne_eqb, true≢false}
 use Rattle.std.proofs.lemmas.List.{take_at}
 use Rattle.asm_base.specs.asm_group.Names.{Bytes, is_name, is_part}
-use Rattle.asm_base.specs.asm_formats.Bytes.{number, name_field}
+use Rattle.asm_base.specs.asm_formats.Bytes.{number_bytes, name_field}
 use Rattle.asm_base.specs.asm_formats.Items.{Home, is_home, is_redundancy}
 use Rattle.asm_base.specs.asm_formats.Values.{home_fields}
-use Rattle.asm_base.specs.Parts.{home_of, home_reading}
+use Rattle.asm_base.specs.Parts.{home_of_numbers, home_reading}
 use Rattle.asm_base.specs.Readings.{both, byte_reading, number_reading, name_reading, text_reading}
 use Rattle.asm_base.proofs.Exact.{IsBytes, IsExact, Begins, bind_some, test_some, some_is, chosen, both_exact, tested_exact, fits_exact}
 use Rattle.asm_base.proofs.Numbers.{number_exact, IsBytes-take}
@@ -24,7 +24,7 @@ few_copies n ok = omega (arith, leb-true n 3 (and_parts (leb 1 n) (leb n 3) ok).
 pub copies_exact : IsExact one_byte (λ n. (n < 256) × (is_redundancy n ≡ true)) copies_reading
 copies_exact = tested_exact is_redundancy byte_exact
 
-pub system_exact : IsExact (number w32) (λ n. (n < 2 ^ 32) × (ltb 0 n ≡ true)) system_reading
+pub system_exact : IsExact (number_bytes w32) (λ n. (n < 2 ^ 32) × (ltb 0 n ≡ true)) system_reading
 system_exact = tested_exact (λ n. ltb 0 n) (number_exact w32)
 
 -- ---- names
@@ -75,14 +75,14 @@ home_code None = (255, 0)
 home_code (Some h) = (h.disk, h.unit)
 
 abbrev pair_fields : ℕ × ℕ → List ℕ
-pair_fields p = one_byte p.0 ++ number w32 p.1
+pair_fields p = one_byte p.0 ++ number_bytes w32 p.1
 
 home_spelt : (o : Option Home) → pair_fields (home_code o) ≡ home_fields o
 unfolding home_code
 home_spelt None = refl
 home_spelt (Some h) = refl
 
-home_known : (o : Option Home) → IsHome o → home_of (home_code o) ≡ Some o
+home_known : (o : Option Home) → IsHome o → home_of_numbers (home_code o) ≡ Some o
 unfolding home_code
 home_known None ok = refl
 home_known (Some h) ok = let p = home_parts h ok in rw (ne_eqb h.disk 255 (λ e. omega (arith, p.0, e))) refl
@@ -98,7 +98,7 @@ below_255 n small other = elim (cases_eq n 255) [
   | inr ne ↦ omega (arith, small, ne)
 ]
 
-home_one : (p : ℕ × ℕ) (o : Option Home) → p.0 < 256 → p.1 < 2 ^ 32 → home_of p ≡ Some o → (p ≡ home_code o) × IsHome o
+home_one : (p : ℕ × ℕ) (o : Option Home) → p.0 < 256 → p.1 < 2 ^ 32 → home_of_numbers p ≡ Some o → (p ≡ home_code o) × IsHome o
 unfolding home_code
 home_one p o byte unit e = elim (chosen (eqb p.0 255) (cond (eqb p.1 0) (Some None) None) (Some (Some (record { disk = p.0; unit = p.1 }))) (Some o) e) [
   | inl away ↦
@@ -114,9 +114,9 @@ pub home_exact : IsExact home_fields IsHome home_reading
 unfolding home_reading
 home_exact = record {
   takes = λ bytes x rest fits e.
-      let a = bind_some (λ (u : (ℕ × ℕ) × List ℕ). option_map (λ (y : Option Home). (y, u.1)) (home_of u.0)) (both byte_reading (number_reading w32) bytes) (x, rest) e in
+      let a = bind_some (λ (u : (ℕ × ℕ) × List ℕ). option_map (λ (y : Option Home). (y, u.1)) (home_of_numbers u.0)) (both byte_reading (number_reading w32) bytes) (x, rest) e in
       let one = pair_exact.takes bytes a.0.0 a.0.1 fits a.1 in
-      let m = map_some (λ (y : Option Home). (y, a.0.1)) (home_of a.0.0) (x, rest) a.2 in
+      let m = map_some (λ (y : Option Home). (y, a.0.1)) (home_of_numbers a.0.0) (x, rest) a.2 in
       let is = home_one a.0.0 m.0 one.fits.0 one.fits.1 m.1 in
       let parts : bytes ≡ home_fields m.0 ++ a.0.1 = one.parts ∙ ap (λ (v : ℕ × ℕ). pair_fields v ++ a.0.1) is.0 ∙ ap (λ (w : List ℕ). w ++ a.0.1) (home_spelt m.0) in
       let whole : Begins home_fields IsHome bytes m.0 a.0.1 = record { parts = parts; fits = is.1; rest_bytes = one.rest_bytes } in

@@ -5,7 +5,7 @@ use Rattle.std.specs.Option.{option_map}
 use Rattle.std.proofs.lemmas.Bool.{and_parts, ltb-true, lt-ltb}
 use Rattle.asm_base.specs.asm_group.Names.{Bytes, is_part}
 use Rattle.asm_base.specs.asm_formats.Items.{Node, node_item, is_item}
-use Rattle.asm_base.specs.asm_formats.Values.{value, decoded_item, item_by, node_value, node_at}
+use Rattle.asm_base.specs.asm_formats.Values.{value, decoded_item, item_by, node_value, node_in_bytes}
 use Rattle.asm_base.specs.Parts.{NodeParts, to_node}
 use Rattle.asm_base.specs.Records.{all_of}
 use Rattle.asm_base.proofs.Exact.{IsExact, both_exact, as_exact, fits_exact}
@@ -46,10 +46,10 @@ node_fits n node ok =
     let c = and_parts (ltb node.file (2 ^ 32)) (is_part 80 node.name) b.1 in
     (ltb-true 0 n z.0, ltb-true n (2 ^ 32) a.0, record { parent = ltb-true node.parent (2 ^ 32) b.0; file = ltb-true node.file (2 ^ 32) c.0; name = c.1 })
 
-pub node_form : (n b : ℕ) (bytes : Bytes) → item_by (record { kind = 6; a = n; b = b }) bytes ≡ node_item n (node_at bytes)
+pub node_form : (n b : ℕ) (bytes : Bytes) → item_by (record { kind = 6; a = n; b = b }) bytes ≡ node_item n (node_in_bytes bytes)
 unfolding item_by
 node_form n b bytes = refl
 
 pub node_decoded : (n : ℕ) (bytes : Bytes) → 0 < n → n < 2 ^ 32 → option_map (node_item n) (all_of node_reading bytes) ≡ decoded_item (record { kind = 6; a = n; b = 0 }) bytes
 node_decoded n bytes some lt =
-    value_decoded node_exact (record { kind = 6; a = n; b = 0 }) (node_item n) (node_at bytes) bytes (node_form n 0 bytes) (node_spelt n) (λ node fits. (node_allowed n node some lt fits, refl)) (λ node ok. (node_fits n node ok).2)
+    value_decoded node_exact (record { kind = 6; a = n; b = 0 }) (node_item n) (node_in_bytes bytes) bytes (node_form n 0 bytes) (node_spelt n) (λ node fits. (node_allowed n node some lt fits, refl)) (λ node ok. (node_fits n node ok).2)

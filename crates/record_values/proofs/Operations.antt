@@ -4,7 +4,7 @@ use Rattle.std.specs.Int.{w16, w32, w64}
 use Rattle.std.specs.Option.{option_map}
 use Rattle.std.proofs.lemmas.Bool.{and_parts, ltb-true, lt-ltb, ne_eqb}
 use Rattle.asm_base.specs.asm_group.Names.{Bytes}
-use Rattle.asm_base.specs.asm_formats.Bytes.{number}
+use Rattle.asm_base.specs.asm_formats.Bytes.{number_bytes}
 use Rattle.asm_base.specs.asm_formats.Items.{Pending, pending_item, rebalance_item, is_item}
 use Rattle.asm_base.specs.asm_formats.Values.{value, decoded_item, item_by, pending_value, pending_at}
 use Rattle.asm_base.specs.Parts.{PendingParts, to_pending}
@@ -18,7 +18,7 @@ use Rattle.record_values.proofs.Decoded.{value_decoded}
 
 -- ---- the power
 
-power_spelt : (n : ℕ) → value (rebalance_item n) ≡ number w16 n
+power_spelt : (n : ℕ) → value (rebalance_item n) ≡ number_bytes w16 n
 unfolding value
 power_spelt n = refl
 

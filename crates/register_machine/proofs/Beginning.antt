@@ -5,7 +5,7 @@ use Rattle.asm_formats.specs.Among.{IsAmong}
 use Rattle.asm_formats.specs.Status.{Status, is_status}
 use Rattle.asm_formats.specs.Following.{Holder, rank, sets, Follows, most_pass}
 use Rattle.asm_formats.proofs.Orders.{is_ranked}
-use Rattle.register_machine.specs.Disks.{Disks, is_enough, has_claim}
+use Rattle.register_machine.specs.Disks.{DisksByHolder, is_enough, has_claim}
 use Rattle.register_machine.specs.Machine.{Mark, Begun, Completed, Program, Idle, Claiming, Claimed, Writing, Holding, MayBegin}
 use Rattle.register_machine.specs.Laws.{begun, begun_since, last_completed}
 use Rattle.register_machine.proofs.Counting.{majority_grows, majority_of}
@@ -16,13 +16,13 @@ use Rattle.register_machine.proofs.Invariant.{AtBase, Kept, IsClaim, Knows}
 
 -- ---- a record of a greatest number that follows, whose epoch the shared set shows
 
-pub record IsNext (disks : Disks) (history : List Mark) (next : Status) : Type 0 where
+pub record IsNext (disks : DisksByHolder) (history : List Mark) (next : Status) : Type 0 where
   pub allowed : is_status next ≡ true
   pub above : (g : Status) → IsAmong (begun history) g → rank g < rank next
   pub follows : (v : Status) → base history ≡ Some v → Follows v next
   pub shown : (v : Status) → base (Begun next ∷ history) ≡ Some v → most_pass (shows_from disks next.epoch) (pivot (sets v)) ≡ true
 
-module _ (disks : Disks) (history : List Mark) (next : Status) (kept : Kept disks history) (is : IsNext disks history next) where
+module _ (disks : DisksByHolder) (history : List Mark) (next : Status) (kept : Kept disks history) (is : IsNext disks history next) where
   -- the first record of all
   first_base : history ≡ [] → base history ≡ None → AtBase disks (Begun next ∷ history) next
   first_base nothing none = record {
@@ -83,7 +83,7 @@ module _ (disks : Disks) (history : List Mark) (next : Status) (kept : Kept disk
 -- ---- what the program may begin
 
 -- after a claim
-claimed_next : (disks : Disks) (history : List Mark) (found : Status) (epoch : ℕ) (next : Status) → Kept disks history → is_status next ≡ true → IsClaim history found epoch → is_enough (has_claim disks epoch) found ≡ true
+claimed_next : (disks : DisksByHolder) (history : List Mark) (found : Status) (epoch : ℕ) (next : Status) → Kept disks history → is_status next ≡ true → IsClaim history found epoch → is_enough (has_claim disks epoch) found ≡ true
     → next.epoch ≡ epoch → sets next ≡ sets found → IsNext disks history next
 claimed_next disks history found epoch next kept allowed claim claims is same = record {
   allowed = allowed;
@@ -102,7 +102,7 @@ claimed_next disks history found epoch next kept allowed claim claims is same = 
     base_follows (Some u) some v e = follows v (some ∙ e)
 
 -- after a record of its own
-holding_next : (disks : Disks) (history : List Mark) (last next : Status) → Kept disks history → is_status next ≡ true → base history ≡ Some last → ((g : Status) → IsAmong (begun history) g → (g ≡ last) ⊎ (rank g < rank last))
+holding_next : (disks : DisksByHolder) (history : List Mark) (last next : Status) → Kept disks history → is_status next ≡ true → base history ≡ Some last → ((g : Status) → IsAmong (begun history) g → (g ≡ last) ⊎ (rank g < rank last))
     → next.epoch ≡ last.epoch → last.turn < next.turn → Follows last next → IsNext disks history next
 holding_next disks history last next kept allowed at top epoch turn follows = record {
   allowed = allowed;
@@ -118,7 +118,7 @@ holding_next disks history last next kept allowed at top epoch turn follows = re
     base_is : AtBase disks history last
     base_is = kept.at_base last at
 
-pub may_begin : (disks : Disks) (history : List Mark) (p : Program) (next : Status) → Kept disks history → Knows disks history p → is_status next ≡ true → MayBegin p next → IsNext disks history next
+pub may_begin : (disks : DisksByHolder) (history : List Mark) (p : Program) (next : Status) → Kept disks history → Knows disks history p → is_status next ≡ true → MayBegin p next → IsNext disks history next
 may_begin disks history Idle next kept knows allowed may = absurd may
 may_begin disks history (Claiming found epoch) next kept knows allowed may = absurd may
 may_begin disks history (Claimed found epoch) next kept knows allowed may = claimed_next disks history found epoch next kept allowed knows.0 knows.1 may.0 may.1

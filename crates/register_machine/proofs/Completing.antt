@@ -6,7 +6,7 @@ use Rattle.std.proofs.lemmas.Option.{same_Some}
 use Rattle.asm_formats.specs.Among.{IsAmong}
 use Rattle.asm_formats.specs.Status.{Status}
 use Rattle.asm_formats.specs.Following.{Holder, rank, sets, Follows, most_pass}
-use Rattle.register_machine.specs.Disks.{Disks, is_enough, has_number, has_record, epoch_of}
+use Rattle.register_machine.specs.Disks.{DisksByHolder, is_enough, has_number, has_record, epoch_of}
 use Rattle.register_machine.specs.Machine.{Mark, Begun, Completed}
 use Rattle.register_machine.specs.Laws.{begun}
 use Rattle.register_machine.proofs.Counting.{majority_grows, majority_of, enough_grows}
@@ -20,7 +20,7 @@ is_number : (n : ℕ) (o : Option Status) → has_number n o ≡ true → is_fro
 is_number n None h = h
 is_number n (Some r) h = le-leb n (rank r) (let same = eqb-true (rank r) n h in omega (arith, same))
 
-module _ (disks : Disks) (history older : List Mark) (next : Status) (kept : Kept disks history) (is : history ≡ Begun next ∷ older) (done : is_enough (has_record disks next) next ≡ true) where
+module _ (disks : DisksByHolder) (history older : List Mark) (next : Status) (kept : Kept disks history) (is : history ≡ Begun next ∷ older) (done : is_enough (has_record disks next) next ≡ true) where
   top : (r : Status) → IsAmong (begun history) r → (r ≡ next) ⊎ (rank r < rank next)
   top = writing_newest disks history older next kept is
 

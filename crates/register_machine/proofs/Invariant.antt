@@ -3,7 +3,7 @@ use Rattle.std.proofs.Common.{◌≡◌, ◌⊎◌, ℕ, ◌+◌, ◌<◌, ◌�
 use Rattle.asm_formats.specs.Among.{IsAmong}
 use Rattle.asm_formats.specs.Status.{Status, is_status}
 use Rattle.asm_formats.specs.Following.{Holder, rank, sets, Follows, most_pass}
-use Rattle.register_machine.specs.Disks.{Disks, is_enough, has_claim}
+use Rattle.register_machine.specs.Disks.{DisksByHolder, is_enough, has_claim}
 use Rattle.register_machine.specs.Machine.{Mark, Begun, Completed, Program, Idle, Claiming, Claimed, Writing, Holding, State}
 use Rattle.register_machine.specs.Laws.{begun, begun_since, last_completed, IsCurrent, AreNumbered}
 use Rattle.register_machine.proofs.Pivots.{pivot}
@@ -11,13 +11,13 @@ use Rattle.register_machine.proofs.Rising.{has_from, shows_from}
 use Rattle.register_machine.proofs.Histories.{base}
 
 -- a majority of one of its sets holds greater records: so no disks that are enough for it have it as their greatest
-pub record Superseded (disks : Disks) (g : Status) : Type 0 where
+pub record Superseded (disks : DisksByHolder) (g : Status) : Type 0 where
   pub set : List Holder
   pub among : IsAmong (sets g) set
   pub greater : most_pass (has_from disks (rank g + 1)) set ≡ true
 
 -- of the record that was completed last, or else begun first
-pub record AtBase (disks : Disks) (history : List Mark) (v : Status) : Type 0 where
+pub record AtBase (disks : DisksByHolder) (history : List Mark) (v : Status) : Type 0 where
   pub is_begun : IsAmong (begun history) v
   -- smaller records are superseded, the others follow and are current
   pub superseded : (g : Status) → IsAmong (begun history) g → rank g < rank v → Superseded disks g
@@ -31,7 +31,7 @@ pub record AtBase (disks : Disks) (history : List Mark) (v : Status) : Type 0 wh
   pub stands : last_completed history ≡ Some v → is_enough (has_from disks (rank v)) v ≡ true
   pub completed : (w : Status) → IsAmong history (Completed w) → (w ≡ v) ⊎ (rank w < rank v)
 
-pub record Kept (disks : Disks) (history : List Mark) : Type 0 where
+pub record Kept (disks : DisksByHolder) (history : List Mark) : Type 0 where
   pub allowed : (r : Status) → IsAmong (begun history) r → is_status r ≡ true
   pub held : (d : Holder) (r : Status) → (disks d).status ≡ Some r → IsAmong (begun history) r
   pub numbered : AreNumbered (begun history)
@@ -43,7 +43,7 @@ pub record IsClaim (history : List Mark) (found : Status) (epoch : ℕ) : Type 0
   pub follows : (v : Status) → base history ≡ Some v → Follows v found
 
 -- what the program knows
-abbrev pub Knows : Disks → List Mark → Program → Type 0
+abbrev pub Knows : DisksByHolder → List Mark → Program → Type 0
 Knows disks history Idle = Unit {0}
 Knows disks history (Claiming found epoch) = IsClaim history found epoch
 Knows disks history (Claimed found epoch) = IsClaim history found epoch × (is_enough (has_claim disks epoch) found ≡ true)

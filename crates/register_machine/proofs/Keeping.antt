@@ -5,7 +5,7 @@ use Rattle.asm_formats.specs.Among.{IsAmong}
 use Rattle.asm_formats.specs.Status.{Status}
 use Rattle.asm_formats.specs.Following.{Holder, rank, sets}
 use Rattle.asm_formats.proofs.Orders.{is_ranked}
-use Rattle.register_machine.specs.Disks.{Disks, with_claim, with_record, has_claim}
+use Rattle.register_machine.specs.Disks.{DisksByHolder, with_claim, with_record, has_claim}
 use Rattle.register_machine.specs.Machine.{Mark, Begun, Program, Idle, Claiming, Claimed, Writing, Holding}
 use Rattle.register_machine.specs.Laws.{begun}
 use Rattle.register_machine.proofs.Counting.{majority_grows, enough_grows}
@@ -14,14 +14,14 @@ use Rattle.register_machine.proofs.Rising.{Rises, has_from, shows_from, IsNotAbo
 use Rattle.register_machine.proofs.Histories.{newest}
 use Rattle.register_machine.proofs.Invariant.{Superseded, AtBase, Kept, Knows}
 
-superseded_rises : (old new : Disks) (g : Status) → Rises old new → Superseded old g → Superseded new g
+superseded_rises : (old new : DisksByHolder) (g : Status) → Rises old new → Superseded old g → Superseded new g
 superseded_rises old new g rises s = record {
   set = s.set;
   among = s.among;
   greater = majority_grows (has_from old (rank g + 1)) (has_from new (rank g + 1)) s.set (rises.records (rank g + 1)) s.greater;
 }
 
-base_rises : (old new : Disks) (history : List Mark) (v : Status) → Rises old new → AtBase old history v → AtBase new history v
+base_rises : (old new : DisksByHolder) (history : List Mark) (v : Status) → Rises old new → AtBase old history v → AtBase new history v
 base_rises old new history v rises at = record {
   is_begun = at.is_begun;
   superseded = λ g h lt. superseded_rises old new g rises (at.superseded g h lt);
@@ -34,7 +34,7 @@ base_rises old new history v rises at = record {
   completed = at.completed;
 }
 
-kept_rises : (old new : Disks) (history : List Mark) → Rises old new → ((d : Holder) (r : Status) → (new d).status ≡ Some r → IsAmong (begun history) r) → Kept old history → Kept new history
+kept_rises : (old new : DisksByHolder) (history : List Mark) → Rises old new → ((d : Holder) (r : Status) → (new d).status ≡ Some r → IsAmong (begun history) r) → Kept old history → Kept new history
 kept_rises old new history rises held kept = record {
   allowed = kept.allowed;
   held = held;
@@ -42,7 +42,7 @@ kept_rises old new history rises held kept = record {
   at_base = λ v is. base_rises old new history v rises (kept.at_base v is);
 }
 
-knows_rises : (old new : Disks) (history : List Mark) (p : Program) → Rises old new → Knows old history p → Knows new history p
+knows_rises : (old new : DisksByHolder) (history : List Mark) (p : Program) → Rises old new → Knows old history p → Knows new history p
 knows_rises old new history Idle rises k = k
 knows_rises old new history (Claiming found epoch) rises k = k
 knows_rises old new history (Claimed found epoch) rises k = (k.0, enough_grows (has_claim old epoch) (has_claim new epoch) found (rises.claims epoch) k.1)
@@ -51,17 +51,17 @@ knows_rises old new history (Holding last) rises k = k
 
 -- ---- a claim is put
 
-pub claim_kept : (disks : Disks) (history : List Mark) (place : Holder) (epoch : ℕ) → Kept disks history → Kept (with_claim disks place epoch) history
+pub claim_kept : (disks : DisksByHolder) (history : List Mark) (place : Holder) (epoch : ℕ) → Kept disks history → Kept (with_claim disks place epoch) history
 claim_kept disks history place epoch kept = kept_rises disks (with_claim disks place epoch) history (claim_rises disks place epoch)
     (λ d r is. kept.held d r (sym (claim_keeps disks place epoch d) ∙ is)) kept
 
-pub claim_known : (disks : Disks) (history : List Mark) (place : Holder) (epoch : ℕ) (p : Program) → Knows disks history p → Knows (with_claim disks place epoch) history p
+pub claim_known : (disks : DisksByHolder) (history : List Mark) (place : Holder) (epoch : ℕ) (p : Program) → Knows disks history p → Knows (with_claim disks place epoch) history p
 claim_known disks history place epoch p k = knows_rises disks (with_claim disks place epoch) history p (claim_rises disks place epoch) k
 
 -- ---- the newest record is put
 
 -- no record is above the newest
-module _ (disks : Disks) (history older : List Mark) (next : Status) (kept : Kept disks history) (is : history ≡ Begun next ∷ older) where
+module _ (disks : DisksByHolder) (history older : List Mark) (next : Status) (kept : Kept disks history) (is : history ≡ Begun next ∷ older) where
   pub writing_newest : (r : Status) → IsAmong (begun history) r → (r ≡ next) ⊎ (rank r < rank next)
   writing_newest r h = newest (begun history) (begun older) next (ap (λ (l : List Mark). begun l) is) kept.numbered r h
 

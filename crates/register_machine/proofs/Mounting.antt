@@ -5,7 +5,7 @@ use Rattle.std.proofs.lemmas.Bool.{and_from, and_parts, both_ways, cond_both, eq
 use Rattle.asm_formats.specs.Among.{IsAmong}
 use Rattle.asm_formats.specs.Status.{Status, is_status}
 use Rattle.asm_formats.specs.Following.{Holder, rank}
-use Rattle.register_machine.specs.Disks.{Disk, Disks, is_same, is_in, is_enough, with_disk, with_claim, with_record, has_claim, has_number, has_record}
+use Rattle.register_machine.specs.Disks.{Disk, DisksByHolder, is_same, is_in, is_enough, with_disk, with_claim, with_record, has_claim, has_number, has_record}
 use Rattle.register_machine.specs.Machine.{Begun, Completed, Claiming, Claimed, Writing, Holding, State, Event, Claims, ClaimStands, Begins, Stores, Completes, MayBegin, after, AreAllowed, after_all}
 use Rattle.register_machine.specs.Laws.{last_completed}
 use Rattle.register_machine.specs.Mounts.{claims, completes, anew, next_epoch, CanBeMounted}
@@ -39,28 +39,28 @@ same_self : (d : Holder) → is_same d d ≡ true
 same_self d = and_from (d.0 == d.0) (d.1 == d.1) (eq-eqb d.0 d.0 refl) (eq-eqb d.1 d.1 refl)
 
 -- what holds of the disk that changes, and held of the others, holds of each
-changed : (P : Disk → Type 0) (disks : Disks) (place : Holder) (new : Disk) (d : Holder) → P new → (is_same place d ≡ true) ⊎ P (disks d) → P (with_disk disks place new d)
+changed : (P : Disk → Type 0) (disks : DisksByHolder) (place : Holder) (new : Disk) (d : Holder) → P new → (is_same place d ≡ true) ⊎ P (disks d) → P (with_disk disks place new d)
 changed P disks place new d now before = cond_both (is_same place d) new (disks d) P (λ same. now)
     (λ other. ⊎_elim (λ (same : is_same place d ≡ true). absurd (both_ways (is_same place d) other same)) (λ was. was) before)
 
 -- ---- the claim is put on each of the disks
 
-abbrev claimed_on : Disks → List Holder → ℕ → Disks
+abbrev claimed_on : DisksByHolder → List Holder → ℕ → DisksByHolder
 claimed_on disks [] epoch = disks
 claimed_on disks (d ∷ ds) epoch = claimed_on (with_claim disks d epoch) ds epoch
 
-claim_on : (disks : Disks) (place : Holder) (epoch : ℕ) (d : Holder) → (is_same place d ≡ true) ⊎ (has_claim disks epoch d ≡ true) → has_claim (with_claim disks place epoch) epoch d ≡ true
+claim_on : (disks : DisksByHolder) (place : Holder) (epoch : ℕ) (d : Holder) → (is_same place d ≡ true) ⊎ (has_claim disks epoch d ≡ true) → has_claim (with_claim disks place epoch) epoch d ≡ true
 claim_on disks place epoch d before = changed (λ (x : Disk). nat_le epoch x.claimed ≡ true) disks place (record { claimed = max epoch (disks place).claimed; status = (disks place).status }) d
     (le-leb epoch (max epoch (disks place).claimed) (at_most (disks place).claimed)) before
   where
     at_most : (b : ℕ) → epoch ≤ max epoch b
     at_most b = omega arith
 
-claim_stays : (disks : Disks) (ds : List Holder) (epoch : ℕ) (d : Holder) → has_claim disks epoch d ≡ true → has_claim (claimed_on disks ds epoch) epoch d ≡ true
+claim_stays : (disks : DisksByHolder) (ds : List Holder) (epoch : ℕ) (d : Holder) → has_claim disks epoch d ≡ true → has_claim (claimed_on disks ds epoch) epoch d ≡ true
 claim_stays disks [] epoch d h = h
 claim_stays disks (e ∷ es) epoch d h = claim_stays (with_claim disks e epoch) es epoch d (claim_on disks e epoch d (inr h))
 
-all_claimed : (disks : Disks) (ds : List Holder) (epoch : ℕ) (d : Holder) → IsAmong ds d → has_claim (claimed_on disks ds epoch) epoch d ≡ true
+all_claimed : (disks : DisksByHolder) (ds : List Holder) (epoch : ℕ) (d : Holder) → IsAmong ds d → has_claim (claimed_on disks ds epoch) epoch d ≡ true
 all_claimed disks [] epoch d h = absurd h
 all_claimed disks (e ∷ es) epoch d (inl same) = claim_stays (with_claim disks e epoch) es epoch d
     (claim_on disks e epoch d (inl (subst (λ (f : Holder). is_same f d ≡ true) same (same_self d))))
@@ -85,19 +85,19 @@ claims_lead s read found epoch at enough = leads_on s (record s { disks = claime
 
 -- ---- the record is put on each of the disks
 
-abbrev stored_on : Disks → List Holder → Status → Disks
+abbrev stored_on : DisksByHolder → List Holder → Status → DisksByHolder
 stored_on disks [] r = disks
 stored_on disks (d ∷ ds) r = stored_on (with_record disks d r) ds r
 
-record_on : (disks : Disks) (place : Holder) (r : Status) (d : Holder) → (is_same place d ≡ true) ⊎ (has_record disks r d ≡ true) → has_record (with_record disks place r) r d ≡ true
+record_on : (disks : DisksByHolder) (place : Holder) (r : Status) (d : Holder) → (is_same place d ≡ true) ⊎ (has_record disks r d ≡ true) → has_record (with_record disks place r) r d ≡ true
 record_on disks place r d before = changed (λ (x : Disk). has_number (rank r) x.status ≡ true) disks place (record { claimed = (disks place).claimed; status = Some r }) d
     (eq-eqb (rank r) (rank r) refl) before
 
-record_stays : (disks : Disks) (ds : List Holder) (r : Status) (d : Holder) → has_record disks r d ≡ true → has_record (stored_on disks ds r) r d ≡ true
+record_stays : (disks : DisksByHolder) (ds : List Holder) (r : Status) (d : Holder) → has_record disks r d ≡ true → has_record (stored_on disks ds r) r d ≡ true
 record_stays disks [] r d h = h
 record_stays disks (e ∷ es) r d h = record_stays (with_record disks e r) es r d (record_on disks e r d (inr h))
 
-all_stored : (disks : Disks) (ds : List Holder) (r : Status) (d : Holder) → IsAmong ds d → has_record (stored_on disks ds r) r d ≡ true
+all_stored : (disks : DisksByHolder) (ds : List Holder) (r : Status) (d : Holder) → IsAmong ds d → has_record (stored_on disks ds r) r d ≡ true
 all_stored disks [] r d h = absurd h
 all_stored disks (e ∷ es) r d (inl same) = record_stays (with_record disks e r) es r d
     (record_on disks e r d (inl (subst (λ (f : Holder). is_same f d ≡ true) same (same_self d))))

@@ -4,7 +4,7 @@ use Rattle.asm_formats.specs.Sets.{has_bit, elements}
 use Rattle.asm_formats.specs.Status.{entry_of, is_entry, is_status}
 use Rattle.asm_formats.specs.Following.{disks_of, sets_of}
 use Rattle.register_machine.specs.Machine.{Event, AreAllowed, after_all, start}
-use Rattle.register_machine.specs.Rows.{creation, one_holder, two_mounts, all_moved, OneHolderRow, TwoMountsRow, TwoSetsRow}
+use Rattle.register_machine.specs.Rows.{creation, one_holder, two_mounts, all_moved, OneHolderRow, TwoMountsRow, HoldersMoveRow}
 
 -- what may come after the creation
 after_creation : (events : List Event) → AreAllowed (after_all start creation) events → AreAllowed start (creation ++ events)
@@ -63,7 +63,7 @@ two_mounts_row = record {
   second_wins = refl;
 }
 
-pub two_sets_row : TwoSetsRow
+pub two_sets_row : HoldersMoveRow
 unfolding sets_of disks_of entry_of elements has_bit is_status is_entry
 two_sets_row = record {
   allowed = after_creation all_moved (

@@ -6,7 +6,7 @@ use Rattle.std.proofs.lemmas.Option.{cond_some, none-some}
 use Rattle.asm_formats.specs.Among.{IsAmong}
 use Rattle.asm_formats.specs.Status.{Status}
 use Rattle.asm_formats.specs.Following.{Holder, rank}
-use Rattle.register_machine.specs.Disks.{Disks, is_same, is_in, is_enough, greater, greatest, where_enough, surveyed, unless_gone, status, shown_epoch, seen_epoch}
+use Rattle.register_machine.specs.Disks.{DisksByHolder, is_same, is_in, is_enough, greater, greatest, where_enough, surveyed, unless_gone, status, shown_epoch, seen_epoch}
 
 pub same_disk : (d e : Holder) → is_same d e ≡ true → d ≡ e
 same_disk d e h = let p = and_parts (d.0 == e.0) (d.1 == e.1) h in λ i. (eqb-true d.0 e.0 p.0 i, eqb-true d.1 e.1 p.1 i)
@@ -38,7 +38,7 @@ greater_one (Some r) (Some s) g e = cond_both (nat_lt (rank r) (rank s)) (Some s
     (λ less is. inr is) (λ more is. inl is) e
 
 -- no record on the disks is greater
-pub greatest_most : (disks : Disks) (read : List Holder) (d : Holder) (r : Status) → IsAmong read d → (disks d).status ≡ Some r → HasFrom r (greatest disks read)
+pub greatest_most : (disks : DisksByHolder) (read : List Holder) (d : Holder) (r : Status) → IsAmong read d → (disks d).status ≡ Some r → HasFrom r (greatest disks read)
 greatest_most disks [] d r among is = absurd among
 greatest_most disks (e ∷ es) d r (inl same) is =
     let here : (disks e).status ≡ Some r = subst (λ (f : Holder). (disks f).status ≡ Some r) same is in
@@ -48,7 +48,7 @@ greatest_most disks (e ∷ es) d r (inr later) is =
     subst (λ (o : Option Status). HasFrom r (greater (disks e).status o)) (sym most.1) (greater_right r most.0 (disks e).status most.2)
 
 -- it stands on one of the disks
-pub greatest_held : (disks : Disks) (read : List Holder) (g : Status) → greatest disks read ≡ Some g → (d : Holder) × IsAmong read d × ((disks d).status ≡ Some g)
+pub greatest_held : (disks : DisksByHolder) (read : List Holder) (g : Status) → greatest disks read ≡ Some g → (d : Holder) × IsAmong read d × ((disks d).status ≡ Some g)
 greatest_held disks [] g e = absurd (none-some g e)
 greatest_held disks (d ∷ ds) g e = ⊎_elim
     (λ here. (d, inl refl, here))
@@ -63,17 +63,17 @@ enough_parts read (Some s) r e =
     let p = cond_some (is_enough (is_in read) s) s r e in
     (ap (λ (t : Status). Some t) p.1, subst (λ (t : Status). is_enough (is_in read) t ≡ true) p.1 p.0)
 
-pub surveyed_parts : (disks : Disks) (read : List Holder) (r : Status) → surveyed disks read ≡ Some r → (greatest disks read ≡ Some r) × (is_enough (is_in read) r ≡ true)
+pub surveyed_parts : (disks : DisksByHolder) (read : List Holder) (r : Status) → surveyed disks read ≡ Some r → (greatest disks read ≡ Some r) × (is_enough (is_in read) r ≡ true)
 surveyed_parts disks read r e = enough_parts read (greatest disks read) r e
 
 gone_parts : (o : Option Status) (r : Status) → unless_gone o ≡ Some r → o ≡ Some r
 gone_parts None r e = e
 gone_parts (Some s) r e = cond_both s.gone None (Some s) (λ (o : Option Status). o ≡ Some r → Some s ≡ Some r) (λ gone is. absurd (none-some r is)) (λ stays is. is) e
 
-pub status_surveyed : (disks : Disks) (read : List Holder) (r : Status) → status disks read ≡ Some r → surveyed disks read ≡ Some r
+pub status_surveyed : (disks : DisksByHolder) (read : List Holder) (r : Status) → status disks read ≡ Some r → surveyed disks read ≡ Some r
 status_surveyed disks read r e = gone_parts (surveyed disks read) r e
 
-pub epoch_seen : (disks : Disks) (read : List Holder) (d : Holder) → IsAmong read d → shown_epoch (disks d) ≤ seen_epoch disks read
+pub epoch_seen : (disks : DisksByHolder) (read : List Holder) (d : Holder) → IsAmong read d → shown_epoch (disks d) ≤ seen_epoch disks read
 epoch_seen disks [] d among = absurd among
 epoch_seen disks (e ∷ es) d (inl same) = at_most (shown_epoch (disks d)) (shown_epoch (disks e)) (seen_epoch disks es) (ap (λ (f : Holder). shown_epoch (disks f)) same)
   where

@@ -2,7 +2,7 @@
 use Rattle.std.specs.Prelude.{◌≡◌, ℕ, ◌+◌, ◌<◌, List, [], ◌∷◌, Some, IsTrue}
 use Rattle.asm_formats.specs.Status.{Status, is_status}
 use Rattle.asm_formats.specs.Following.{Holder, sets, Follows}
-use Rattle.register_machine.specs.Disks.{Disks, blank, with_claim, with_record, is_enough, has_claim, has_record, surveyed, seen_epoch}
+use Rattle.register_machine.specs.Disks.{DisksByHolder, blank, with_claim, with_record, is_enough, has_claim, has_record, surveyed, seen_epoch}
 
 -- what the program is at
 pub data Program : Type 0 where
@@ -23,7 +23,7 @@ pub data Mark : Type 0 where
   Completed : Status → Mark
 
 pub record State : Type 0 where
-  pub disks : Disks
+  pub disks : DisksByHolder
   pub program : Program
   -- the newest mark first
   pub history : List Mark

@@ -114,7 +114,7 @@ half_moved = completes (disks (2 ∷ 1 ∷ 0 ∷ [])) dropping ++ completes (dis
 abbrev pub all_moved : List Event
 all_moved = half_moved ++ completes (disks (3 ∷ 2 ∷ 1 ∷ [])) moved
 
-pub record TwoSetsRow : Type 0 where
+pub record HoldersMoveRow : Type 0 where
   pub allowed : AreAllowed start (creation ++ all_moved)
   -- two of the holders are there, but one of the next holders
   pub first_set_alone : status_after half_moved (0 ∷ 1 ∷ []) ≡ None

@@ -1,6 +1,6 @@
 //! Worked runs, computed.
 
-ghost use Rattle.register_machine.specs.Rows.{OneHolderRow, TwoMountsRow, TwoSetsRow};
+ghost use Rattle.register_machine.specs.Rows.{OneHolderRow, TwoMountsRow, HoldersMoveRow};
 
 /// A record on one holder, then two forced mounts.
 pub fn one_holder_row()
@@ -14,5 +14,5 @@ pub fn two_mounts_row()
 
 /// Tables that move from one set of holders to another.
 pub fn two_sets_row()
-    ensures { TwoSetsRow }
+    ensures { HoldersMoveRow }
 {}

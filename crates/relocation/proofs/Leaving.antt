@@ -22,7 +22,7 @@ use Rattle.resync.specs.group_engine.Mounts.{IsOwn, IsReady, IsWhole, MountedGro
 use Rattle.resync.specs.group_engine.declared.attached.Attached.{Attached}
 use Rattle.resync.proofs.group_engine.Causes.{own_joins, run_less, run_on}
 use Rattle.resync.proofs.group_engine.Elsewhere.{ready_with_own, stays_attached, stays_own}
-use Rattle.relocation.specs.Endings.{ClosesOn, has_slot}
+use Rattle.relocation.specs.Endings.{ClosesOn, is_disk_in_slot}
 
 -- ---- its header's slot
 
@@ -60,14 +60,14 @@ module _ (slot : ℕ) where
   none_behind true rest is = absurd (true≢false is)
   none_behind false rest is = is
 
-  none_in : (xs : List (Option Attached)) (i : ℕ) → list_any (has_slot slot) xs ≡ false → option_map (λ (a : Attached). a.slot) (get_or xs i None) ≡ Some slot → ⊥
+  none_in : (xs : List (Option Attached)) (i : ℕ) → list_any (is_disk_in_slot slot) xs ≡ false → option_map (λ (a : Attached). a.slot) (get_or xs i None) ≡ Some slot → ⊥
   none_in [] i none is = none-some slot is
   none_in (None ∷ xs) zero none is = none-some slot is
   none_in (Some a ∷ xs) zero none is =
-      true≢false (sym (ap (λ (b : Bool). b || list_any (has_slot slot) xs) (eq-eqb a.slot slot (same_Some a.slot slot is))) ∙ none)
-  none_in (x ∷ xs) (suc i) none is = none_in xs i (none_behind (has_slot slot x) (list_any (has_slot slot) xs) none) is
+      true≢false (sym (ap (λ (b : Bool). b || list_any (is_disk_in_slot slot) xs) (eq-eqb a.slot slot (same_Some a.slot slot is))) ∙ none)
+  none_in (x ∷ xs) (suc i) none is = none_in xs i (none_behind (is_disk_in_slot slot x) (list_any (is_disk_in_slot slot) xs) none) is
 
-  pub none_own : (m : MountedGroup) → IsWhole m → list_any (has_slot slot) m.disks ≡ false → IsOwn m slot → ⊥
+  pub none_own : (m : MountedGroup) → IsWhole m → list_any (is_disk_in_slot slot) m.disks ≡ false → IsOwn m slot → ⊥
   none_own m whole none own =
       none_in m.disks own.0 none (whole.disks own.0 ∙ ap (option_map (λ (x : Member). x.slot)) own.2 ∙ ap (λ (k : ℕ). Some k) (sym own.3))
 
@@ -84,7 +84,7 @@ module _ (slot : ℕ) where
   on_slot : (place : Place) {s t : BayState} → Runs (IsSlot slot) (MayClose place slot) s t → Runs (IsSlot slot) (ChangesOnly (λ k j. IsSlot slot k)) s t
   on_slot place run = widened (λ x y step. changes-within (λ k j. IsSlot slot k) (GateOf place slot) x y (λ k j inside. inside.0) step.elsewhere) run
 
-  pub closes : (m : MountedGroup) (place : Place) {s t : BayState} → Takes m s → (IsWhole m → list_any (has_slot slot) m.disks ≡ false) → KeepsAttached s t → Runs (IsSlot slot) (MayClose place slot) s t → ClosesOn m slot s t
+  pub closes : (m : MountedGroup) (place : Place) {s t : BayState} → Takes m s → (IsWhole m → list_any (is_disk_in_slot slot) m.disks ≡ false) → KeepsAttached s t → Runs (IsSlot slot) (MayClose place slot) s t → ClosesOn m slot s t
   closes m place {s} {t} takes none attached run = record {
     attached = attached;
     runs = on_slot place run;

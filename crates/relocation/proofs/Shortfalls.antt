@@ -18,7 +18,7 @@ use Rattle.asm_placement.specs.Choices.{home_on, is_eligible, replacement, repla
 use Rattle.asm_placement.specs.Copies.{Copy, all_copies, can_be_read, entry_at_home, has_other_source, has_source, home, is_marked, is_on, same_extent, siblings, units, wants_fill, wants_shift}
 use Rattle.asm_placement.specs.Modes.{is_online, serves}
 use Rattle.asm_placement.specs.Placed.{Placed, placed}
-use Rattle.asm_placement.specs.Rebalancing.{Next, above_or_none, balancing, directory, done, fill, lost, move, new_home, next, next_balancing, next_directory, next_fill, next_lost, next_no_space, next_recopy, next_shift, next_tables, no_space, recopy, shift, tables, Move}
+use Rattle.asm_placement.specs.Rebalancing.{Next, above_or_none, balancing, directory, done, fill, lost_extent, move, new_home, next, next_balancing, next_directory, next_fill, next_lost, next_no_space, next_recopy, next_shift, next_tables, lacks_space, recopy, shift, tables, Move}
 use Rattle.asm_placement.specs.Space.{has_room, is_free_run, lowest_run, tried_first}
 use Rattle.asm_placement.specs.TableDisks.{directory_target, status_target}
 use Rattle.asm_placement.specs.Tables.{is_stale}
@@ -83,22 +83,22 @@ all_full s es items n replaced homes none e among eligible = ⊎_elim
 abbrev is_end : Next → Bool
 is_end (move m) = false
 is_end done = false
-is_end (no_space f i) = true
-is_end (lost f i) = true
+is_end (lacks_space f i) = true
+is_end (lost_extent f i) = true
 
 abbrev file_of : Next → ℕ
 file_of (move m) = 0
 file_of done = 0
-file_of (no_space f i) = f
-file_of (lost f i) = f
+file_of (lacks_space f i) = f
+file_of (lost_extent f i) = f
 
 abbrev index_of : Next → ℕ
 index_of (move m) = 0
 index_of done = 0
-index_of (no_space f i) = i
-index_of (lost f i) = i
+index_of (lacks_space f i) = i
+index_of (lost_extent f i) = i
 
-differ : (f i g j : ℕ) → no_space f i ≡ lost g j → ⊥
+differ : (f i g j : ℕ) → lacks_space f i ≡ lost_extent g j → ⊥
 differ f i g j e = cc
 
 module _ (s : Shape) (r : Status) (items : List Item) where
@@ -167,13 +167,13 @@ module _ (s : Shape) (r : Status) (items : List Item) where
         (pick (next_shift s es items all) _ e2)) (pick (next_fill s es items all) _ e1)) (pick (next_recopy es items all) _ e)
 
   module _ (x : ExtentId) where
-    no_source : next_lost es items all ≡ Some (lost x.file x.index) → LacksSource es items x
+    no_source : next_lost es items all ≡ Some (lost_extent x.file x.index) → LacksSource es items x
     no_source e =
-        let n = lost x.file x.index in
+        let n = lost_extent x.file x.index in
         let p = said_by _ all n e in
         let c : Copy = p.0 in
         let w = when_said (not (has_source es items all c)) _ n p.2 in
-        let is = same_Some (lost c.file c.index) n w.1 in
+        let is = same_Some (lost_extent c.file c.index) n w.1 in
         let file : c.file ≡ x.file = ap file_of is in
         let index : c.index ≡ x.index = ap index_of is in
         record {
@@ -184,14 +184,14 @@ module _ (s : Shape) (r : Status) (items : List Item) where
               (and_from (c.file == y.file) (c.index == y.index) (eq-eqb c.file y.file (file ∙ sym of.file)) (eq-eqb c.index y.index (index ∙ sym of.index))));
         }
 
-    no_place : next_no_space s es items all ≡ Some (no_space x.file x.index) → LacksPlace s es items x
+    no_place : next_no_space s es items all ≡ Some (lacks_space x.file x.index) → LacksPlace s es items x
     no_place e =
-        let n = no_space x.file x.index in
+        let n = lacks_space x.file x.index in
         let p = said_by _ all n e in
         let c : Copy = p.0 in
         let w = when_said ((wants_fill es c || wants_shift es c) && is_none (new_home s es items c)) _ n p.2 in
         let a = and_parts (wants_fill es c || wants_shift es c) (is_none (new_home s es items c)) w.0 in
-        let is = same_Some (no_space c.file c.index) n w.1 in
+        let is = same_Some (lacks_space c.file c.index) n w.1 in
         record {
           copy = c;
           is_copy = record { among = p.1; file = ap file_of is; index = ap index_of is };
@@ -199,25 +199,25 @@ module _ (s : Shape) (r : Status) (items : List Item) where
           full = all_full s es items (units s c) c.copy c.homes (not_there (new_home s es items c) a.1);
         }
 
-    not_space : (f i : ℕ) → next_no_space s es items all ≡ Some (lost f i) → ⊥
+    not_space : (f i : ℕ) → next_no_space s es items all ≡ Some (lost_extent f i) → ⊥
     not_space f i e =
-        let p = said_by _ all (lost f i) e in
+        let p = said_by _ all (lost_extent f i) e in
         let c : Copy = p.0 in
-        let w = when_said ((wants_fill es c || wants_shift es c) && is_none (new_home s es items c)) _ (lost f i) p.2 in
-        differ c.file c.index f i (same_Some (no_space c.file c.index) (lost f i) w.1)
+        let w = when_said ((wants_fill es c || wants_shift es c) && is_none (new_home s es items c)) _ (lost_extent f i) p.2 in
+        differ c.file c.index f i (same_Some (lacks_space c.file c.index) (lost_extent f i) w.1)
 
-    not_lost : (f i : ℕ) → next_lost es items all ≡ Some (no_space f i) → ⊥
+    not_lost : (f i : ℕ) → next_lost es items all ≡ Some (lacks_space f i) → ⊥
     not_lost f i e =
-        let p = said_by _ all (no_space f i) e in
+        let p = said_by _ all (lacks_space f i) e in
         let c : Copy = p.0 in
-        let w = when_said (not (has_source es items all c)) _ (no_space f i) p.2 in
-        differ f i c.file c.index (sym (same_Some (lost c.file c.index) (no_space f i) w.1))
+        let w = when_said (not (has_source es items all c)) _ (lacks_space f i) p.2 in
+        differ f i c.file c.index (sym (same_Some (lost_extent c.file c.index) (lacks_space f i) w.1))
 
-    lost_so : next s r items ≡ lost x.file x.index → LacksSource es items x
-    lost_so e = ⊎_elim no_source (λ k. absurd (not_space x.file x.index k)) (ends_so (lost x.file x.index) refl e)
+    lost_so : next s r items ≡ lost_extent x.file x.index → LacksSource es items x
+    lost_so e = ⊎_elim no_source (λ k. absurd (not_space x.file x.index k)) (ends_so (lost_extent x.file x.index) refl e)
 
-    space_so : next s r items ≡ no_space x.file x.index → LacksPlace s es items x
-    space_so e = ⊎_elim (λ k. absurd (not_lost x.file x.index k)) no_place (ends_so (no_space x.file x.index) refl e)
+    space_so : next s r items ≡ lacks_space x.file x.index → LacksPlace s es items x
+    space_so e = ⊎_elim (λ k. absurd (not_lost x.file x.index k)) no_place (ends_so (lacks_space x.file x.index) refl e)
 
 pub lost_cause : (m : MountedGroup) (x : ExtentId) → IsNextMove m.catalog m.register.value (code.Lost x) → HasNoSource m x
 lost_cause m x is items are = lost_so m.catalog.shape m.register.value items x (sym (is.is_next items are))
@@ -235,7 +235,7 @@ no_end claim asked.Unknown none = tt
 
 -- ---- the rebalance is active no more
 
-pub active_ended : (r : Result (Unit {0}) Refusal) (old new : MountedGroup) (put : List records.Entry) (gone : List Key) → new.catalog.shape ≡ old.catalog.shape
+pub active_ended : (r : Result (Unit {0}) Refusal) (old new : MountedGroup) (put : List records.DirectoryRecord) (gone : List Key) → new.catalog.shape ≡ old.catalog.shape
     → OnOk r (IsAfter old.catalog.tables put gone new.catalog.tables) → IsAfter old.catalog.tables put gone (without_rebalance old.catalog.tables)
     → KeepsRecord old.register.value new.register.value → OnOk r (EndsActive old new)
 active_ended (Ok unit) old new put gone shape applied after keeps = record {

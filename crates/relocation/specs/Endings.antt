@@ -9,9 +9,9 @@ use Rattle.resync.specs.group_engine.Mounts.{IsMounted, MountedGroup, Takes}
 use Rattle.resync.specs.group_engine.declared.attached.Attached.{Attached}
 
 -- the attached disk is in the slot
-abbrev pub has_slot : ℕ → Option Attached → Bool
-has_slot slot None = false
-has_slot slot (Some a) = a.slot == slot
+abbrev pub is_disk_in_slot : ℕ → Option Attached → Bool
+is_disk_in_slot slot None = false
+is_disk_in_slot slot (Some a) = a.slot == slot
 
 -- No disk changes but that of one slot, and the group takes the next call.
 pub record ClosesOn (m : MountedGroup) (slot : ℕ) (s t : BayState) : Type 0 where

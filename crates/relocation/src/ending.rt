@@ -4,7 +4,7 @@ ghost use Rattle.std.specs.Prelude.{◌≡◌, ◌<◌, OnOk};
 ghost use Rattle.disk_images.specs.Headers.{HasHeaderSlot};
 ghost use Rattle.resync.specs.group_engine.Mounts.{IsMounted, Takes};
 ghost use Rattle.resync.specs.group_engine.Pending.{GoesOn};
-ghost use Rattle.relocation.specs.Endings.{ClosesOn, FinishesRebalance, has_slot};
+ghost use Rattle.relocation.specs.Endings.{ClosesOn, FinishesRebalance, is_disk_in_slot};
 ghost use Rattle.relocation.specs.Shortfalls.{EndsActive, IsSliceShort};
 
 use crate::asking::Slice;
@@ -30,7 +30,7 @@ fn is_to_leave(status: &PstRecord, disk: u8) -> bool
 
 /// Whether an attached disk is in a slot.
 fn has_slot(attached: &Option<Attached>, slot: u32) -> bool
-    ensures { result ≡ has_slot slot attached.now }
+    ensures { result ≡ is_disk_in_slot slot attached.now }
 {
     match *attached {
         Some(attached) => attached.slot == slot,
@@ -40,7 +40,7 @@ fn has_slot(attached: &Option<Attached>, slot: u32) -> bool
 
 /// Whether an attached disk of the group is in a slot.
 fn is_attached(m: &Mounted, slot: u32) -> bool
-    ensures { result ≡ list_any (has_slot slot) m.now.disks }
+    ensures { result ≡ list_any (is_disk_in_slot slot) m.now.disks }
 {
     m.disks().iter().any(|attached| has_slot(attached, slot))
 }

@@ -73,19 +73,19 @@ asked_end group left rows all none so_far =
 
 -- ---- their lines
 
-row_line : (g : Named) (row : GroupRow) → IsRowOf g.0 g.1 row → texts.group_line row ≡ line_of g
+row_line : (g : Named) (row : GroupRow) → IsRowOf g.0 g.1 row → texts.group_row_line row ≡ line_of g
 row_line g row is =
     let on : Bool → Bytes = λ (t : Bool). if t then mounted_line g.0 g.1.catalog.shape (group_row g.1.catalog g.1.register.value.entries) else dismounted_line g.0 in
     ⊎_elim
     (λ (mounted : is_none (dismounted_by g.1.access) ≡ true).
     let row_is : row ≡ texts.mounted_row g.0 g.1.catalog.shape (group_row g.1.catalog g.1.register.value.entries) = rw mounted at is in
-    ap texts.group_line row_is ∙ rows_are_lines.mounted g.0 g.1.catalog.shape (group_row g.1.catalog g.1.register.value.entries) ∙ ap on (sym mounted))
+    ap texts.group_row_line row_is ∙ rows_are_lines.mounted g.0 g.1.catalog.shape (group_row g.1.catalog g.1.register.value.entries) ∙ ap on (sym mounted))
     (λ (off : is_none (dismounted_by g.1.access) ≡ false).
     let row_is : (row.state ≡ codes "DISMOUNTED") × (row.name ≡ g.0) = rw off at is in
     rows_are_lines.dismounted row row_is.0 ∙ ap dismounted_line row_is.1 ∙ ap on (sym off))
     (cases_Bool (is_none (dismounted_by g.1.access)))
 
-row_lines : (gs : List Named) (rows : List GroupRow) → AreRows gs rows → map texts.group_line rows ≡ map line_of gs
+row_lines : (gs : List Named) (rows : List GroupRow) → AreRows gs rows → map texts.group_row_line rows ≡ map line_of gs
 row_lines [] [] are = refl
 row_lines (g ∷ gs) (row ∷ rows) are = λ i. row_line g row are.0 i ∷ row_lines gs rows are.1 i
 row_lines [] (row ∷ rows) are = absurd are

@@ -38,7 +38,7 @@ use Rattle.session.proofs.Below.{below_paired, row_below}
 use Rattle.session.proofs.Knowing.{paired_among}
 use Rattle.session.proofs.Outcomes as outcomes
 use Rattle.session.proofs.Outcomes.{unread}
-use Rattle.report_commands.specs.GroupRows.{AreGroupsTold, AreLinesOf, AreStatesOf, IsNoGroup, groups_asked, is_there, line_of}
+use Rattle.report_commands.specs.GroupRows.{AreGroupsTold, AreLinesOf, AreStatesOf, IsNoGroup, groups_asked, is_group_there, line_of}
 use Rattle.report_commands.proofs.ShownGroups.{IsUncounted, refused, served_in, uncounted}
 
 -- ---- why there are none
@@ -47,7 +47,7 @@ none_asked : (o : Option SessionEntry) → is_some o ≡ true → decided (When 
 none_asked None there = absurd (false≢true there)
 none_asked (Some e) there = refl
 
-uncaused : (w : World) (below : ℕ → GroupBelow) (group : Option Bytes) (lines : List Bytes) → is_there w.session group ≡ true → HasCause (below_with below unread) w (Asked (ListGroups group)) (Done lines)
+uncaused : (w : World) (below : ℕ → GroupBelow) (group : Option Bytes) (lines : List Bytes) → is_group_there w.session group ≡ true → HasCause (below_with below unread) w (Asked (ListGroups group)) (Done lines)
 uncaused w below None lines there = refl
 uncaused w below (Some name) lines there = none_asked (entry_in w name) there
 
@@ -55,7 +55,7 @@ is_caused : (o : Option SessionEntry) → is_some o ≡ false → IsCaused (When
 is_caused None absent = refl
 is_caused (Some e) absent = absurd (false≢true (sym absent))
 
-caused : (w : World) (below : ℕ → GroupBelow) (group : Option Bytes) → is_there w.session group ≡ false → HasCause (below_with below unread) w (Asked (ListGroups group)) (Refused [] r.NoGroup)
+caused : (w : World) (below : ℕ → GroupBelow) (group : Option Bytes) → is_group_there w.session group ≡ false → HasCause (below_with below unread) w (Asked (ListGroups group)) (Refused [] r.NoGroup)
 caused w below None absent = absurd (false≢true (sym absent))
 caused w below (Some name) absent = is_caused (entry_in w name) absent
 
@@ -157,8 +157,8 @@ module _ (paths : List Bytes) (text : Bytes) (group : Option Bytes) (says : mean
   counts : IsUncounted paths text
   counts = uncounted paths text command says (λ c before after. tt)
 
-  at_world : (t : Bool) → is_there session.entries group ≡ t → is_there w.session group ≡ t
-  at_world t is = ap (λ (es : List SessionEntry). is_there es group) knows.entries_are ∙ is
+  at_world : (t : Bool) → is_group_there session.entries group ≡ t → is_group_there w.session group ≡ t
+  at_world t is = ap (λ (es : List SessionEntry). is_group_there es group) knows.entries_are ∙ is
 
   abbrev Told : r.Refusal → Type 0
   Told c = IsServed paths unread text (Refused [] c) was was s s below w w
@@ -176,7 +176,7 @@ module _ (paths : List Bytes) (text : Bytes) (group : Option Bytes) (says : mean
       (subst (λ (c : Command). HasCause (below_with below unread) w c (Done lines)) (sym says) cause)
       (rw says tt) (rw says tt))
   groups_served (Err refusal) told none = ⊎_elim
-      (λ (absent : (is_there session.entries group ≡ false) × (refusal ≡ cause.NoGroup)).
+      (λ (absent : (is_group_there session.entries group ≡ false) × (refusal ≡ cause.NoGroup)).
       let refuses : Told r.NoGroup = refused paths text command says counts was s w r.NoGroup refl (caused w below group (at_world false absent.0)) refl in
       subst (λ (x : Refusal). Told (said (λ _. []) x)) (sym absent.1) (subst (λ (c : r.Refusal). Told c) (sym no_group) refuses))
       (λ (want : refusal ≡ cause.NoMemory). subst (λ (x : Refusal). Told (said (λ _. []) x)) (sym want) short)

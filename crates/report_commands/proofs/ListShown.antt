@@ -11,7 +11,7 @@ use Rattle.asm_group.specs.Group.{Group}
 use Rattle.asm_group.specs.Names.{Bytes, Path}
 use Rattle.asm_group.specs.Refusal as r
 use Rattle.asm_world.specs.Below.{GroupBelow}
-use Rattle.asm_world.specs.Causes.{Cause, HasCause, IsCaused, When, causes, decided, in_group, list_causes, listed_causes}
+use Rattle.asm_world.specs.Causes.{Cause, HasCause, IsCaused, When, causes, decided, in_group, list_causes, listing_causes}
 use Rattle.asm_world.specs.Command.{Command, Asked, Ls}
 use Rattle.asm_world.specs.Language.{command_of}
 use Rattle.asm_world.specs.Listings as world
@@ -83,15 +83,15 @@ module _ (paths : List Bytes) (text : Bytes) (long : Bool) (path : Option Bytes)
 
   -- what is told where the world has these rows, and no cause
   module _ (parts : List Bytes) (leads : resolved_pattern w.place path ≡ Some parts) where
-    listed : (rows : List LsRow) (shown : List Listed) (lines : List Bytes) → world.rows_listed w (Some parts) ≡ Some shown → rows ≡ map texts.listed_row shown → lines ≡ texts.ls_lines long rows → decided (listed_causes w (Some parts)) ≡ None
+    listed : (rows : List LsRow) (shown : List Listed) (lines : List Bytes) → world.rows_listed w (Some parts) ≡ Some shown → rows ≡ map texts.listed_row shown → lines ≡ texts.ls_row_lines long rows → decided (listing_causes w (Some parts)) ≡ None
         → IsServed paths unread text (Done lines) was was s s below w w
     listed rows shown lines has are is uncaused =
-        let as_world : lines ≡ reports.ls_lines long shown = is ∙ (ap (texts.ls_lines long) are ∙ rows_are_lines.listed long shown) in
+        let as_world : lines ≡ reports.ls_lines long shown = is ∙ (ap (texts.ls_row_lines long) are ∙ rows_are_lines.listed long shown) in
         let told : option_map (λ (rows : List Listed). reports.ls_lines long rows) (world.rows_listed w (resolved_pattern w.place path)) ≡ Some lines =
         ap (λ (o : Option (List Bytes)). option_map (λ (rows : List Listed). reports.ls_lines long rows) (world.rows_listed w o)) leads
         ∙ (ap (option_map (λ (rows : List Listed). reports.ls_lines long rows)) has ∙ ap (λ (l : List Bytes). Some l) (sym as_world)) in
         let step : Step (below_with below unread) w command (Done lines) w = (refl, told) in
-        let cause : HasCause (below_with below unread) w command (Done lines) = ap (λ (o : Option (List Bytes)). decided (listed_causes w o)) leads ∙ uncaused in
+        let cause : HasCause (below_with below unread) w command (Done lines) = ap (λ (o : Option (List Bytes)). decided (listing_causes w o)) leads ∙ uncaused in
         outcomes.told paths text lines was s w
         (subst (λ (c : Command). Step (below_with below unread) w c (Done lines) w) (sym says) step)
         (subst (λ (c : Command). HasCause (below_with below unread) w c (Done lines)) (sym says) cause)
@@ -99,11 +99,11 @@ module _ (paths : List Bytes) (text : Bytes) (long : Bool) (path : Option Bytes)
 
   -- ---- in a group
 
-  module _ (name : Bytes) (parts : Path) (inside : Group → List Cause) (leads : resolved_pattern w.place path ≡ Some (name ∷ parts)) (caused_so : listed_causes w (Some (name ∷ parts)) ≡ in_group w name inside)
+  module _ (name : Bytes) (parts : Path) (inside : Group → List Cause) (leads : resolved_pattern w.place path ≡ Some (name ∷ parts)) (caused_so : listing_causes w (Some (name ∷ parts)) ≡ in_group w name inside)
       (rows_so : world.rows_listed w (Some (name ∷ parts)) ≡ world.rows_in (mounted_group w name) parts) where
     shows : ShowsIn (below_with below unread) w command name inside
     shows = record {
-      causes_are = ap (λ (o : Option (List Bytes)). listed_causes w o) leads ∙ caused_so;
+      causes_are = ap (λ (o : Option (List Bytes)). listing_causes w o) leads ∙ caused_so;
       named = ([], [], rw leads refl);
       absent = refl;
       dismounted = λ disk is. is;
@@ -111,7 +111,7 @@ module _ (paths : List Bytes) (text : Bytes) (long : Bool) (path : Option Bytes)
     }
 
     -- what is told by the tables has no cause there
-    in_tables : (uncaused : (g : Group) → decided (list_causes g parts) ≡ None → decided (inside g) ≡ None) (rows : List LsRow) (lines : List Bytes) → AreRowsOfGroup session name parts rows → lines ≡ texts.ls_lines long rows → HasOwnGroups w
+    in_tables : (uncaused : (g : Group) → decided (list_causes g parts) ≡ None → decided (inside g) ≡ None) (rows : List LsRow) (lines : List Bytes) → AreRowsOfGroup session name parts rows → lines ≡ texts.ls_row_lines long rows → HasOwnGroups w
         → IsServed paths unread text (Done lines) was was s s below w w
     in_tables uncaused rows lines are is own =
         let m = are.group in
@@ -121,8 +121,8 @@ module _ (paths : List Bytes) (text : Bytes) (long : Bool) (path : Option Bytes)
         let none : decided (list_causes there.group parts) ≡ None =
         ap (λ (g : Group). decided (list_causes g parts)) there.told.is
         ∙ lists_are_uncaused m.name m.catalog.shape m.catalog.tables there.told.cells parts rows (are_tables session name m ready are.is_group) are.are in
-        let inside_none : decided (listed_causes w (Some (name ∷ parts))) ≡ None =
-        ap decided (sym (ap (λ (o : Option (List Bytes)). listed_causes w o) leads)) ∙ (ap decided (causes_inside paths text command says counts was s w name inside shows m there) ∙ uncaused there.group none) in
+        let inside_none : decided (listing_causes w (Some (name ∷ parts))) ≡ None =
+        ap decided (sym (ap (λ (o : Option (List Bytes)). listing_causes w o) leads)) ∙ (ap decided (causes_inside paths text command says counts was s w name inside shows m there) ∙ uncaused there.group none) in
         listed (name ∷ parts) leads rows (world.rows_at there.group parts) lines (rows_so ∙ ap (λ (o : Option Group). world.rows_in o parts) there.found) same is inside_none
 
     -- what the tables refuse, the world does
@@ -178,7 +178,7 @@ module _ (paths : List Bytes) (text : Bytes) (long : Bool) (path : Option Bytes)
   refused_at : (parts : List Bytes) (refusal : Refusal) → resolved_pattern w.place path ≡ Some parts → IsUnlistedAt session parts refusal → Told (said (λ _. []) refusal)
   refused_at [] refusal leads why = absurd why
   refused_at (name ∷ []) refusal leads why =
-      let causes_so : listed_causes w (Some (name ∷ [])) ≡ in_group w name (λ g. []) = ap (λ (t : Bool). if t then [] else in_group w name (λ g. [])) why.0 in
+      let causes_so : listing_causes w (Some (name ∷ [])) ≡ in_group w name (λ g. []) = ap (λ (t : Bool). if t then [] else in_group w name (λ g. [])) why.0 in
       let rows_so : world.rows_listed w (Some (name ∷ [])) ≡ world.rows_in (mounted_group w name) [] =
       ap (λ (t : Bool). if t then Some (world.rows_of_groups (world.matching_groups w name)) else world.rows_in (mounted_group w name) []) why.0 in
       out name [] (λ g. []) leads causes_so rows_so refusal why.1 (λ m group due own. absurd (caused name [] (λ g. []) leads causes_so rows_so m group refusal due own))

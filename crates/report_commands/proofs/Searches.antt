@@ -11,12 +11,12 @@ use Rattle.asm_group.specs.Group.{Group}
 use Rattle.asm_group.specs.Names.{Bytes, Path}
 use Rattle.asm_group.specs.Refusal as r
 use Rattle.asm_world.specs.Below.{Below, GroupBelow}
-use Rattle.asm_world.specs.Between.{group_of, groups_named}
+use Rattle.asm_world.specs.Between.{group_name_of, groups_named}
 use Rattle.asm_world.specs.Causes.{Cause, HasCause, IsCaused, causes, decided, dir_causes, searching_causes}
 use Rattle.asm_world.specs.Command.{Command}
 use Rattle.asm_world.specs.Paths.{parts_of}
 use Rattle.asm_world.specs.Reply.{Done, Refused}
-use Rattle.asm_world.specs.Step.{Has, IsDismounted, Step}
+use Rattle.asm_world.specs.Step.{HasMountedGroup, IsDismounted, Step}
 use Rattle.asm_world.specs.Waits.{HasLines}
 use Rattle.asm_world.specs.World.{World, mounted_group}
 use Rattle.catalog_tables.specs.Rules.{KeepsRules}
@@ -49,13 +49,13 @@ led_by (Some (first ∷ rest)) name inside e = ap (λ (p : Bytes × Path). Some 
 pub record IsSearch (paths : List Bytes) (below : Below) (w : World) (command : Command) (leads : Option (List Bytes)) (lines_of : ℕ → Group → Path → List Bytes) : Type 0 where
   pub somewhere : is_some leads ≡ true
   pub causes_are : causes below w command ≡ searching_causes w leads
-  pub named : groups_named w command ≡ group_of (parts_of leads)
+  pub named : groups_named w command ≡ group_name_of (parts_of leads)
   pub absent : Step below w command (Refused [] r.NoGroup) w
   pub no_name : Step below w command (Refused [] r.NoName) w
   pub no_directory : Step below w command (Refused [] r.NotDirectory) w
   pub dismounted : (disk : Bytes) → IsDismounted below w command disk w → Step below w command (Refused [] (r.Dismounted disk)) w
   pub lines : (cause : r.Refusal) → HasLines below w command (Refused [] cause)
-  pub done : (name : Bytes) (inside : Path) (id : ℕ) (g : Group) (lines : List Bytes) → leads ≡ Some (name ∷ inside) → Has w name id g → mounted_group w name ≡ Some g → lines ≡ lines_of id g inside → Step below w command (Done lines) w
+  pub done : (name : Bytes) (inside : Path) (id : ℕ) (g : Group) (lines : List Bytes) → leads ≡ Some (name ∷ inside) → HasMountedGroup w name id g → mounted_group w name ≡ Some g → lines ≡ lines_of id g inside → Step below w command (Done lines) w
   pub has_lines : (lines : List Bytes) → HasLines below w command (Done lines)
   pub no_work : work_of command w below.group ≡ NoWork
   pub in_family : shows_group command ≡ true
@@ -97,7 +97,7 @@ module _ (paths : List Bytes) (text : Bytes) (command : Command) (says : meaning
     shows : ShowsIn (below_with below unread) w command name (λ g. dir_causes g inside)
     shows = record {
       causes_are = is.causes_are ∙ ap (λ (o : Option (List Bytes)). searching_causes w o) leads_in;
-      named = ([], [], is.named ∙ ap (λ (o : Option (Bytes × Path)). group_of o) target);
+      named = ([], [], is.named ∙ ap (λ (o : Option (Bytes × Path)). group_name_of o) target);
       absent = is.absent;
       dismounted = is.dismounted;
       lines = is.lines;

@@ -13,7 +13,7 @@ use Rattle.asm_world.specs.Between.{groups_named}
 use Rattle.asm_world.specs.Causes.{Cause, HasCause, IsCaused, When, causes, group_causes, in_group, session_causes, state_causes}
 use Rattle.asm_world.specs.Command.{Command}
 use Rattle.asm_world.specs.Reply.{Reply, Refused}
-use Rattle.asm_world.specs.Step.{Has, IsDismounted, Step}
+use Rattle.asm_world.specs.Step.{HasMountedGroup, IsDismounted, Step}
 use Rattle.asm_world.specs.Waits.{HasLines}
 use Rattle.asm_world.specs.World.{SessionEntry, SessionState, World, Mounted, DismountedBy, entry_among, entry_in, groups_of, is_mounted, mounted_group}
 use Rattle.session.specs.group_disks.Found.{Counts, counts_of}
@@ -42,7 +42,7 @@ causes_of o = elim o [ None ↦ When true r.NoGroup ∷ [] | Some entry ↦ stat
 pub record IsThere (w : World) (below : ℕ → GroupBelow) (name : Bytes) (m : MountedGroup) : Type 0 where
   pub id : ℕ
   pub group : Group
-  pub has : Has w name id group
+  pub has : HasMountedGroup w name id group
   pub told : IsToldBy m group
   pub lies : below id ≡ group_below m
   pub found : mounted_group w name ≡ Some group

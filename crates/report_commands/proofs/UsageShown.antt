@@ -8,13 +8,13 @@ use Rattle.asm_base.specs.declared.refusal.Refusal.TheVariants as cause
 use Rattle.asm_group.specs.Group.{Group}
 use Rattle.asm_group.specs.Names.{Bytes, Path}
 use Rattle.asm_world.specs.Below.{Below, GroupBelow}
-use Rattle.asm_world.specs.Between.{group_of, groups_named}
+use Rattle.asm_world.specs.Between.{group_name_of, groups_named}
 use Rattle.asm_world.specs.Command.{Command, Asked, Usage}
 use Rattle.asm_world.specs.Language.{command_of}
 use Rattle.asm_world.specs.Listings as world
 use Rattle.asm_world.specs.Paths.{parts_of, resolved_or_here}
 use Rattle.asm_world.specs.Reply.{Refused}
-use Rattle.asm_world.specs.Step.{Has}
+use Rattle.asm_world.specs.Step.{HasMountedGroup}
 use Rattle.asm_world.specs.World.{World, entry_in, mounted_group}
 use Rattle.catalog_tables.specs.Rules.{KeepsRules}
 use Rattle.session.specs.group_engine.Mounts.{MountedGroup}
@@ -32,7 +32,7 @@ use Rattle.report_commands.specs.Told.{IsUsageIn, usage_told}
 use Rattle.report_commands.proofs.Searches.{IsSearch, search_served, told_nowhere}
 use Rattle.report_commands.proofs.ShownGroups.{IsThere}
 
-names_group : (w : World) (path : Option Bytes) → groups_named w (Asked (Usage path)) ≡ group_of (parts_of (resolved_or_here w.place path))
+names_group : (w : World) (path : Option Bytes) → groups_named w (Asked (Usage path)) ≡ group_name_of (parts_of (resolved_or_here w.place path))
 names_group w None = refl
 names_group w (Some path) = refl
 
@@ -53,7 +53,7 @@ module _ (paths : List Bytes) (text : Bytes) (path : Option Bytes) (says : meani
   abbrev lines_of : ℕ → Group → Path → List Bytes
   lines_of id g inside = world.usage_of (below id) g inside
 
-  shown : (name : Bytes) (inside : Path) (id : ℕ) (g : Group) (lines : List Bytes) → leads ≡ Some (name ∷ inside) → Has w name id g → mounted_group w name ≡ Some g → lines ≡ world.usage_of (below id) g inside → world.usage_lines found w path ≡ Some lines
+  shown : (name : Bytes) (inside : Path) (id : ℕ) (g : Group) (lines : List Bytes) → leads ≡ Some (name ∷ inside) → HasMountedGroup w name id g → mounted_group w name ≡ Some g → lines ≡ world.usage_of (below id) g inside → world.usage_lines found w path ≡ Some lines
   shown name inside id g lines to has mounted is =
       let there : world.usage_in found (entry_in w name) (mounted_group w name) inside ≡ Some (world.usage_of (below has.entry.id) g inside) = λ i. world.usage_in found (has.named i) (mounted i) inside in
       ap (λ (o : Option (List Bytes)). world.usage_at found w o) to

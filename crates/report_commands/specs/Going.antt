@@ -12,14 +12,14 @@ use Rattle.session.specs.Naming.{IsGroupOf}
 use Rattle.session.specs.Sessions.{SessionView}
 
 -- the place of a node: the group's own name, and the names that lead to the node as the nodes spell them
-abbrev pub place_of : MountedGroup → ℕ → List Bytes
-place_of m node = m.name ∷ spelt_by m.catalog.tables node
+abbrev pub place_of_directory : MountedGroup → ℕ → List Bytes
+place_of_directory m node = m.name ∷ spelt_by m.catalog.tables node
 
 -- The place is that of the directory to which the path leads.
 pub record IsDirectoryOf (m : MountedGroup) (path : Path) (place : List Bytes) : Type 0 where
   pub node : ℕ
   pub leads : directory_at m.catalog.tables path ≡ Ok node
-  pub is : place ≡ place_of m node
+  pub is : place ≡ place_of_directory m node
 
 -- of a path that leads to `+`, or to a directory of a mounted group
 abbrev pub IsLedBy : SessionView → Option (List Bytes) → List Bytes → Type 0

@@ -60,13 +60,13 @@ pub record AreLinesOf (session : SessionView) (group : Option Bytes) (lines : Li
   pub are : lines ≡ group_head ∷ map line_of (groups_asked group session.entries session.groups)
 
 -- whether a group of the name is in the session, where one is said
-abbrev pub is_there : List SessionEntry → Option Bytes → Bool
-is_there entries None = true
-is_there entries (Some name) = is_some (entry_among entries name)
+abbrev pub is_group_there : List SessionEntry → Option Bytes → Bool
+is_group_there entries None = true
+is_group_there entries (Some name) = is_some (entry_among entries name)
 
 abbrev pub AreGroupsTold : SessionView → Option Bytes → List Bytes → Type 0
-AreGroupsTold session group lines = (is_there session.entries group ≡ true) × AreLinesOf session group lines
+AreGroupsTold session group lines = (is_group_there session.entries group ≡ true) × AreLinesOf session group lines
 
 -- No group has the name. Want of memory is free.
 abbrev pub IsNoGroup : List SessionEntry → Option Bytes → Refusal → Type 0
-IsNoGroup entries group refusal = ((is_there entries group ≡ false) × (refusal ≡ cause.NoGroup)) ⊎ (refusal ≡ cause.NoMemory)
+IsNoGroup entries group refusal = ((is_group_there entries group ≡ false) × (refusal ≡ cause.NoGroup)) ⊎ (refusal ≡ cause.NoMemory)

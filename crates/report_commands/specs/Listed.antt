@@ -39,7 +39,7 @@ AreRowsListed session (name ∷ part ∷ parts) rows = AreRowsOfGroup session na
 
 -- the lines of such rows
 abbrev pub AreListLines : SessionView → Bool → List Bytes → List Bytes → Type 0
-AreListLines session long parts lines = (rows : List LsRow) × AreRowsListed session parts rows × (lines ≡ texts.ls_lines long rows)
+AreListLines session long parts lines = (rows : List LsRow) × AreRowsListed session parts rows × (lines ≡ texts.ls_row_lines long rows)
 
 -- the group of the name isn't there or isn't mounted, or the path in it is refused by its tables
 abbrev pub IsRefusedIn : SessionView → Bytes → Path → Refusal → Type 0

@@ -10,7 +10,7 @@ use Rattle.catalog_tables.specs.Rules.{KeepsRules}
 use Rattle.session.specs.group_engine.Mounts.{MountedGroup}
 use Rattle.group_reports.specs.Disks.{disk_rows}
 use Rattle.group_reports.specs.Extents.{all_extents, checked_of}
-use Rattle.group_reports.specs.Files.{paths_found, usage_of}
+use Rattle.group_reports.specs.Files.{paths_found, directory_usage}
 use Rattle.group_reports.specs.Places.{directory_at}
 use Rattle.report_commands.specs.declared.shown.Report.{Report}
 use Rattle.report_commands.specs.declared.shown.Report.TheVariants as report
@@ -18,16 +18,16 @@ use Rattle.report_commands.specs.declared.shown.Report.TheVariants as report
 -- ---- reports on a group
 
 abbrev pub disks_told : MountedGroup → List Bytes
-disks_told m = texts.disk_lines (map texts.disk_row (disk_rows m.catalog m.register.value.entries))
+disks_told m = texts.disk_row_lines (map texts.disk_row (disk_rows m.catalog m.register.value.entries))
 
 abbrev pub checked_told : MountedGroup → List Bytes
 checked_told m = let checked = checked_of m.register.value.entries (all_extents m.catalog) in check_line checked.extents checked.not_full ∷ []
 
 abbrev pub templates_told : MountedGroup → List Bytes
-templates_told m = texts.template_lines (map texts.template_row m.catalog.tables.templates.templates)
+templates_told m = texts.template_row_lines (map texts.template_row m.catalog.tables.templates.templates)
 
 abbrev pub attributes_told : MountedGroup → List Bytes
-attributes_told m = texts.attribute_lines (texts.attribute_rows m.catalog.shape m.catalog.tables.templates.settings.attributes)
+attributes_told m = texts.attribute_row_lines (texts.attribute_rows m.catalog.shape m.catalog.tables.templates.settings.attributes)
 
 -- the lines of a report
 abbrev pub told : Report → MountedGroup → List Bytes
@@ -54,7 +54,7 @@ pub record IsToldAt (m : MountedGroup) (path : Path) (told lines : List Bytes) :
 
 -- what the files below a directory take
 abbrev pub usage_told : MountedGroup → Path → List Bytes
-usage_told m dir = let taken = usage_of m.catalog m.name dir m.catalog.tables.files in du_lines taken.used taken.mirrored
+usage_told m dir = let taken = directory_usage m.catalog m.name dir m.catalog.tables.files in du_lines taken.used taken.mirrored
 
 abbrev pub IsUsageIn : MountedGroup → Path → List Bytes → Type 0
 IsUsageIn m path lines = IsToldAt m path (usage_told m path) lines

@@ -1,6 +1,6 @@
 // The rows of lsdg, and its lines.
 ghost use Rattle.std.specs.Prelude.{◌≡◌, IfErr, IfOk};
-ghost use Rattle.report_commands.specs.GroupRows.{AreGroupsTold, AreLinesOf, AreAskedRows, IsNoGroup, IsRowOf, is_asked, is_there};
+ghost use Rattle.report_commands.specs.GroupRows.{AreGroupsTold, AreLinesOf, AreAskedRows, IsNoGroup, IsRowOf, is_asked, is_group_there};
 
 use asm_base::{List, Name, NoMemory, Refusal, Text};
 use asmcmd::{GroupRow, group_lines};
@@ -61,7 +61,7 @@ fn lines_of(session: &Session, alloc: Global, group: &Option<Name>) -> Result<Li
 
 /// Whether a group of the name is in the session, where one is said.
 fn is_there(session: &Session, group: &Option<Name>) -> bool
-    ensures { result ≡ is_there session.now.entries group.now }
+    ensures { result ≡ is_group_there session.now.entries group.now }
 {
     match group {
         Some(name) => session.has(name),

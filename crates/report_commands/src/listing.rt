@@ -7,7 +7,7 @@ ghost use Rattle.asm_group.specs.Names.{is_same_name};
 ghost use Rattle.asm_world.specs.Listings.{has_star};
 ghost use Rattle.asm_world.specs.Paths.{resolved_pattern};
 ghost use Rattle.asm_world.specs.World.{entry_among};
-ghost use Rattle.asmcmd.specs.Texts.{ls_lines};
+ghost use Rattle.asmcmd.specs.Texts.{ls_row_lines};
 ghost use Rattle.catalog_tables.specs.Rules.{KeepsRules};
 ghost use Rattle.group_reports.specs.Listing.{AreRowsAt, IsListCause};
 ghost use Rattle.report_laws.specs.Lists.{matching_name, names_before};
@@ -170,7 +170,7 @@ fn rows_of(alloc: Global, m: &Mounted, parts: &[Text]) -> Result<Vec<LsRow>, Ref
 
 /// The lines of rows.
 fn lines_of(alloc: Global, rows: &[LsRow], long: bool) -> Result<List<Text>, Refusal>
-    ensures lines { IfOk result (λ lines. lines ≡ ls_lines long rows.now) }
+    ensures lines { IfOk result (λ lines. lines ≡ ls_row_lines long rows.now) }
     ensures cause { IfErr result (λ refusal. refusal ≡ cause.NoMemory) }
 {
     match ls_lines(alloc, rows, long) {

@@ -6,7 +6,7 @@ ghost use Rattle.asm_world.specs.Language.{command_of};
 ghost use Rattle.asm_world.specs.Paths.{path_text};
 ghost use Rattle.session.specs.Desks.{IsAnswered};
 ghost use Rattle.group_reports.specs.Places.{directory_at};
-ghost use Rattle.report_commands.specs.Going.{IsDirectoryOf, IsGoingCause, IsGoingCauseBy, IsLed, IsLedBy, place_of};
+ghost use Rattle.report_commands.specs.Going.{IsDirectoryOf, IsGoingCause, IsGoingCauseBy, IsLed, IsLedBy, place_of_directory};
 ghost use Rattle.session.specs.Sessions.{AreReady};
 
 use asm_base::{List, Name, NoMemory, Path, Refusal, Text};
@@ -44,7 +44,7 @@ fn put_names(place: &mut List<Name>, names: &[Name]) -> Result<(), NoMemory>
 
 /// The place of a node: the group's name, and the parts that lead to it as they are spelt there. The root has none.
 fn place_of(alloc: Global, m: &Mounted, node: u32) -> Result<List<Name>, NoMemory>
-    ensures { IfOk result (λ place. place ≡ place_of m.now node) }
+    ensures { IfOk result (λ place. place ≡ place_of_directory m.now node) }
 {
     let spelt = m.catalog().path_of(alloc, m.name(), node)?;
     let mut place = List::new(alloc);

@@ -18,7 +18,7 @@ use Rattle.asm_group.specs.Group.{Cell, Group, TreeEntry}
 use Rattle.asm_group.specs.Names.{Bytes, Path, folded, folded_byte, folded_path}
 use Rattle.asm_group.specs.Shape.{Shape}
 use Rattle.asm_group.specs.TreeEdits.{Tree, is_under}
-use Rattle.asm_placement.specs.Naming.{is_directory, is_named_as, kind_eq, names_back}
+use Rattle.asm_placement.specs.Naming.{is_kind_directory, is_named_as, kind_eq, names_back}
 use Rattle.asm_base.specs.Names as base
 use Rattle.asm_base.specs.declared.path.Path as code
 use Rattle.asm_base.proofs.Exact.{some_is}
@@ -27,19 +27,19 @@ use Rattle.asm_world.specs.Listings as world
 use Rattle.asm_world.specs.Listings.{found_path, is_dir_of, is_match}
 use Rattle.asm_world.specs.Paths as texts
 use Rattle.asmcmd.specs.Texts.{path_line}
-use Rattle.alias_tree.specs.Nodes.{IsTable, Numbered, node_at, number_of}
+use Rattle.alias_tree.specs.Nodes.{IsNodeTable, Numbered, node_at, number_of}
 use Rattle.alias_tree.specs.Spelling.{names_to}
 use Rattle.alias_tree.specs.Trees.{node_by, number_by, tree_of}
 use Rattle.alias_tree.proofs.Spelled.{leads_there}
 use Rattle.alias_tree.proofs.Ways.{no_root, paths_total, tree_has, way, way_is, way_leads}
-use Rattle.file_directory.specs.Files.{File, head_at}
+use Rattle.file_directory.specs.Files.{NumberedFile, head_at}
 use Rattle.catalog_tables.specs.Rules as rules
 use Rattle.catalog_tables.specs.Rules.{KeepsRules}
 use Rattle.catalog_tables.specs.Tables.{Tables}
 use Rattle.group_of.proofs.catalog.NumberedEntries.{found_passes, passes_each}
 use Rattle.group_of.specs.Groups.{group_of}
 use Rattle.group_of.proofs.HeadedFiles.{head_among}
-use Rattle.group_reports.specs.Files.{found_at, found_of_file, found_of_files, paths_found}
+use Rattle.group_reports.specs.Files.{matching_node_path, found_of_file, found_of_files, paths_found}
 use Rattle.group_reports.specs.Places.{path_of_parts}
 use Rattle.report_laws.specs.Finds.{FoundAreWorlds}
 use Rattle.report_laws.proofs.Ordered.{AreApart, order_is, same_texts}
@@ -168,17 +168,17 @@ got_entry t q x e = find_among P paths_total paths_same (maps.entries t) q x (sy
 
 -- ---- kinds
 
-no_directory : (kind : NodeKind) (file : ℕ) → is_directory kind ≡ false → is_dir_of (node_kind kind file) ≡ false
+no_directory : (kind : NodeKind) (file : ℕ) → is_kind_directory kind ≡ false → is_dir_of (node_kind kind file) ≡ false
 no_directory Directory file is = absurd (true≢false is)
 no_directory System file is = refl
 no_directory Alias file is = refl
 
-directory_of : (kind : NodeKind) (file : ℕ) → is_dir_of (node_kind kind file) ≡ false → is_directory kind ≡ false
+directory_of : (kind : NodeKind) (file : ℕ) → is_dir_of (node_kind kind file) ≡ false → is_kind_directory kind ≡ false
 directory_of Directory file is = absurd (true≢false is)
 directory_of System file is = refl
 directory_of Alias file is = refl
 
-named_kind : (kind wanted : NodeKind) → is_directory wanted ≡ false → kind_eq kind wanted ≡ true → is_directory kind ≡ false
+named_kind : (kind wanted : NodeKind) → is_kind_directory wanted ≡ false → kind_eq kind wanted ≡ true → is_kind_directory kind ≡ false
 named_kind Directory Directory is same = absurd (true≢false is)
 named_kind Directory System is same = absurd (false≢true same)
 named_kind Directory Alias is same = absurd (false≢true same)
@@ -191,7 +191,7 @@ module _ (name : Bytes) (s : Shape) (t : Tables) (cells : ℕ → List Cell) (di
   abbrev nodes : List Numbered
   nodes = t.nodes
 
-  table : IsTable nodes
+  table : IsNodeTable nodes
   table = keeps.tables.nodes
 
   abbrev g : Group
@@ -209,7 +209,7 @@ module _ (name : Bytes) (s : Shape) (t : Tables) (cells : ℕ → List Cell) (di
   names n = names_to nodes (length nodes) n
 
   abbrev text_of : ℕ → Bytes
-  text_of n = base.path_text name (names n)
+  text_of n = base.path_text_in_group name (names n)
 
   module _ (n : ℕ) (node : Node) (at : node_at nodes n ≡ Some node) where
     leads : number_by nodes 0 (folded_path (names n)) ≡ Some n
@@ -239,7 +239,7 @@ module _ (name : Bytes) (s : Shape) (t : Tables) (cells : ℕ → List Cell) (di
     under : is_under (folded_path dir) (folded_path (names n)) ≡ true
     is : p ≡ path_of_parts name (names n)
 
-  found_is : (n : ℕ) (p : code.Path) → found_at t name dir pattern n ≡ Some p → IsFound n p
+  found_is : (n : ℕ) (p : code.Path) → matching_node_path t name dir pattern n ≡ Some p → IsFound n p
   found_is n p e = by (node_at nodes n) refl where
     by : (o : Option Node) → node_at nodes n ≡ o → IsFound n p
     by None f = absurd (none-some p (rw f at e))
@@ -252,7 +252,7 @@ module _ (name : Bytes) (s : Shape) (t : Tables) (cells : ℕ → List Cell) (di
     ]
 
   is_found : (n : ℕ) (node : Node) → node_at nodes n ≡ Some node → is_match pattern node.name ≡ true → is_under (folded_path dir) (folded_path (names n)) ≡ true
-      → found_at t name dir pattern n ≡ Some (path_of_parts name (names n))
+      → matching_node_path t name dir pattern n ≡ Some (path_of_parts name (names n))
   is_found n node at match under = rw (at, match, under) refl
 
   -- ---- what the world finds at an entry
@@ -288,7 +288,7 @@ module _ (name : Bytes) (s : Shape) (t : Tables) (cells : ℕ → List Cell) (di
   by_entries = filter_map (found_path g (folded_path dir) pattern) (maps.entries g.tree)
 
   -- a node that a file names is no directory
-  named_file : (f n : ℕ) (wanted : NodeKind) (node : Node) → is_directory wanted ≡ false → node_at nodes n ≡ Some node → rules.names_file t f wanted n ≡ true → is_directory node.kind ≡ false
+  named_file : (f n : ℕ) (wanted : NodeKind) (node : Node) → is_kind_directory wanted ≡ false → node_at nodes n ≡ Some node → rules.names_file_in_tables t f wanted n ≡ true → is_kind_directory node.kind ≡ false
   named_file f n wanted node is at names_it = elim (cases_Bool (n == 0)) [
     | inl root ↦ absurd (none-some node (sym (ap (node_at nodes) (eqb-true n 0 root) ∙ no_root nodes table) ∙ at))
     | inr other ↦
@@ -296,7 +296,7 @@ module _ (name : Bytes) (s : Shape) (t : Tables) (cells : ℕ → List Cell) (di
         named_kind node.kind wanted is (and_parts (kind_eq node.kind wanted) (node.file == f) named).0
   ]
 
-  of_node : (f n : ℕ) (wanted : NodeKind) (p : code.Path) → is_directory wanted ≡ false → rules.names_file t f wanted n ≡ true → found_at t name dir pattern n ≡ Some p → IsAmong by_entries (path_line p)
+  of_node : (f n : ℕ) (wanted : NodeKind) (p : code.Path) → is_kind_directory wanted ≡ false → rules.names_file_in_tables t f wanted n ≡ true → matching_node_path t name dir pattern n ≡ Some p → IsAmong by_entries (path_line p)
   of_node f n wanted p is names_it e =
       let found = found_is n p e in
       let file = no_directory found.node.kind found.node.file (named_file f n wanted found.node is found.at names_it) in
@@ -310,12 +310,12 @@ module _ (name : Bytes) (s : Shape) (t : Tables) (cells : ℕ → List Cell) (di
       let a = mapped_from path_line (found_of_files t name dir pattern t.files) x m in
       let b = flat_from (found_of_file t name dir pattern) t.files a.0 a.1 in
       let f = b.0 in
-      let both = and_parts (rules.names_file t f.0 System f.1.system) (rules.names_file t f.0 Alias f.1.alias) (passes_each (rules.has_names t) t.files keeps.names f b.1) in
+      let both = and_parts (rules.names_file_in_tables t f.0 System f.1.system) (rules.names_file_in_tables t f.0 Alias f.1.alias) (passes_each (rules.has_names t) t.files keeps.names f b.1) in
       subst (λ (y : Bytes). IsAmong by_entries y) (sym a.2)
       (⊎_elim
-      (λ system. of_node f.0 f.1.system System a.0 refl both.0 (one_from (found_at t name dir pattern f.1.system) a.0 system))
-      (λ alias. of_node f.0 f.1.alias Alias a.0 refl both.1 (one_from (found_at t name dir pattern f.1.alias) a.0 alias))
-      (append_from (option_to_list (found_at t name dir pattern f.1.system)) (option_to_list (found_at t name dir pattern f.1.alias)) a.0 b.2))
+      (λ system. of_node f.0 f.1.system System a.0 refl both.0 (one_from (matching_node_path t name dir pattern f.1.system) a.0 system))
+      (λ alias. of_node f.0 f.1.alias Alias a.0 refl both.1 (one_from (matching_node_path t name dir pattern f.1.alias) a.0 alias))
+      (append_from (option_to_list (matching_node_path t name dir pattern f.1.system)) (option_to_list (matching_node_path t name dir pattern f.1.alias)) a.0 b.2))
 
   -- the node of an entry
   pub record IsOf (x : Path × TreeEntry) : Type 0 where
@@ -343,11 +343,11 @@ module _ (name : Bytes) (s : Shape) (t : Tables) (cells : ℕ → List Cell) (di
 
   -- the file that names a node
   record IsNamed (n : ℕ) : Type 0 where
-    file : File
+    file : NumberedFile
     among : IsAmong t.files file
     which : (file.1.system ≡ n) ⊎ (file.1.alias ≡ n)
 
-  named_back : (n : ℕ) (node : Node) → node_at nodes n ≡ Some node → is_directory node.kind ≡ false → IsNamed n
+  named_back : (n : ℕ) (node : Node) → node_at nodes n ≡ Some node → is_kind_directory node.kind ≡ false → IsNamed n
   named_back n node at file =
       let passes : rules.is_named_back t (n, node) ≡ true = found_passes (rules.is_named_back t) nodes n node keeps.nodes at in
       let back : names_back node.kind n (head_at t.files node.file) ≡ true = rw file at passes in
@@ -364,7 +364,7 @@ module _ (name : Bytes) (s : Shape) (t : Tables) (cells : ℕ → List Cell) (di
       let a = filtered_from (found_path g (folded_path dir) pattern) (maps.entries g.tree) x m in
       let shown = shown_is a.0 x a.2 in
       let of = entry_node a.0 a.1 in
-      let file : is_directory of.node.kind ≡ false = directory_of of.node.kind of.node.file (ap (λ (e : TreeEntry). is_dir_of e.node) (sym of.is) ∙ shown.file) in
+      let file : is_kind_directory of.node.kind ≡ false = directory_of of.node.kind of.node.file (ap (λ (e : TreeEntry). is_dir_of e.node) (sym of.is) ∙ shown.file) in
       let match : is_match pattern of.node.name ≡ true = ap (λ (e : TreeEntry). is_match pattern e.name) (sym of.is) ∙ shown.match in
       let under : is_under (folded_path dir) (folded_path (names of.n)) ≡ true = ap (is_under (folded_path dir)) (sym (of.key ∙ way_names of.n of.node of.at)) ∙ shown.under in
       let found = is_found of.n of.node of.at match under in
@@ -372,10 +372,10 @@ module _ (name : Bytes) (s : Shape) (t : Tables) (cells : ℕ → List Cell) (di
       let f = named.file in
       let p : code.Path = path_of_parts name (names of.n) in
       let in_file : IsAmong (found_of_file t name dir pattern f) p = ⊎_elim
-      (λ (system : f.1.system ≡ of.n). append_front (option_to_list (found_at t name dir pattern f.1.system)) (option_to_list (found_at t name dir pattern f.1.alias)) p
-      (one_to (found_at t name dir pattern f.1.system) p (ap (found_at t name dir pattern) system ∙ found)))
-      (λ (alias : f.1.alias ≡ of.n). append_back (option_to_list (found_at t name dir pattern f.1.system)) (option_to_list (found_at t name dir pattern f.1.alias)) p
-      (one_to (found_at t name dir pattern f.1.alias) p (ap (found_at t name dir pattern) alias ∙ found)))
+      (λ (system : f.1.system ≡ of.n). append_front (option_to_list (matching_node_path t name dir pattern f.1.system)) (option_to_list (matching_node_path t name dir pattern f.1.alias)) p
+      (one_to (matching_node_path t name dir pattern f.1.system) p (ap (matching_node_path t name dir pattern) system ∙ found)))
+      (λ (alias : f.1.alias ≡ of.n). append_back (option_to_list (matching_node_path t name dir pattern f.1.system)) (option_to_list (matching_node_path t name dir pattern f.1.alias)) p
+      (one_to (matching_node_path t name dir pattern f.1.alias) p (ap (matching_node_path t name dir pattern) alias ∙ found)))
       named.which in
       subst (λ (y : Bytes). IsAmong by_files y) (sym (entry_text a.0 of x shown))
       (mapped_to path_line (found_of_files t name dir pattern t.files) p (flat_to (found_of_file t name dir pattern) t.files f p named.among in_file))

@@ -17,7 +17,7 @@ use Rattle.asm_world.specs.Listings as world
 use Rattle.asm_world.specs.Listings.{by_folded_text, matches, tails}
 use Rattle.asm_world.specs.World.{SessionEntry, is_mounted}
 use Rattle.group_reports.specs.Listing.{star}
-use Rattle.report_laws.specs.Lists.{AllMatchStar, GroupsAreWorlds, MatchesAreInOrder, NamesAreInserted, matching, matching_name, names_before}
+use Rattle.report_laws.specs.Lists.{AllMatchStar, GroupsAreWorlds, MatchesAreInOrder, NamesAreInserted, matching_names, matching_name, names_before}
 use Rattle.report_laws.proofs.Ordered.{Entries, R, entry, found, found_is}
 use Rattle.report_laws.proofs.Sorted.{above, sorted_find, t_true}
 
@@ -124,54 +124,54 @@ module _ (pattern : Bytes) where
   abbrev kept : Entries → Entries
   kept es = filter (λ (e : Bytes × Bytes). passes e.0) es
 
-  texts_kept : (texts : List Bytes) → map entry (matching pattern texts) ≡ kept (map entry texts)
+  texts_kept : (texts : List Bytes) → map entry (matching_names pattern texts) ≡ kept (map entry texts)
   texts_kept [] = refl
   texts_kept (x ∷ texts) = by (passes (folded x)) (texts_kept texts) where
-    by : (b : Bool) → map entry (matching pattern texts) ≡ kept (map entry texts)
-        → map entry (cons_option (cond b (Some x) None) (matching pattern texts)) ≡ cond b (entry x ∷ kept (map entry texts)) (kept (map entry texts))
+    by : (b : Bool) → map entry (matching_names pattern texts) ≡ kept (map entry texts)
+        → map entry (cons_option (cond b (Some x) None) (matching_names pattern texts)) ≡ cond b (entry x ∷ kept (map entry texts)) (kept (map entry texts))
     by true more = ap (λ (es : Entries). entry x ∷ es) more
     by false more = more
 
-  seconds_kept : (es : Entries) → AreFolded es → map second (kept es) ≡ matching pattern (map second es)
+  seconds_kept : (es : Entries) → AreFolded es → map second (kept es) ≡ matching_names pattern (map second es)
   seconds_kept [] is = refl
   seconds_kept (e ∷ es) is =
       by (passes e.0) (seconds_kept es (λ x m. is x (inr m)))
-      ∙ ap (λ (k : Bytes). cons_option (cond (passes k) (Some e.1) None) (matching pattern (map second es))) (sym (is e (inl refl)))
+      ∙ ap (λ (k : Bytes). cons_option (cond (passes k) (Some e.1) None) (matching_names pattern (map second es))) (sym (is e (inl refl)))
     where
-      by : (b : Bool) → map second (kept es) ≡ matching pattern (map second es)
-          → map second (cond b (e ∷ kept es) (kept es)) ≡ cons_option (cond b (Some e.1) None) (matching pattern (map second es))
+      by : (b : Bool) → map second (kept es) ≡ matching_names pattern (map second es)
+          → map second (cond b (e ∷ kept es) (kept es)) ≡ cons_option (cond b (Some e.1) None) (matching_names pattern (map second es))
       by true more = ap (λ (l : List Bytes). e.1 ∷ l) more
       by false more = more
 
   alike : (q x : Bytes) → R q x ≡ Equal → passes x ≡ passes q
   alike q x e = ap passes (sym (same_key q x e))
 
-  entries_kept : (texts : List Bytes) → entries_of (matching pattern texts) ≡ kept (entries_of texts)
+  entries_kept : (texts : List Bytes) → entries_of (matching_names pattern texts) ≡ kept (entries_of texts)
   entries_kept texts =
-      same_entries R nat_list_cmp_total same_key (entries_of (matching pattern texts)) (kept (entries_of texts)) (maps.entries_sorted (by_folded_text (matching pattern texts)))
+      same_entries R nat_list_cmp_total same_key (entries_of (matching_names pattern texts)) (kept (entries_of texts)) (maps.entries_sorted (by_folded_text (matching_names pattern texts)))
       (is_sorted-where_key R passes (entries_of texts) (maps.entries_sorted (by_folded_text texts)))
       (λ q.
-      found_in (matching pattern texts) q
+      found_in (matching_names pattern texts) q
       ∙ (ap (maps.find R q) (texts_kept texts)
       ∙ (find-where_key R passes q (alike q) (map entry texts)
       ∙ (ap (λ (o : Option Bytes). cond (passes q) o None) (sym (found_in texts q))
       ∙ sym (find-where_key R passes q (alike q) (entries_of texts))))))
 
-  in_order_kept : (texts : List Bytes) → world.in_order (matching pattern texts) ≡ matching pattern (world.in_order texts)
+  in_order_kept : (texts : List Bytes) → world.in_order (matching_names pattern texts) ≡ matching_names pattern (world.in_order texts)
   in_order_kept texts = ap (map second) (entries_kept texts) ∙ seconds_kept (entries_of texts) (λ e m. (entry_is texts e m).1)
 
   abbrev mounted_name : SessionEntry → Option Bytes
   mounted_name entry = cond (is_mounted entry) (Some entry.name) None
 
-  session_kept : (session : List SessionEntry) → filter_map (matching_name pattern) session ≡ matching pattern (filter_map mounted_name session)
+  session_kept : (session : List SessionEntry) → filter_map (matching_name pattern) session ≡ matching_names pattern (filter_map mounted_name session)
   session_kept [] = refl
   session_kept (e ∷ session) = by (is_mounted e) (world.is_match pattern e.name) refl (session_kept session) where
-    by : (a b : Bool) → world.is_match pattern e.name ≡ b → filter_map (matching_name pattern) session ≡ matching pattern (filter_map mounted_name session)
-        → cons_option (cond (a && b) (Some e.name) None) (filter_map (matching_name pattern) session) ≡ matching pattern (cons_option (cond a (Some e.name) None) (filter_map mounted_name session))
+    by : (a b : Bool) → world.is_match pattern e.name ≡ b → filter_map (matching_name pattern) session ≡ matching_names pattern (filter_map mounted_name session)
+        → cons_option (cond (a && b) (Some e.name) None) (filter_map (matching_name pattern) session) ≡ matching_names pattern (cons_option (cond a (Some e.name) None) (filter_map mounted_name session))
     by false b is more = more
     by true b is more =
         ap (λ (l : List Bytes). cons_option (cond b (Some e.name) None) l) more
-        ∙ ap (λ (c : Bool). cons_option (cond c (Some e.name) None) (matching pattern (filter_map mounted_name session))) (sym is)
+        ∙ ap (λ (c : Bool). cons_option (cond c (Some e.name) None) (matching_names pattern (filter_map mounted_name session))) (sym is)
 
 pub matches_are_in_order : MatchesAreInOrder
 matches_are_in_order pattern texts = in_order_kept pattern texts
@@ -195,4 +195,4 @@ star_matches name = some_tail (folded name)
 pub all_match_star : AllMatchStar
 all_match_star [] = refl
 all_match_star (name ∷ names) =
-    ap (λ (b : Bool). cons_option (cond b (Some name) None) (matching star names)) (star_matches name) ∙ ap (λ (l : List Bytes). name ∷ l) (all_match_star names)
+    ap (λ (b : Bool). cons_option (cond b (Some name) None) (matching_names star names)) (star_matches name) ∙ ap (λ (l : List Bytes). name ∷ l) (all_match_star names)

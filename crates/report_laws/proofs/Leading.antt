@@ -10,7 +10,7 @@ use Rattle.std.proofs.lemmas.Option.{same_Some}
 use Rattle.std.proofs.lemmas.Slice.Eq.{bytes_eq-Decides}
 use Rattle.asm_grammar.specs.Argument as grammar
 use Rattle.asm_grammar.specs.Argument.{Parts, Plain, Starred, Stage, Rest, NameStart, Letters, PathStart, Plus, GroupName, Slash, Dot, Part, NotLongStart, Dash, DashL, accepts, ends_at, has_slashes, onward, reached, step}
-use Rattle.asm_grammar.specs.Bytes.{is_letter, is_word}
+use Rattle.asm_grammar.specs.Bytes.{is_letter_byte, is_word}
 use Rattle.asm_group.specs.Names.{Bytes}
 use Rattle.asm_world.specs.Paths.{before_first, between_slashes, resolved_by, two_points, up, walk}
 
@@ -64,7 +64,7 @@ record IsFront (byte : ℕ → Bool) (front : Bytes) (n : ℕ) : Type 0 where
   few : n ≤ 80
   other : bytes_eq front (46 ∷ []) ≡ false
 
-module _ (p : Parts) (byte : ℕ → Bool) (same : (b : ℕ) → grammar.is_part_byte p b ≡ byte b) (slashes : has_slashes p ≡ true) (no_slash : byte 47 ≡ false) where
+module _ (p : Parts) (byte : ℕ → Bool) (same : (b : ℕ) → grammar.is_path_byte p b ≡ byte b) (slashes : has_slashes p ≡ true) (no_slash : byte 47 ≡ false) where
   abbrev is_it : Bytes → Bool
   is_it part = is_made byte part
 
@@ -103,7 +103,7 @@ module _ (p : Parts) (byte : ℕ → Bool) (same : (b : ℕ) → grammar.is_part
   word_is : (b : ℕ) → is_word b ≡ true → byte b ≡ true
   word_is b word = sym (same b) ∙ rw word refl
 
-  letter_is : (b : ℕ) → is_letter b ≡ true → byte b ≡ true
+  letter_is : (b : ℕ) → is_letter_byte b ≡ true → byte b ≡ true
   letter_is b letter = word_is b (rw letter refl)
 
   point_is : byte 46 ≡ true
@@ -134,23 +134,23 @@ module _ (p : Parts) (byte : ℕ → Bool) (same : (b : ℕ) → grammar.is_part
       let is : b ≡ 46 = eqb-true b 46 point in
       at_end front b (Dot p) t (rw point at e) (inr (is_no_slash b (ap byte is ∙ point_is), (refl, ap (λ (f : Bytes). f ++ b ∷ []) empty ∙ ap (λ (x : ℕ). x ∷ []) is))))
       (λ (other : (b == 46) ≡ false). ⊎_elim
-      (λ (yes : grammar.is_part_byte p b ≡ true).
+      (λ (yes : grammar.is_path_byte p b ≡ true).
       let is : byte b ≡ true = sym (same b) ∙ yes in
       at_end front b (Part p 1) t (rw (yes, other) at e) (inr (is_no_slash b is, (refl, subst (λ (f : Bytes). IsFront byte (f ++ b ∷ []) 1) (sym empty) (single b is other)))))
-      (λ (no : grammar.is_part_byte p b ≡ false). absurd (let f = rw (no, other) at e in cc))
-      (cases_Bool (grammar.is_part_byte p b)))
+      (λ (no : grammar.is_path_byte p b ≡ false). absurd (let f = rw (no, other) at e in cc))
+      (cases_Bool (grammar.is_path_byte p b)))
       (cases_Bool (b == 46))
 
   from_part : (front : Bytes) (n b : ℕ) (t : Stage) → step (Part p n) b ≡ Some t → IsFront byte front n → Cut front b t
   from_part front n b t e f = ⊎_elim
       (λ (slash : (b == 47) ≡ true). at_end front b (Slash p) t (rw (slashes, slash) at e) (inl (slash, (made_goes front n f, (refl, refl)))))
       (λ (no : (b == 47) ≡ false). ⊎_elim
-      (λ (yes : (grammar.is_part_byte p b && nat_lt n 80) ≡ true).
-      let both = and_parts (grammar.is_part_byte p b) (nat_lt n 80) yes in
+      (λ (yes : (grammar.is_path_byte p b && nat_lt n 80) ≡ true).
+      let both = and_parts (grammar.is_path_byte p b) (nat_lt n 80) yes in
       let few = ltb-true n 80 both.1 in
       at_end front b (Part p (n + 1)) t (rw (slashes, no, yes) at e) (inr (no, (refl, longer front n b f (sym (same b) ∙ both.0) (omega (arith, few))))))
-      (λ (none : (grammar.is_part_byte p b && nat_lt n 80) ≡ false). absurd (let g = rw (slashes, no, none) at e in cc))
-      (cases_Bool (grammar.is_part_byte p b && nat_lt n 80)))
+      (λ (none : (grammar.is_path_byte p b && nat_lt n 80) ≡ false). absurd (let g = rw (slashes, no, none) at e in cc))
+      (cases_Bool (grammar.is_path_byte p b && nat_lt n 80)))
       (cases_Bool (b == 47))
 
   from_group : (front : Bytes) (n b : ℕ) (t : Stage) → step (GroupName p n) b ≡ Some t → IsFront byte front n → n ≤ 30 → Cut front b t
@@ -167,12 +167,12 @@ module _ (p : Parts) (byte : ℕ → Bool) (same : (b : ℕ) → grammar.is_part
 
   from_dot : (front : Bytes) (b : ℕ) (t : Stage) → step (Dot p) b ≡ Some t → front ≡ 46 ∷ [] → Cut front b t
   from_dot front b t e is_front = ⊎_elim
-      (λ (yes : grammar.is_part_byte p b ≡ true).
+      (λ (yes : grammar.is_path_byte p b ≡ true).
       let is : byte b ≡ true = sym (same b) ∙ yes in
       let two : IsFront byte (46 ∷ b ∷ []) 2 = record { all = rw (point_is, is) refl; len = refl; some = omega arith; few = omega arith; other = refl } in
       at_end front b (Part p 2) t (rw yes at e) (inr (is_no_slash b is, (refl, subst (λ (f : Bytes). IsFront byte (f ++ b ∷ []) 2) (sym is_front) two))))
-      (λ (no : grammar.is_part_byte p b ≡ false). absurd (let f = rw no at e in cc))
-      (cases_Bool (grammar.is_part_byte p b))
+      (λ (no : grammar.is_path_byte p b ≡ false). absurd (let f = rw no at e in cc))
+      (cases_Bool (grammar.is_path_byte p b))
 
   abbrev dash_front : byte 45 ≡ true → IsFront byte (45 ∷ []) 1
   dash_front is = single 45 is refl
@@ -240,13 +240,13 @@ module _ (p : Parts) (byte : ℕ → Bool) (same : (b : ℕ) → grammar.is_part
   behind_plus : (bytes : Bytes) → accepts (Plus p) bytes ≡ true → (length bytes == 0) ≡ false → list_all (goes is_it) (between_slashes bytes) ≡ true
   behind_plus [] ends some = absurd (false≢true (sym some))
   behind_plus (c ∷ bytes) ends some = ⊎_elim
-      (λ (letter : is_letter c ≡ true).
+      (λ (letter : is_letter_byte c ≡ true).
       let is : byte c ≡ true = letter_is c letter in
       let no : (c == 47) ≡ false = is_no_slash c is in
-      let other : (c == 46) ≡ false = ne_eqb c 46 (λ e. true≢false (sym letter ∙ ap is_letter e)) in
+      let other : (c == 46) ≡ false = ne_eqb c 46 (λ e. true≢false (sym letter ∙ ap is_letter_byte e)) in
       rw no (from (GroupName p 1) (c ∷ []) bytes (refl, (single c is other, omega arith)) (rw letter at ends)))
-      (λ (none : is_letter c ≡ false). absurd (let f = rw none at ends in false≢true f))
-      (cases_Bool (is_letter c))
+      (λ (none : is_letter_byte c ≡ false). absurd (let f = rw none at ends in false≢true f))
+      (cases_Bool (is_letter_byte c))
 
   plus_leads : (place : List Bytes) (b : ℕ) (bytes : Bytes) → (b == 43) ≡ true → accepts (Plus p) bytes ≡ true → is_some (resolved_by is_it place (b ∷ bytes)) ≡ true
   plus_leads place b bytes plus ends = ⊎_elim

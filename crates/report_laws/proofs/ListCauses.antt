@@ -19,7 +19,7 @@ use Rattle.alias_tree.specs.Nodes.{number_of}
 use Rattle.alias_tree.specs.Trees.{tree_of}
 use Rattle.catalog_tables.specs.Tables.{AreTables, Tables}
 use Rattle.group_of.specs.Groups.{group_of}
-use Rattle.group_reports.specs.Listing.{AreRowsIn, AreRowsOf, if_missing, refusal_in}
+use Rattle.group_reports.specs.Listing.{AreRowsIn, AreRowsOf, if_missing, directory_refusal}
 use Rattle.group_reports.specs.Places.{directory_at, directory_in, node_named}
 use Rattle.report_laws.specs.Lists.{ListsAreRefused, ListsAreUncaused}
 use Rattle.report_laws.proofs.Directories.{not_there, there}
@@ -45,13 +45,13 @@ module _ (name : Bytes) (s : Shape) (t : Tables) (cells : ℕ → List Cell) (pa
     in_directory (Ok n) e are = (directories_are_worlds name s t cells (up parts) n tables e).uncaused
     in_directory (Err refusal) e are = absurd are
 
-    at_name : (o : Option ℕ) → number_of t.nodes parts ≡ o → IsSomeAnd o (λ n. AreRowsOf t name n rows) → decided (When (not (world.is_there g parts)) r.NoName ∷ []) ≡ None
+    at_name : (o : Option ℕ) → number_of t.nodes parts ≡ o → IsSomeAnd o (λ n. AreRowsOf t name n rows) → decided (When (not (world.group_has_path g parts)) r.NoName ∷ []) ≡ None
     at_name None e are = absurd are
     at_name (Some n) e are = ap (λ (b : Bool). decided (When (not b) r.NoName ∷ [])) (there t.nodes tables.nodes g tree_is parts n e)
 
     uncaused : (b : Bool) → has_star (last_part parts) ≡ b
         → MatchBool b (AreRowsIn t name (last_part parts) (directory_in t (node_named t (up parts))) rows) (IsSomeAnd (node_named t parts) (λ n. AreRowsOf t name n rows))
-        → decided (cond b (dir_causes g (up parts)) (When (not (world.is_there g parts)) r.NoName ∷ [])) ≡ None
+        → decided (cond b (dir_causes g (up parts)) (When (not (world.group_has_path g parts)) r.NoName ∷ [])) ≡ None
     uncaused true is are =
         in_directory (directory_at t (up parts)) refl (subst (λ (o : Option ℕ). AreRowsIn t name (last_part parts) (directory_in t o) rows) (named_is t tables.nodes (up parts)) are)
     uncaused false is are = at_name (number_of t.nodes parts) refl (subst (λ (o : Option ℕ). IsSomeAnd o (λ n. AreRowsOf t name n rows)) (named_is t tables.nodes parts) are)
@@ -59,21 +59,21 @@ module _ (name : Bytes) (s : Shape) (t : Tables) (cells : ℕ → List Cell) (pa
   -- ---- what is refused
 
   module _ (refusal : Refusal) where
-    no_directory : (o : Result ℕ Refusal) → directory_at t (up parts) ≡ o → refusal_in o ≡ Some refusal → IsCaused (dir_causes g (up parts)) (said (λ _. []) refusal)
+    no_directory : (o : Result ℕ Refusal) → directory_at t (up parts) ≡ o → directory_refusal o ≡ Some refusal → IsCaused (dir_causes g (up parts)) (said (λ _. []) refusal)
     no_directory (Ok n) e is = absurd (none-some refusal is)
     no_directory (Err why) e is =
         subst (λ (c : Refusal). IsCaused (dir_causes g (up parts)) (said (λ _. []) c)) (same_Some why refusal is) (no_directories_are_worlds name s t cells (up parts) why tables e)
 
-    no_node : (o : Option ℕ) → number_of t.nodes parts ≡ o → if_missing o ≡ Some refusal → IsCaused (When (not (world.is_there g parts)) r.NoName ∷ []) (said (λ _. []) refusal)
+    no_node : (o : Option ℕ) → number_of t.nodes parts ≡ o → if_missing o ≡ Some refusal → IsCaused (When (not (world.group_has_path g parts)) r.NoName ∷ []) (said (λ _. []) refusal)
     no_node (Some n) e is = absurd (none-some refusal is)
     no_node None e is =
         let same : cause.NoName ≡ refusal = same_Some cause.NoName refusal is in
-        due (world.is_there g parts) (said (λ _. []) refusal) (not_there t.nodes tables.nodes g tree_is parts e) (ap (λ (c : Refusal). said (λ _. []) c) (sym same) ∙ no_name)
+        due (world.group_has_path g parts) (said (λ _. []) refusal) (not_there t.nodes tables.nodes g tree_is parts e) (ap (λ (c : Refusal). said (λ _. []) c) (sym same) ∙ no_name)
 
-    refused : (b : Bool) → cond b (refusal_in (directory_in t (node_named t (up parts)))) (if_missing (node_named t parts)) ≡ Some refusal
-        → IsCaused (cond b (dir_causes g (up parts)) (When (not (world.is_there g parts)) r.NoName ∷ [])) (said (λ _. []) refusal)
+    refused : (b : Bool) → cond b (directory_refusal (directory_in t (node_named t (up parts)))) (if_missing (node_named t parts)) ≡ Some refusal
+        → IsCaused (cond b (dir_causes g (up parts)) (When (not (world.group_has_path g parts)) r.NoName ∷ [])) (said (λ _. []) refusal)
     refused true is =
-        no_directory (directory_at t (up parts)) refl (sym (ap (λ (o : Option ℕ). refusal_in (directory_in t o)) (named_is t tables.nodes (up parts))) ∙ is)
+        no_directory (directory_at t (up parts)) refl (sym (ap (λ (o : Option ℕ). directory_refusal (directory_in t o)) (named_is t tables.nodes (up parts))) ∙ is)
     refused false is = no_node (number_of t.nodes parts) refl (sym (ap if_missing (named_is t tables.nodes parts)) ∙ is)
 
 pub lists_are_uncaused : ListsAreUncaused

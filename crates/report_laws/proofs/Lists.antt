@@ -26,7 +26,7 @@ use Rattle.asm_group.specs.Group as group
 use Rattle.asm_group.specs.Names.{Bytes, Path, folded, folded_path}
 use Rattle.asm_group.specs.Shape.{Shape}
 use Rattle.asm_group.specs.TreeEdits.{is_dir_entry, is_root, last_part, up}
-use Rattle.asm_placement.specs.Naming.{is_directory, is_named_as, kind_eq, names_back}
+use Rattle.asm_placement.specs.Naming.{is_kind_directory, is_named_as, kind_eq, names_back}
 use Rattle.asm_base.specs.declared.refusal.Refusal.TheVariants as cause
 use Rattle.asm_world.specs.Edits as edits
 use Rattle.asm_world.specs.Listings as world
@@ -36,7 +36,7 @@ use Rattle.asm_world.specs.Reports.{Listed}
 use Rattle.asm_world.specs.Reports as reports
 use Rattle.asmcmd.specs.Texts.{listed_row}
 use Rattle.asmcmd.specs.declared.rows.LsRow.{LsRow}
-use Rattle.alias_tree.specs.Nodes.{AreByName, IsTable, Numbered, folded_in, folded_name, has_parent, is_under, node_at, number_of}
+use Rattle.alias_tree.specs.Nodes.{AreByName, IsNodeTable, Numbered, folded_in, folded_name, has_parent, is_under_parent, node_at, number_of}
 use Rattle.alias_tree.specs.Spelling.{names_to}
 use Rattle.alias_tree.specs.Trees.{number_by, tree_of}
 use Rattle.alias_tree.proofs.Ways.{by_last, child_at, child_found, paths_total, way, way_is, way_leads}
@@ -47,7 +47,7 @@ use Rattle.catalog_tables.specs.Tables.{Tables}
 use Rattle.group_of.proofs.catalog.NumberedEntries.{found_passes, passes_each}
 use Rattle.group_of.specs.Groups.{files_by_number, group_of}
 use Rattle.group_of.proofs.HeadedFiles.{file_at, files_are, head_among, head_is}
-use Rattle.group_reports.specs.Listing.{AreRowsAt, AreRowsIn, AreRowsOf, AreRowsUnder, listed, listed_as, node_row, path_to, row_at, rows_at, star, text_of}
+use Rattle.group_reports.specs.Listing.{AreRowsAt, AreRowsIn, AreRowsOf, AreRowsUnder, listing_of_node, listed_as, node_row, path_to, row_at, rows_of_nodes, star, path_text_if_any}
 use Rattle.group_reports.specs.Places.{directory_in, is_directory_at, node_named, path_of_parts}
 use Rattle.report_laws.specs.Lists.{RowsAreWorlds}
 use Rattle.report_laws.proofs.Directories.{entry_of, filled, is_dir, no_entry}
@@ -180,7 +180,7 @@ module _ (name : Bytes) (s : Shape) (t : Tables) (cells : ℕ → List Cell) (ke
   abbrev nodes : List Numbered
   nodes = t.nodes
 
-  table : IsTable nodes
+  table : IsNodeTable nodes
   table = keeps.tables.nodes
 
   abbrev g : Group
@@ -202,10 +202,10 @@ module _ (name : Bytes) (s : Shape) (t : Tables) (cells : ℕ → List Cell) (ke
   system_text : (n : ℕ) (node : Node) → node_at nodes n ≡ Some node → paths.path_text (edits.spelt g (way nodes n)) ≡ path_to t name n
   system_text n node at =
       world_text name s t cells [] [] keeps n node at
-      ∙ sym (ap (λ (o : Option Node). text_of (option_map (λ (m : Node). path_of_parts name (names_to nodes (length nodes) n)) o)) at)
+      ∙ sym (ap (λ (o : Option Node). path_text_if_any (option_map (λ (m : Node). path_of_parts name (names_to nodes (length nodes) n)) o)) at)
 
   back_is : (kind : NodeKind) (file f n : ℕ) (head : FileHead) → is_system_name_of f (node_kind kind file) ≡ true → head_at t.files f ≡ Some head
-      → (is_directory kind || names_back kind n (head_at t.files file)) ≡ true → head.system ≡ n
+      → (is_kind_directory kind || names_back kind n (head_at t.files file)) ≡ true → head.system ≡ n
   back_is Directory file f n head named e passes = absurd (false≢true named)
   back_is System file f n head named e passes =
       let same : file ≡ f = eqb-true file f named in
@@ -220,7 +220,7 @@ module _ (name : Bytes) (s : Shape) (t : Tables) (cells : ℕ → List Cell) (ke
 
     named : is_named_as System f (node_at nodes head.system) ≡ true
     named =
-        let both = and_parts (rules.names_file t f System head.system) (rules.names_file t f Alias head.alias) (passes_each (rules.has_names t) t.files keeps.names (f, head) (head_among t.files f head e)) in
+        let both = and_parts (rules.names_file_in_tables t f System head.system) (rules.names_file_in_tables t f Alias head.alias) (passes_each (rules.has_names t) t.files keeps.names (f, head) (head_among t.files f head e)) in
         let other : (head.system == 0) ≡ false = ne_eqb head.system 0 (λ z. absurd (omega (arith, some, z))) in
         sym (ap (λ (b : Bool). b || is_named_as System f (node_at nodes head.system)) other) ∙ both.0
 
@@ -254,12 +254,12 @@ module _ (name : Bytes) (s : Shape) (t : Tables) (cells : ℕ → List Cell) (ke
   got f = ap (λ m. maps.get m f) files_is ∙ files_are cells t.files f
 
   abbrev as_system : Bytes → group.File → Listed
-  as_system part f = reports.SystemName f.type_name f.copies f.stripe part
+  as_system part f = reports.ListedSystemName f.type_name f.copies f.stripe part
 
   abbrev as_alias : Bytes → Bytes → group.File → Listed
   as_alias part target f = reports.AliasName f.type_name f.copies f.stripe part target
 
-  listed_by : (kind : NodeKind) (file : ℕ) (part : Bytes) → world.listed g (record { name = part; node = node_kind kind file }) ≡ listed_as t name part kind (head_at t.files file)
+  listed_by : (kind : NodeKind) (file : ℕ) (part : Bytes) → world.listing_of_entry g (record { name = part; node = node_kind kind file }) ≡ listed_as t name part kind (head_at t.files file)
   listed_by Directory file part = refl
   listed_by System file part = ap (λ (o : Option group.File). option_map (as_system part) o) (got file) ∙ by (head_at t.files file) where
     by : (o : Option FileHead) → option_map (as_system part) (file_at cells file o) ≡ listed_as t name part System o
@@ -270,7 +270,7 @@ module _ (name : Bytes) (s : Shape) (t : Tables) (cells : ℕ → List Cell) (ke
     by None e = refl
     by (Some head) e = ap (λ (target : Bytes). Some (reports.AliasName head.type_name head.copies head.stripe part target)) (target_is file head e)
 
-  listed_is : (node : Node) → world.listed g (entry_of_node node) ≡ listed t name node
+  listed_is : (node : Node) → world.listing_of_entry g (entry_of_node node) ≡ listing_of_node t name node
   listed_is node = listed_by node.kind node.file node.name
 
   -- ---- rows of some names
@@ -280,20 +280,20 @@ module _ (name : Bytes) (s : Shape) (t : Tables) (cells : ℕ → List Cell) (ke
 
   row_more : (pattern : Bytes) (node : Node) (rest : List LsRow) (es : List TreeEntry) → rest ≡ rows_of pattern es → cons_option (node_row t name pattern node) rest ≡ rows_of pattern (entry_of_node node ∷ es)
   row_more pattern node rest es is = by (is_match pattern node.name) where
-    by : (b : Bool) → cons_option (cond b (option_map listed_row (listed t name node)) None) rest ≡ map listed_row (world.rows_of g (cons_option (cond b (Some (entry_of_node node)) None) (world.matching pattern es)))
+    by : (b : Bool) → cons_option (cond b (option_map listed_row (listing_of_node t name node)) None) rest ≡ map listed_row (world.rows_of g (cons_option (cond b (Some (entry_of_node node)) None) (world.matching pattern es)))
     by true =
-        ap (λ (l : List LsRow). cons_option (option_map listed_row (listed t name node)) l) is
-        ∙ (mapped_option listed_row (listed t name node) (world.rows_of g (world.matching pattern es))
+        ap (λ (l : List LsRow). cons_option (option_map listed_row (listing_of_node t name node)) l) is
+        ∙ (mapped_option listed_row (listing_of_node t name node) (world.rows_of g (world.matching pattern es))
         ∙ ap (λ (o : Option Listed). map listed_row (cons_option o (world.rows_of g (world.matching pattern es)))) (sym (listed_is node)))
     by false = is
 
-  rows_same : (pattern : Bytes) (ns : List ℕ) → ((n : ℕ) → IsAmong ns n → (node : Node) × (node_at nodes n ≡ Some node)) → rows_at t name pattern ns ≡ rows_of pattern (map (λ n. entry_in (node_at nodes n)) ns)
+  rows_same : (pattern : Bytes) (ns : List ℕ) → ((n : ℕ) → IsAmong ns n → (node : Node) × (node_at nodes n ≡ Some node)) → rows_of_nodes t name pattern ns ≡ rows_of pattern (map (λ n. entry_in (node_at nodes n)) ns)
   rows_same pattern [] all = refl
   rows_same pattern (n ∷ ns) all =
       let here = all n (inl refl) in
-      let rest : rows_at t name pattern ns ≡ rows_of pattern (map (λ m. entry_in (node_at nodes m)) ns) = rows_same pattern ns (λ m k. all m (inr k)) in
-      subst (λ (o : Option Node). cons_option (option_and_then (node_row t name pattern) o) (rows_at t name pattern ns) ≡ rows_of pattern (entry_in o ∷ map (λ m. entry_in (node_at nodes m)) ns)) (sym here.1)
-      (row_more pattern here.0 (rows_at t name pattern ns) (map (λ m. entry_in (node_at nodes m)) ns) rest)
+      let rest : rows_of_nodes t name pattern ns ≡ rows_of pattern (map (λ m. entry_in (node_at nodes m)) ns) = rows_same pattern ns (λ m k. all m (inr k)) in
+      subst (λ (o : Option Node). cons_option (option_and_then (node_row t name pattern) o) (rows_of_nodes t name pattern ns) ≡ rows_of pattern (entry_in o ∷ map (λ m. entry_in (node_at nodes m)) ns)) (sym here.1)
+      (row_more pattern here.0 (rows_of_nodes t name pattern ns) (map (λ m. entry_in (node_at nodes m)) ns) rest)
 
   -- ---- the names in a directory
 
@@ -304,13 +304,13 @@ module _ (name : Bytes) (s : Shape) (t : Tables) (cells : ℕ → List Cell) (ke
     to_dir : number_by nodes 0 key ≡ Some at
     to_dir = to_folded nodes table dir at leads
 
-    under_node : (n : ℕ) → is_under nodes at n ≡ true → (node : Node) × (node_at nodes n ≡ Some node) × (node.parent ≡ at)
+    under_node : (n : ℕ) → is_under_parent nodes at n ≡ true → (node : Node) × (node_at nodes n ≡ Some node) × (node.parent ≡ at)
     under_node n e = by (node_at nodes n) refl where
       by : (o : Option Node) → node_at nodes n ≡ o → (node : Node) × (node_at nodes n ≡ Some node) × (node.parent ≡ at)
       by None f = absurd (false≢true (sym (ap (has_parent at) f) ∙ e))
       by (Some node) f = (node, f, eqb-true node.parent at (sym (ap (has_parent at) f) ∙ e))
 
-    under_way : (n : ℕ) → is_under nodes at n ≡ true → way nodes n ≡ key ++ folded_name nodes n ∷ []
+    under_way : (n : ℕ) → is_under_parent nodes at n ≡ true → way nodes n ≡ key ++ folded_name nodes n ∷ []
     under_way n e =
         let u = under_node n e in
         let named : folded_name nodes n ≡ folded u.0.name = ap folded_in u.1 in
@@ -326,14 +326,14 @@ module _ (name : Bytes) (s : Shape) (t : Tables) (cells : ℕ → List Cell) (ke
     here_up : maps.is_sorted P here ≡ true
     here_up = t_true (maps.is_sorted P here) (is_sorted-where_key P (is_child key) (maps.entries g.tree) (maps.entries_sorted g.tree))
 
-    below_rows : (m : ℕ) (ns : List ℕ) → is_under nodes at m ≡ true → ((n : ℕ) → IsAmong ns n → is_under nodes at n ≡ true)
+    below_rows : (m : ℕ) (ns : List ℕ) → is_under_parent nodes at m ≡ true → ((n : ℕ) → IsAmong ns n → is_under_parent nodes at n ≡ true)
         → AllByRecursion (λ (y : Bytes). R (folded_name nodes m) y ≡ Less) (map (folded_name nodes) ns) → below_all P (way nodes m) (map row ns) ≡ true
     below_rows m [] is all less = refl
     below_rows m (n ∷ ns) is all less =
         let order : P (way nodes m) (way nodes n) ≡ Less = (λ i. P (under_way m is i) (under_way n (all n (inl refl)) i)) ∙ less_last key (folded_name nodes m) (folded_name nodes n) less.0 in
         and_from (is_lt (P (way nodes m) (way nodes n))) (below_all P (way nodes m) (map row ns)) (ap is_lt order) (below_rows m ns is (λ k j. all k (inr j)) less.1)
 
-    rows_up : (ns : List ℕ) → ((n : ℕ) → IsAmong ns n → is_under nodes at n ≡ true) → AreByName nodes ns → maps.is_sorted P (map row ns) ≡ true
+    rows_up : (ns : List ℕ) → ((n : ℕ) → IsAmong ns n → is_under_parent nodes at n ≡ true) → AreByName nodes ns → maps.is_sorted P (map row ns) ≡ true
     unfolding IsStrictlySortedBy
     rows_up [] all order = refl
     rows_up (m ∷ ns) all order =
@@ -343,8 +343,8 @@ module _ (name : Bytes) (s : Shape) (t : Tables) (cells : ℕ → List Cell) (ke
     entries_mapped [] = refl
     entries_mapped (n ∷ ns) = ap (λ (l : List TreeEntry). entry_in (node_at nodes n) ∷ l) (entries_mapped ns)
 
-    module _ (numbers : List ℕ) (each : (n : ℕ) → list_any (λ m. m == n) numbers ≡ is_under nodes at n) (order : AreByName nodes numbers) where
-      all_under : (n : ℕ) → IsAmong numbers n → is_under nodes at n ≡ true
+    module _ (numbers : List ℕ) (each : (n : ℕ) → list_any (λ m. m == n) numbers ≡ is_under_parent nodes at n) (order : AreByName nodes numbers) where
+      all_under : (n : ℕ) → IsAmong numbers n → is_under_parent nodes at n ≡ true
       all_under n m = sym (each n) ∙ among_any n numbers m
 
       to_rows : (x : Path × TreeEntry) → IsAmong here x → IsAmong (map row numbers) x
@@ -354,7 +354,7 @@ module _ (name : Bytes) (s : Shape) (t : Tables) (cells : ℕ → List Cell) (ke
           let shape = child_shape key x.0 k.1 in
           let number : number_by nodes 0 (key ++ shape.0 ∷ []) ≡ Some of.n = ap (λ (p : Path). number_by nodes 0 p) (sym shape.1 ∙ of.key) ∙ way_leads nodes of.n of.node table of.at in
           let c = child_found nodes at shape.0 of.n table (sym (by_last nodes key shape.0 0 at to_dir) ∙ number) in
-          let under : is_under nodes at of.n ≡ true = ap (has_parent at) c.at ∙ eq-eqb c.node.parent at c.parent_is in
+          let under : is_under_parent nodes at of.n ≡ true = ap (has_parent at) c.at ∙ eq-eqb c.node.parent at c.parent_is in
           let is : x ≡ row of.n = (λ i. (of.key i, (of.is ∙ sym (ap entry_in of.at)) i)) in
           subst (λ (y : Path × TreeEntry). IsAmong (map row numbers) y) (sym is) (mapped_to row numbers of.n (any_among of.n numbers (each of.n ∙ under)))
 
@@ -388,12 +388,12 @@ module _ (name : Bytes) (s : Shape) (t : Tables) (cells : ℕ → List Cell) (ke
     abbrev chosen : Bool → Bool → List Listed
     chosen dir starred =
         cond dir (world.rows_of g (world.children g parts))
-        (cond starred (world.rows_of g (world.matching (last_part parts) (world.children g (up parts)))) (world.rows_of g (world.one_entry (edits.entry_at g parts))))
+        (cond starred (world.rows_of g (world.matching (last_part parts) (world.children g (up parts)))) (world.rows_of g (world.one_entry (edits.group_entry_at g parts))))
 
     -- a path to a pattern leads nowhere
-    no_dir : has_star (last_part parts) ≡ true → edits.is_dir g parts ≡ false
+    no_dir : has_star (last_part parts) ≡ true → edits.group_has_dir g parts ≡ false
     no_dir starred = by (number_of nodes parts) refl where
-      by : (o : Option ℕ) → number_of nodes parts ≡ o → edits.is_dir g parts ≡ false
+      by : (o : Option ℕ) → number_of nodes parts ≡ o → edits.group_has_dir g parts ≡ false
       by (Some n) e = absurd (true≢false (sym starred ∙ star_free parts (made_of_parts nodes table parts n e)))
       by None e = λ i. below_root parts starred i || is_dir_entry (no_entry nodes table g tree_is parts e i)
 
@@ -409,18 +409,18 @@ module _ (name : Bytes) (s : Shape) (t : Tables) (cells : ℕ → List Cell) (ke
     by_name : has_star (last_part parts) ≡ false → (o : Option ℕ) → number_of nodes parts ≡ o → IsSomeAnd o (λ n. AreRowsOf t name n rows) → IsRight
     by_name plain None e are = absurd are
     by_name plain (Some n) e are = by (is_directory_at t n) refl are where
-      dir_is : edits.is_dir g parts ≡ is_directory_at t n
+      dir_is : edits.group_has_dir g parts ≡ is_directory_at t n
       dir_is = is_dir nodes table g tree_is parts n e
 
-      one : (o : Option Node) → node_at nodes n ≡ o → option_to_list (row_at t name star n) ≡ map listed_row (world.rows_of g (world.one_entry (edits.entry_at g parts)))
+      one : (o : Option Node) → node_at nodes n ≡ o → option_to_list (row_at t name star n) ≡ map listed_row (world.rows_of g (world.one_entry (edits.group_entry_at g parts)))
       one None f =
-          let none : edits.entry_at g parts ≡ None =
+          let none : edits.group_entry_at g parts ≡ None =
           entry_by nodes table g tree_is parts ∙ ap (λ (q : Option ℕ). option_map entry_of_node (option_and_then (λ m. node_at nodes m) q)) e ∙ ap (option_map entry_of_node) f in
           ap (λ (q : Option Node). option_to_list (option_and_then (node_row t name star) q)) f ∙ sym (ap (λ (q : Option TreeEntry). map listed_row (world.rows_of g (world.one_entry q))) none)
       one (Some node) f =
           ap (λ (q : Option Node). option_to_list (option_and_then (node_row t name star) q)) f
-          ∙ (ap (λ (b : Bool). option_to_list (cond b (option_map listed_row (listed t name node)) None)) (star_matches node.name)
-          ∙ (one_option listed_row (listed t name node)
+          ∙ (ap (λ (b : Bool). option_to_list (cond b (option_map listed_row (listing_of_node t name node)) None)) (star_matches node.name)
+          ∙ (one_option listed_row (listing_of_node t name node)
           ∙ (ap (λ (q : Option Listed). map listed_row (cons_option q [])) (sym (listed_is node))
           ∙ sym (ap (λ (q : Option TreeEntry). map listed_row (world.rows_of g (world.one_entry q))) (entry_of nodes table g tree_is parts n node e f)))))
 

@@ -11,7 +11,7 @@ use Rattle.asm_group.specs.Names.{Bytes, Path, folded, folded_byte, folded_path,
 use Rattle.asm_group.specs.TreeEdits.{last_part}
 use Rattle.asm_base.proofs.NameLaws.{part_is, part_of}
 use Rattle.asm_world.specs.Listings.{has_star}
-use Rattle.alias_tree.specs.Nodes.{IsTable, Numbered, number_of}
+use Rattle.alias_tree.specs.Nodes.{IsNodeTable, Numbered, number_of}
 use Rattle.alias_tree.specs.Trees.{number_by}
 use Rattle.alias_tree.proofs.NameBytes.{is_part_at}
 use Rattle.alias_tree.proofs.Ways.{by_step, child_found}
@@ -107,7 +107,7 @@ part_alike a x e is =
 
 -- ---- paths
 
-module _ (nodes : List Numbered) (is : IsTable nodes) where
+module _ (nodes : List Numbered) (is : IsNodeTable nodes) where
   parts_lead : (path : Path) (a n : ℕ) → number_by nodes a (folded_path path) ≡ Some n → list_all (is_part 80) path ≡ true
   parts_lead [] a n e = refl
   parts_lead (x ∷ path) a n e =
@@ -120,7 +120,7 @@ module _ (nodes : List Numbered) (is : IsTable nodes) where
   made_of_parts path n e = parts_lead path 0 n (to_folded nodes is path n e)
 
 -- each path names the node that it leads to
-pub named_is : (t : Tables) → IsTable t.nodes → (path : Path) → node_named t path ≡ number_of t.nodes path
+pub named_is : (t : Tables) → IsNodeTable t.nodes → (path : Path) → node_named t path ≡ number_of t.nodes path
 named_is t is path = by (number_of t.nodes path) refl where
   by : (o : Option ℕ) → number_of t.nodes path ≡ o → node_named t path ≡ number_of t.nodes path
   by (Some n) e = cond-true (list_all (is_part 80) path) (number_of t.nodes path) None (made_of_parts t.nodes is path n e)

@@ -18,7 +18,7 @@ use Rattle.asm_base.specs.declared.path.Path as code
 use Rattle.asm_world.specs.Listings as world
 use Rattle.asm_world.specs.Listings.{by_folded_text}
 use Rattle.asmcmd.specs.Texts.{path_line}
-use Rattle.group_reports.specs.Files.{folded_text, in_order, placed_among}
+use Rattle.group_reports.specs.Files.{folded_text, paths_in_order, placed_among}
 
 abbrev pub R : Bytes → Bytes → Ordering
 R = slice_cmp nat_cmp
@@ -59,7 +59,7 @@ seconds : (es : List (Bytes × code.Path)) → map path_line (values_of es) ≡ 
 seconds [] = refl
 seconds (e ∷ es) = ap (λ (l : List Bytes). path_line e.1 ∷ l) (seconds es)
 
-pub order_is : (paths : List code.Path) → map path_line (in_order paths) ≡ world.in_order (map path_line paths)
+pub order_is : (paths : List code.Path) → map path_line (paths_in_order paths) ≡ world.in_order (map path_line paths)
 order_is paths = seconds (placed_among [] paths) ∙ ap (map (λ (e : Bytes × Bytes). e.1)) (placed_same paths)
 
 -- ---- lists of the same texts

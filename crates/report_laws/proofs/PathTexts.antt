@@ -12,7 +12,7 @@ use Rattle.asm_base.specs.Names as base
 use Rattle.asm_base.proofs.NameLaws.{part_of}
 use Rattle.asm_world.specs.Paths as world
 use Rattle.asm_world.specs.Paths.{with_slashes}
-use Rattle.alias_tree.specs.Nodes.{IsTable, Numbered, node_at}
+use Rattle.alias_tree.specs.Nodes.{IsNodeTable, Numbered, node_at}
 use Rattle.alias_tree.specs.Spelling.{names_to}
 use Rattle.alias_tree.proofs.NameBytes.{is_part_at}
 
@@ -25,7 +25,7 @@ slashes : (group : Bytes) (parts : List Bytes) → with_slashes (group ∷ parts
 slashes group [] = sym (append-nil group)
 slashes group (part ∷ parts) = ap (λ (rest : Bytes). group ++ 47 ∷ rest) (slashes part parts)
 
-pub same_text : (group : Bytes) (parts : List Bytes) → world.path_text (group ∷ parts) ≡ base.path_text group parts
+pub same_text : (group : Bytes) (parts : List Bytes) → world.path_text (group ∷ parts) ≡ base.path_text_in_group group parts
 same_text group parts = ap (λ (rest : Bytes). 43 ∷ rest) (slashes group parts)
 
 -- ---- folded texts
@@ -34,7 +34,7 @@ folded_slashes : (parts : Path) → folded (flat_map slash parts) ≡ flat_map s
 folded_slashes [] = refl
 folded_slashes (part ∷ parts) = ap (λ (rest : Bytes). 47 ∷ rest) (map-append folded_byte part (flat_map slash parts) ∙ ap (λ (rest : Bytes). folded part ++ rest) (folded_slashes parts))
 
-folded_text : (group : Bytes) (parts : Path) → folded (base.path_text group parts) ≡ 43 ∷ folded group ++ flat_map slash (folded_path parts)
+folded_text : (group : Bytes) (parts : Path) → folded (base.path_text_in_group group parts) ≡ 43 ∷ folded group ++ flat_map slash (folded_path parts)
 folded_text group parts = ap (λ (rest : Bytes). 43 ∷ rest) (map-append folded_byte group (flat_map slash parts) ∙ ap (λ (rest : Bytes). folded group ++ rest) (folded_slashes parts))
 
 tail_same : (x : ℕ) (xs ys : Bytes) → x ∷ xs ≡ x ∷ ys → xs ≡ ys
@@ -111,14 +111,14 @@ parts_clear (part ∷ parts) all =
     and_from (clear (folded part)) (list_all clear (folded_path parts)) (part_clear part p.0) (parts_clear parts p.1)
 
 -- two texts that are the same without case have the same parts without case
-pub parts_told : (group : Bytes) (ps qs : Path) → list_all (is_part 80) ps ≡ true → list_all (is_part 80) qs ≡ true → folded (base.path_text group ps) ≡ folded (base.path_text group qs) → folded_path ps ≡ folded_path qs
+pub parts_told : (group : Bytes) (ps qs : Path) → list_all (is_part 80) ps ≡ true → list_all (is_part 80) qs ≡ true → folded (base.path_text_in_group group ps) ≡ folded (base.path_text_in_group group qs) → folded_path ps ≡ folded_path qs
 parts_told group ps qs a b e =
     let whole : 43 ∷ (folded group ++ flat_map slash (folded_path ps)) ≡ 43 ∷ (folded group ++ flat_map slash (folded_path qs)) = sym (folded_text group ps) ∙ (e ∙ folded_text group qs) in
     joined_same (folded_path ps) (folded_path qs) (parts_clear ps a) (parts_clear qs b)
     (cancel (folded group) (flat_map slash (folded_path ps)) (flat_map slash (folded_path qs)) (tail_same 43 _ _ whole))
 
 -- the names of nodes are parts
-pub names_are_parts : (nodes : List Numbered) → IsTable nodes → (k n : ℕ) → list_all (is_part 80) (names_to nodes k n) ≡ true
+pub names_are_parts : (nodes : List Numbered) → IsNodeTable nodes → (k n : ℕ) → list_all (is_part 80) (names_to nodes k n) ≡ true
 unfolding names_to
 names_are_parts nodes is zero n = refl
 names_are_parts nodes is (suc k) n = by (node_at nodes n) refl (λ m. names_are_parts nodes is k m) where

@@ -60,10 +60,10 @@ module _ (name : Bytes) (s : Shape) (t : Tables) (cells : ℕ → List Cell) (ta
   name_is = refl
 
   module _ (m : ℕ) (leads : number_of t.nodes path ≡ Some m) where
-    here : world.is_there g path ≡ true
+    here : world.group_has_path g path ≡ true
     here = there t.nodes tables.nodes g tree_is path m leads
 
-    as_dir : world.is_dir g path ≡ is_directory_at t m
+    as_dir : world.group_has_dir g path ≡ is_directory_at t m
     as_dir = is_dir t.nodes tables.nodes g tree_is path m leads
 
     spelt : world.spelt g path ≡ name ∷ spelt_by t m
@@ -72,10 +72,10 @@ module _ (name : Bytes) (s : Shape) (t : Tables) (cells : ℕ → List Cell) (ta
     of_test : (b : Bool) → is_directory_at t m ≡ b → (n : ℕ) → ◌≡◌ {A = Result ℕ Refusal} (if b then Ok m else Err cause.NotDirectory) (Ok n) → IsDirectory g path (name ∷ spelt_by t n)
     of_test true is n ok =
         let same : m ≡ n = cc in
-        let dir : world.is_dir g path ≡ true = as_dir ∙ is in
+        let dir : world.group_has_dir g path ≡ true = as_dir ∙ is in
         record {
           there = dir;
-          uncaused = none_due (world.is_there g path) (world.is_dir g path) here dir;
+          uncaused = none_due (world.group_has_path g path) (world.group_has_dir g path) here dir;
           spelt = spelt ∙ ap (λ (k : ℕ). name ∷ spelt_by t k) same;
         }
     of_test false is n ok = absurd cc
@@ -85,7 +85,7 @@ module _ (name : Bytes) (s : Shape) (t : Tables) (cells : ℕ → List Cell) (ta
     no_test true is refusal err = absurd cc
     no_test false is refusal err =
         let same : cause.NotDirectory ≡ refusal = cc in
-        second_due (world.is_there g path) (world.is_dir g path) (said (λ _. []) refusal) here (as_dir ∙ is) (said_as refusal cause.NotDirectory same ∙ no_directory)
+        second_due (world.group_has_path g path) (world.group_has_dir g path) (said (λ _. []) refusal) here (as_dir ∙ is) (said_as refusal cause.NotDirectory same ∙ no_directory)
 
   by_number : (o : Option ℕ) → number_of t.nodes path ≡ o → (n : ℕ) → directory_in t o ≡ Ok n → IsDirectory g path (name ∷ spelt_by t n)
   by_number None e n ok = absurd cc
@@ -94,7 +94,7 @@ module _ (name : Bytes) (s : Shape) (t : Tables) (cells : ℕ → List Cell) (ta
   by_none : (o : Option ℕ) → number_of t.nodes path ≡ o → (refusal : Refusal) → directory_in t o ≡ Err refusal → IsCaused (dir_causes g path) (said (λ _. []) refusal)
   by_none None e refusal err =
       let same : cause.NoName ≡ refusal = cc in
-      first_due (world.is_there g path) (world.is_dir g path) (said (λ _. []) refusal) (not_there t.nodes tables.nodes g tree_is path e) (said_as refusal cause.NoName same ∙ no_name)
+      first_due (world.group_has_path g path) (world.group_has_dir g path) (said (λ _. []) refusal) (not_there t.nodes tables.nodes g tree_is path e) (said_as refusal cause.NoName same ∙ no_name)
   by_none (Some m) e refusal err = no_test m e (is_directory_at t m) refl refusal err
 
 pub directories_are_worlds : DirectoriesAreWorlds

@@ -9,8 +9,8 @@ use Rattle.asm_group.specs.TreeEdits as trees
 use Rattle.asm_formats.specs.Items.{Node}
 use Rattle.asm_formats.specs.Nodes.{entry_of_node}
 use Rattle.asm_base.proofs.Exact.{some_is}
-use Rattle.asm_world.specs.Edits.{entry_at, spelt_below, spelt_part}
-use Rattle.alias_tree.specs.Nodes.{IsTable, Numbered, node_at, number_of, reaches_root}
+use Rattle.asm_world.specs.Edits.{group_entry_at, spelt_below, spelt_part}
+use Rattle.alias_tree.specs.Nodes.{IsNodeTable, Numbered, node_at, number_of, reaches_root}
 use Rattle.alias_tree.specs.Spelling.{names_to}
 use Rattle.alias_tree.specs.Trees.{number_by, tree_of}
 use Rattle.alias_tree.proofs.Paths.{entry_is}
@@ -26,7 +26,7 @@ unfolding names_to
 names_none nodes zero n e = refl
 names_none nodes (suc k) n e = rw e refl
 
-module _ (nodes : List Numbered) (is : IsTable nodes) where
+module _ (nodes : List Numbered) (is : IsNodeTable nodes) where
   -- ---- the names on the way to a node
 
   names_zero : (n : ℕ) → names_to nodes zero n ≡ []
@@ -84,13 +84,13 @@ module _ (nodes : List Numbered) (is : IsTable nodes) where
   -- ---- the tree's spelling
 
   module _ (g : Group) (tree : g.tree ≡ tree_of nodes) where
-    pub entry_by : (path : Path) → entry_at g path ≡ option_map entry_of_node (option_and_then (λ n. node_at nodes n) (number_of nodes path))
+    pub entry_by : (path : Path) → group_entry_at g path ≡ option_map entry_of_node (option_and_then (λ n. node_at nodes n) (number_of nodes path))
     unfolding number_of
     entry_by path =
         ap (λ (t : Tree). trees.entry_at t path) tree ∙ entry_is nodes path is
         ∙ ap (λ (o : Option ℕ). option_map entry_of_node (option_and_then (λ n. node_at nodes n) o)) (sym (by_folded nodes path 0))
 
-    entry_there : (path : Path) (n : ℕ) (node : Node) → number_by nodes 0 (folded_path path) ≡ Some n → node_at nodes n ≡ Some node → entry_at g path ≡ Some (entry_of_node node)
+    entry_there : (path : Path) (n : ℕ) (node : Node) → number_by nodes 0 (folded_path path) ≡ Some n → node_at nodes n ≡ Some node → group_entry_at g path ≡ Some (entry_of_node node)
     entry_there path n node at there =
         ap (λ (t : Tree). trees.entry_at t path) tree ∙ entry_is nodes path is
         ∙ ap (λ (o : Option ℕ). option_map entry_of_node (option_and_then (λ m. node_at nodes m) o)) at
@@ -111,7 +111,7 @@ module _ (nodes : List Numbered) (is : IsTable nodes) where
         let rest : Path = spelt_below g next q in
         let down : names_to nodes (suc k + length q) n ≡ names_to nodes (suc k) s.0 ++ rest = spelt_down next q s.0 n (suc k) here s.2 in
         let step : names_to nodes (suc k) s.0 ≡ names_to nodes k a ++ c.node.name ∷ [] = names_step k s.0 c.node c.at ∙ ap (λ (m : ℕ). names_to nodes k m ++ c.node.name ∷ []) c.parent_is in
-        let first : spelt_part (entry_at g next) x ≡ c.node.name = ap (λ (o : Option TreeEntry). spelt_part o x) (entry_there next s.0 c.node here c.at) in
+        let first : spelt_part (group_entry_at g next) x ≡ c.node.name = ap (λ (o : Option TreeEntry). spelt_part o x) (entry_there next s.0 c.node here c.at) in
         let count : k + suc (length q) ≡ suc k + length q = omega arith in
         ap (λ (i : ℕ). names_to nodes i n) count
         ∙ (down ∙ (ap (λ (p : Path). p ++ rest) step

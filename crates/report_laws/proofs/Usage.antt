@@ -30,7 +30,7 @@ use Rattle.asm_world.specs.Reports.{du_lines}
 use Rattle.alias_tree.specs.Nodes.{Numbered, node_at}
 use Rattle.alias_tree.specs.Spelling.{names_to}
 use Rattle.alias_tree.proofs.Ways.{is_key, key_self, no_root, way}
-use Rattle.file_directory.specs.Files.{File, head_at}
+use Rattle.file_directory.specs.Files.{NumberedFile, head_at}
 use Rattle.catalog_tables.specs.Rules as rules
 use Rattle.catalog_tables.specs.Rules.{KeepsRules}
 use Rattle.catalog_tables.specs.Tables.{Catalogued, Tables}
@@ -40,7 +40,7 @@ use Rattle.group_of.specs.Groups as groups
 use Rattle.group_of.specs.Groups.{HasCells, group_of}
 use Rattle.group_of.proofs.HeadedFiles.{files_are, head_among}
 use Rattle.group_reports.specs.Extents.{file_units}
-use Rattle.group_reports.specs.Files.{bytes_below, if_file_below, mirrored_of, size_of}
+use Rattle.group_reports.specs.Files.{bytes_below, if_file_below, mirrored_of, file_size}
 use Rattle.group_reports.specs.Places.{path_below}
 use Rattle.group_reports.proofs.FileWalk.{AreAbove, Rise, rises}
 use Rattle.report_laws.specs.Usage.{UsageIsWorlds}
@@ -49,12 +49,12 @@ use Rattle.report_laws.proofs.SameSums.{Distinct, distinct_given, same_sums}
 
 -- ---- files and entries stand once
 
-above_other : (n : ℕ) (files : List File) → AreAbove n files → (f : File) → IsAmong files f → n < f.0
+above_other : (n : ℕ) (files : List NumberedFile) → AreAbove n files → (f : NumberedFile) → IsAmong files f → n < f.0
 above_other n [] above f m = absurd m
-above_other n (x ∷ files) above f (inl here) = subst (λ (g : File). n < g.0) (sym here) above.0
+above_other n (x ∷ files) above f (inl here) = subst (λ (g : NumberedFile). n < g.0) (sym here) above.0
 above_other n (x ∷ files) above f (inr later) = above_other n files above.1 f later
 
-files_once : (files : List File) → Rise files → Distinct files
+files_once : (files : List NumberedFile) → Rise files → Distinct files
 files_once [] up = tt
 files_once (f ∷ files) up = ((λ m. let less = above_other f.0 files up.0 f m in omega (arith, less)), files_once files up.1)
 
@@ -119,10 +119,10 @@ system_kind Alias file e = absurd (false≢true e)
 -- ---- sums by the files' numbers
 
 -- the number of a file whose system name lies below a directory
-abbrev number_below : Tables → Bytes → Path → File → Option ℕ
+abbrev number_below : Tables → Bytes → Path → NumberedFile → Option ℕ
 number_below t name dir f = if is_some (path_below t name dir f.1.system) then Some f.0 else None
 
-sum_of_numbers : (t : Tables) (name : Bytes) (dir : Path) (bytes : File → ℕ) (weight : ℕ → ℕ) (files : List File) → ((f : File) → IsAmong files f → weight f.0 ≡ bytes f)
+sum_of_numbers : (t : Tables) (name : Bytes) (dir : Path) (bytes : NumberedFile → ℕ) (weight : ℕ → ℕ) (files : List NumberedFile) → ((f : NumberedFile) → IsAmong files f → weight f.0 ≡ bytes f)
     → sum_by (if_file_below t name dir bytes) files ≡ sum_by weight (filter_map (number_below t name dir) files)
 sum_of_numbers t name dir bytes weight [] same = refl
 sum_of_numbers t name dir bytes weight (f ∷ files) same =
@@ -158,17 +158,17 @@ module _ (name : Bytes) (c : Catalogued) (cells : ℕ → List Cell) (dir : Path
   abbrev by_entries : List ℕ
   by_entries = files_below g dir
 
-  head_there : (f : File) → IsAmong t.files f → head_at t.files f.0 ≡ Some f.1
+  head_there : (f : NumberedFile) → IsAmong t.files f → head_at t.files f.0 ≡ Some f.1
   head_there f m = among_found nat_cmp nat_cmp_total numbers_exact t.files f keeps.tables.files.0 m
 
   -- a file below the directory has a system node there
-  record IsBelow (f : File) (n : ℕ) : Type 0 where
+  record IsBelow (f : NumberedFile) (n : ℕ) : Type 0 where
     number : n ≡ f.0
     node : Node
     at : node_at nodes f.1.system ≡ Some node
     under : is_under (folded_path dir) (folded_path (names f.1.system)) ≡ true
 
-  is_below : (f : File) (n : ℕ) → number_below t name dir f ≡ Some n → IsBelow f n
+  is_below : (f : NumberedFile) (n : ℕ) → number_below t name dir f ≡ Some n → IsBelow f n
   is_below f n e = by (node_at nodes f.1.system) refl where
     by : (o : Option Node) → node_at nodes f.1.system ≡ o → IsBelow f n
     by None at = absurd (none-some n (rw at at e))
@@ -177,15 +177,15 @@ module _ (name : Bytes) (c : Catalogued) (cells : ℕ → List Cell) (dir : Path
       | inr above ↦ absurd (none-some n (rw (at, above) at e))
     ]
 
-  below_is : (f : File) (node : Node) → node_at nodes f.1.system ≡ Some node → is_under (folded_path dir) (folded_path (names f.1.system)) ≡ true → number_below t name dir f ≡ Some f.0
+  below_is : (f : NumberedFile) (node : Node) → node_at nodes f.1.system ≡ Some node → is_under (folded_path dir) (folded_path (names f.1.system)) ≡ true → number_below t name dir f ≡ Some f.0
   below_is f node at under = rw (at, under) refl
 
   -- the system node of a file is one, and names the file
-  node_of_file : (f : File) (node : Node) → IsAmong t.files f → node_at nodes f.1.system ≡ Some node → node_kind node.kind node.file ≡ group.System f.0
+  node_of_file : (f : NumberedFile) (node : Node) → IsAmong t.files f → node_at nodes f.1.system ≡ Some node → node_kind node.kind node.file ≡ group.System f.0
   node_of_file f node m at = elim (cases_Bool (f.1.system == 0)) [
     | inl root ↦ absurd (none-some node (sym (ap (node_at nodes) (eqb-true f.1.system 0 root) ∙ no_root nodes keeps.tables.nodes) ∙ at))
     | inr other ↦
-        let names_it : rules.names_file t f.0 System f.1.system ≡ true = (and_parts (rules.names_file t f.0 System f.1.system) (rules.names_file t f.0 Alias f.1.alias) (passes_each (rules.has_names t) t.files keeps.names f m)).0 in
+        let names_it : rules.names_file_in_tables t f.0 System f.1.system ≡ true = (and_parts (rules.names_file_in_tables t f.0 System f.1.system) (rules.names_file_in_tables t f.0 Alias f.1.alias) (passes_each (rules.has_names t) t.files keeps.names f m)).0 in
         let named : is_named_as System f.0 (Some node) ≡ true = ap (is_named_as System f.0) (sym at) ∙ (rw other at names_it) in
         let parts = and_parts (kind_eq node.kind System) (node.file == f.0) named in
         system_kind node.kind node.file parts.0 ∙ ap (λ (k : ℕ). group.System k) (eqb-true node.file f.0 parts.1)
@@ -236,7 +236,7 @@ module _ (name : Bytes) (c : Catalogued) (cells : ℕ → List Cell) (dir : Path
 
   files_apart : Distinct by_files
   files_apart = distinct_given (number_below t name dir) t.files (files_once t.files (rises t.files keeps.tables.files.0)) one where
-    one : (f h : File) → IsAmong t.files f → IsAmong t.files h → (n : ℕ) → number_below t name dir f ≡ Some n → number_below t name dir h ≡ Some n → f ≡ h
+    one : (f h : NumberedFile) → IsAmong t.files f → IsAmong t.files h → (n : ℕ) → number_below t name dir f ≡ Some n → number_below t name dir h ≡ Some n → f ≡ h
     one f h m k n e d =
         let numbers : f.0 ≡ h.0 = sym (is_below f n e).number ∙ (is_below h n d).number in
         let heads : f.1 ≡ h.1 = same_Some f.1 h.1 (sym (head_there f m) ∙ (ap (head_at t.files) numbers ∙ head_there h k)) in
@@ -256,23 +256,23 @@ module _ (name : Bytes) (c : Catalogued) (cells : ℕ → List Cell) (dir : Path
         λ i. (keys i, entries i)
 
   -- the sum over the files is the one over the entries
-  told : (bytes : File → ℕ) (weight : ℕ → ℕ) → ((f : File) → IsAmong t.files f → weight f.0 ≡ bytes f) → bytes_below t name dir bytes t.files ≡ sum (map weight by_entries)
+  told : (bytes : NumberedFile → ℕ) (weight : ℕ → ℕ) → ((f : NumberedFile) → IsAmong t.files f → weight f.0 ≡ bytes f) → bytes_below t name dir bytes t.files ≡ sum (map weight by_entries)
   told bytes weight same =
       sum_of_numbers t name dir bytes weight t.files same
       ∙ (same_sums weight by_files by_entries files_apart entries_apart to_entries to_files ∙ sym (sum-map weight by_entries))
 
   module _ (has : HasCells t cells) (below : GroupBelow) (units : below.units ≡ file_units c) where
-    size_is : (f : File) → IsAmong t.files f → size_of_file (maps.get g.files f.0) ≡ size_of f
+    size_is : (f : NumberedFile) → IsAmong t.files f → size_of_file (maps.get g.files f.0) ≡ file_size f
     unfolding group_of
     size_is f m = ap size_of_file (files_are cells t.files f.0 ∙ ap (λ (o : Option FileHead). option_map (λ (h : FileHead). groups.file_of_head h (cells f.0)) o) (head_there f m)) ∙ has f.0 f.1 (head_there f m)
 
-    mirrored_is : (f : File) → IsAmong t.files f → below.units f.0 * g.shape.au ≡ mirrored_of c f
+    mirrored_is : (f : NumberedFile) → IsAmong t.files f → below.units f.0 * g.shape.au ≡ mirrored_of c f
     unfolding group_of
     mirrored_is f m = ap (λ (u : ℕ → ℕ). u f.0 * c.shape.au) units
 
-    usage_same : du_lines (bytes_below t name dir size_of t.files) (bytes_below t name dir (mirrored_of c) t.files) ≡ world.usage_of below g dir
+    usage_same : du_lines (bytes_below t name dir file_size t.files) (bytes_below t name dir (mirrored_of c) t.files) ≡ world.usage_of below g dir
     usage_same =
-        ap (λ (n : ℕ). du_lines n (bytes_below t name dir (mirrored_of c) t.files)) (told size_of (λ n. size_of_file (maps.get g.files n)) size_is)
+        ap (λ (n : ℕ). du_lines n (bytes_below t name dir (mirrored_of c) t.files)) (told file_size (λ n. size_of_file (maps.get g.files n)) size_is)
         ∙ ap (λ (n : ℕ). du_lines (sum (map (λ k. size_of_file (maps.get g.files k)) by_entries)) n) (told (mirrored_of c) (λ n. below.units n * g.shape.au) mirrored_is)
 
 pub usage_is_worlds : UsageIsWorlds

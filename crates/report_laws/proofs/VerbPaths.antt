@@ -3,7 +3,7 @@ use Rattle.std.proofs.Common.{◌≡◌, ℕ, Bool, true, false, List, Option, S
 use Rattle.std.specs.Prelude.{◌||◌, ◌==◌, is_some}
 use mathlib.Core.Logic.{inl, inr}
 use Rattle.asm_grammar.specs.Argument as grammar
-use Rattle.asm_grammar.specs.Argument.{Plain, Starred, PathStart, NotLongStart, Stage, Text, TextKind, Path, NotLong, accepts, ends_at, onward, reached, said_at, says, start, text_start}
+use Rattle.asm_grammar.specs.Argument.{Plain, Starred, PathStart, NotLongStart, Stage, Text, TextKind, GroupPath, NotLong, accepts, ends_at, onward, reached, said_at, says, first_stage, text_start}
 use Rattle.asm_grammar.specs.Bytes.{after_run, is_filled, is_word, run_of}
 use Rattle.asm_grammar.specs.Syntax.{Value, Has}
 use Rattle.asm_grammar.specs.Word as word
@@ -56,14 +56,14 @@ cp_word (keyword, inr (source, target)) = tt
 
 names_word : (v : Value g.names) (text rest : Bytes) → Has g.names v text rest → IsWord (of_names v)
 names_word (inl v) text rest has = ls_word v text rest has
-names_word (inr (inl (keyword, path))) text rest has = fitted Path has.0 path rest has.2
+names_word (inr (inl (keyword, path))) text rest has = fitted GroupPath has.0 path rest has.2
 names_word (inr (inr (inl keyword))) text rest has = tt
 names_word (inr (inr (inr (inl (keyword, path))))) text rest has = tt
 names_word (inr (inr (inr (inr (inl (keyword, path)))))) text rest has = tt
 names_word (inr (inr (inr (inr (inr (inl v)))))) text rest has = cp_word v
 names_word (inr (inr (inr (inr (inr (inr (inl (keyword, None)))))))) text rest has = tt
-names_word (inr (inr (inr (inr (inr (inr (inl (keyword, Some path)))))))) text rest has = fitted Path has.0 path rest has.2
-names_word (inr (inr (inr (inr (inr (inr (inr (inl (keyword, (path, pattern)))))))))) text rest has = fitted Path has.0 path has.2.0 has.2.1
+names_word (inr (inr (inr (inr (inr (inr (inl (keyword, Some path)))))))) text rest has = fitted GroupPath has.0 path rest has.2
+names_word (inr (inr (inr (inr (inr (inr (inr (inl (keyword, (path, pattern)))))))))) text rest has = fitted GroupPath has.0 path has.2.0 has.2.1
 names_word (inr (inr (inr (inr (inr (inr (inr (inr (inl (keyword, (path, alias))))))))))) text rest has = tt
 names_word (inr (inr (inr (inr (inr (inr (inr (inr (inr (keyword, path)))))))))) text rest has = tt
 
@@ -102,14 +102,14 @@ or_none : (b : Bool) → (b || false) ≡ b
 or_none true = refl
 or_none false = refl
 
-plain_byte : (b : ℕ) → grammar.is_part_byte Plain b ≡ is_part_byte b
+plain_byte : (b : ℕ) → grammar.is_path_byte Plain b ≡ is_part_byte b
 plain_byte b = by (is_word b) (b == 45) (b == 46) where
   by : (x y z : Bool) → (x || y || z || false) ≡ (x || y || z)
   by true y z = refl
   by false true z = refl
   by false false z = or_none z
 
-starred_byte : (b : ℕ) → grammar.is_part_byte Starred b ≡ is_pattern_byte b
+starred_byte : (b : ℕ) → grammar.is_path_byte Starred b ≡ is_pattern_byte b
 starred_byte b = by (is_word b) (b == 45) (b == 46) (b == 42) where
   by : (x y z w : Bool) → (x || y || z || w) ≡ ((x || y || z) || w)
   by true y z w = refl

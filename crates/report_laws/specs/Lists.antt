@@ -55,12 +55,12 @@ NamesAreInserted =
     (texts names : List Bytes) (name : Bytes) → names ≡ world.in_order texts → LacksName texts name
     → insert names (names_before name names) name ≡ world.in_order (texts ++ name ∷ [])
 
-abbrev pub matching : Bytes → List Bytes → List Bytes
-matching pattern names = filter_map (λ name. if world.is_match pattern name then Some name else None) names
+abbrev pub matching_names : Bytes → List Bytes → List Bytes
+matching_names pattern names = filter_map (λ name. if world.is_match pattern name then Some name else None) names
 
 -- The names that match are the same whether they are taken before or after all are put in order.
 abbrev pub MatchesAreInOrder : Type 0
-MatchesAreInOrder = (pattern : Bytes) (texts : List Bytes) → world.in_order (matching pattern texts) ≡ matching pattern (world.in_order texts)
+MatchesAreInOrder = (pattern : Bytes) (texts : List Bytes) → world.in_order (matching_names pattern texts) ≡ matching_names pattern (world.in_order texts)
 
 -- the name of a mounted group, if it matches
 abbrev pub matching_name : Bytes → SessionEntry → Option Bytes
@@ -72,4 +72,4 @@ GroupsAreWorlds = (w : World) (pattern : Bytes) → world.in_order (filter_map (
 
 -- All names match `*`, as at `+`.
 abbrev pub AllMatchStar : Type 0
-AllMatchStar = (names : List Bytes) → matching star names ≡ names
+AllMatchStar = (names : List Bytes) → matching_names star names ≡ names

@@ -18,7 +18,7 @@ spelt_by t n = names_to t.nodes (length t.nodes) n
 
 -- The path leads to a directory of the group, which is spelt so there.
 pub record IsDirectory (g : Group) (path : Path) (place : List Bytes) : Type 0 where
-  pub there : IsTrue (world.is_dir g path)
+  pub there : IsTrue (world.group_has_dir g path)
   pub uncaused : decided (dir_causes g path) ≡ None
   pub spelt : world.spelt g path ≡ place
 

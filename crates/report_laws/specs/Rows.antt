@@ -12,10 +12,10 @@ use Rattle.group_of.specs.Groups.{group_of}
 abbrev pub AttributesAreWorlds : Type 0
 AttributesAreWorlds =
     (name : Bytes) (s : Shape) (t : Tables) (cells : ℕ → List Cell)
-    → texts.attribute_lines (texts.attribute_rows s t.templates.settings.attributes) ≡ world.attribute_lines (group_of name s t cells).shape (group_of name s t cells).attributes
+    → texts.attribute_row_lines (texts.attribute_rows s t.templates.settings.attributes) ≡ world.attribute_lines (group_of name s t cells).shape (group_of name s t cells).attributes
 
 -- The templates stand in folded order.
 abbrev pub TemplatesAreWorlds : Type 0
 TemplatesAreWorlds =
     (name : Bytes) (s : Shape) (t : Tables) (cells : ℕ → List Cell) → AreTables t
-    → texts.template_lines (map texts.template_row t.templates.templates) ≡ world.template_lines (template_rows (group_of name s t cells))
+    → texts.template_row_lines (map texts.template_row t.templates.templates) ≡ world.template_lines (template_rows (group_of name s t cells))

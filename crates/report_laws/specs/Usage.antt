@@ -9,11 +9,11 @@ use Rattle.catalog_tables.specs.Rules.{KeepsRules}
 use Rattle.catalog_tables.specs.Tables.{Catalogued}
 use Rattle.group_of.specs.Groups.{HasCells, group_of}
 use Rattle.group_reports.specs.Extents.{file_units}
-use Rattle.group_reports.specs.Files.{usage_of}
+use Rattle.group_reports.specs.Files.{directory_usage}
 
 -- What du tells by the tables, where they keep their rules, is what the world's group tells, whose files have their cells, above
 -- a group whose files have these units.
 abbrev pub UsageIsWorlds : Type 0
 UsageIsWorlds =
     (name : Bytes) (c : Catalogued) (cells : ℕ → List Cell) (below : GroupBelow) (dir : Path) → KeepsRules c.shape c.tables → HasCells c.tables cells → below.units ≡ file_units c
-    → (let taken = usage_of c name dir c.tables.files in du_lines taken.used taken.mirrored) ≡ world.usage_of below (group_of name c.shape c.tables cells) dir
+    → (let taken = directory_usage c name dir c.tables.files in du_lines taken.used taken.mirrored) ≡ world.usage_of below (group_of name c.shape c.tables cells) dir

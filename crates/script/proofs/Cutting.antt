@@ -10,8 +10,8 @@ use Rattle.std.specs.Str.{bytes_eq}
 use Rattle.std.specs.Char.{to_ascii_lowercase}
 use Rattle.asm_grammar.specs.Bytes.{is_blank}
 use Rattle.asm_grammar.specs.FirstWord.{is_first_word_byte, is_keyword, opens_statement}
-use Rattle.script.specs.Script.{Place, between, comment, line, statement, quoted, place_at, begins_comment, onto, onto_at, cut}
-use Rattle.script.specs.Scanning.{IsOpen, onto_all, Leads, FirstIs, Unended}
+use Rattle.script.specs.Script.{ScriptPlace, between, comment, line, in_statement, in_quotes, place_of_first_byte, begins_comment, onto, onto_at, cut}
+use Rattle.script.specs.Scanning.{IsCommandOpen, onto_all, Leads, FirstIs, Unended}
 
 -- a test is true or false, with the equation
 pub on_test : {P : Type 0} (b : Bool) → (b ≡ true → P) → (b ≡ false → P) → P
@@ -79,23 +79,23 @@ pub line-ends : (bs : List ℕ) → FirstIs line (10 ∷ bs) [] (10 ∷ bs)
 unfolding cut
 line-ends bs closed more = refl
 
-pub statement-ends : (bs : List ℕ) → FirstIs statement (59 ∷ bs) (59 ∷ []) bs
+pub statement-ends : (bs : List ℕ) → FirstIs in_statement (59 ∷ bs) (59 ∷ []) bs
 unfolding cut
 statement-ends bs closed more = refl
 
-pub quote-begins : (bs : List ℕ) → Leads statement (39 ∷ bs) (39 ∷ []) quoted bs
+pub quote-begins : (bs : List ℕ) → Leads in_statement (39 ∷ bs) (39 ∷ []) in_quotes bs
 unfolding cut onto_all
 quote-begins bs closed more = refl
 
-pub quote-ends : (bs : List ℕ) → Leads quoted (39 ∷ bs) (39 ∷ []) statement bs
+pub quote-ends : (bs : List ℕ) → Leads in_quotes (39 ∷ bs) (39 ∷ []) in_statement bs
 unfolding cut onto_all
 quote-ends bs closed more = refl
 
-pub statement-goes_on : (b : ℕ) (bs : List ℕ) → (b == 39) ≡ false → (b == 59) ≡ false → Leads statement (b ∷ bs) (b ∷ []) statement bs
+pub statement-goes_on : (b : ℕ) (bs : List ℕ) → (b == 39) ≡ false → (b == 59) ≡ false → Leads in_statement (b ∷ bs) (b ∷ []) in_statement bs
 unfolding cut onto_all
 statement-goes_on b bs e f closed more = rw (f, e, cut) refl
 
-pub quote-goes_on : (b : ℕ) (bs : List ℕ) → (b == 39) ≡ false → Leads quoted (b ∷ bs) (b ∷ []) quoted bs
+pub quote-goes_on : (b : ℕ) (bs : List ℕ) → (b == 39) ≡ false → Leads in_quotes (b ∷ bs) (b ∷ []) in_quotes bs
 unfolding cut onto_all
 quote-goes_on b bs e closed more = rw (e, cut) refl
 
@@ -153,32 +153,32 @@ begins-same b [] more (inl l) = on_test (is_first_word_byte b)
     (λ e. lone-byte b more e))
 begins-same b (c ∷ bs) more d = refl
 
-place-of-first : (b : ℕ) (bs : List ℕ) → is_blank b ≡ false → begins_comment (b ∷ bs) ≡ false → place_at (b ∷ bs) ≡ (if opens_statement (b ∷ bs) then statement else line)
+place-of-first : (b : ℕ) (bs : List ℕ) → is_blank b ≡ false → begins_comment (b ∷ bs) ≡ false → place_of_first_byte (b ∷ bs) ≡ (if opens_statement (b ∷ bs) then in_statement else line)
 place-of-first b bs e f = rw (e, f) refl
 
-onto_at-open : (place : Place) (b : ℕ) (commands : List (List ℕ)) → IsOpen place → onto_at place b commands ≡ onto b commands
+onto_at-open : (place : ScriptPlace) (b : ℕ) (commands : List (List ℕ)) → IsCommandOpen place → onto_at place b commands ≡ onto b commands
 onto_at-open between b commands is = absurd is
 onto_at-open comment b commands is = absurd is
 onto_at-open line b commands is = refl
-onto_at-open statement b commands is = refl
-onto_at-open quoted b commands is = refl
+onto_at-open in_statement b commands is = refl
+onto_at-open in_quotes b commands is = refl
 
-pub command-begins : (b : ℕ) (bs : List ℕ) (place : Place) → is_blank b ≡ false → begins_comment (b ∷ bs) ≡ false
+pub command-begins : (b : ℕ) (bs : List ℕ) (place : ScriptPlace) → is_blank b ≡ false → begins_comment (b ∷ bs) ≡ false
     → (prefix_len is_first_word_byte (b ∷ bs) < length (b ∷ bs)) ⊎ (6 < length (b ∷ bs)) → prefix_len is_first_word_byte (b ∷ bs) ≤ length (b ∷ bs)
-    → (if opens_statement (b ∷ bs) then statement else line) ≡ place → IsOpen place → Leads between (b ∷ bs) (b ∷ []) place bs
+    → (if opens_statement (b ∷ bs) then in_statement else line) ≡ place → IsCommandOpen place → Leads between (b ∷ bs) (b ∷ []) place bs
 unfolding cut onto_all
 command-begins b bs place e f decided within is opened closed more =
-    let at : place_at (b ∷ (bs ++ more)) ≡ place =
+    let at : place_of_first_byte (b ∷ (bs ++ more)) ≡ place =
     place-of-first b (bs ++ more) e (begins-same b bs more decided ∙ f)
-    ∙ ap (λ v. if v then statement else line) (opens-decided (b ∷ bs) more decided within) ∙ is in
+    ∙ ap (λ v. if v then in_statement else line) (opens-decided (b ∷ bs) more decided within) ∙ is in
     ap (λ p. onto_at p b (cut closed p (bs ++ more))) at ∙ onto_at-open place b (cut closed place (bs ++ more)) opened
 
-word-passes : (p : Place) (b : ℕ) (bs : List ℕ) → (p ≡ statement) ⊎ (p ≡ line) → is_first_word_byte b ≡ true → (closed : Bool) → cut closed p (b ∷ bs) ≡ onto b (cut closed p bs)
+word-passes : (p : ScriptPlace) (b : ℕ) (bs : List ℕ) → (p ≡ in_statement) ⊎ (p ≡ line) → is_first_word_byte b ≡ true → (closed : Bool) → cut closed p (b ∷ bs) ≡ onto b (cut closed p bs)
 unfolding cut
 word-passes p b bs (inl e) t closed = rw e (rw (off-word b 59 refl t, off-word b 39 refl t, cut) refl)
 word-passes p b bs (inr e) t closed = rw e (rw (off-word b 10 refl t, cut) refl)
 
-words-open : (p : Place) (bs : List ℕ) → (p ≡ statement) ⊎ (p ≡ line) → length bs ≤ prefix_len is_first_word_byte bs → (cut false p bs ≡ []) × (cut true p bs ≡ bs ∷ [])
+words-open : (p : ScriptPlace) (bs : List ℕ) → (p ≡ in_statement) ⊎ (p ≡ line) → length bs ≤ prefix_len is_first_word_byte bs → (cut false p bs ≡ []) × (cut true p bs ≡ bs ∷ [])
 unfolding cut
 words-open p [] (inl e) l = rw e (refl, refl)
 words-open p [] (inr e) l = rw e (refl, refl)
@@ -188,7 +188,7 @@ words-open p (b ∷ bs) which l = on_test (is_first_word_byte b)
     (passes false ∙ ap (onto b) rest.0, passes true ∙ ap (onto b) rest.1))
     (λ f. absurd (omega (arith, front-stops is_first_word_byte b bs f)))
 
-waits-at : (b : ℕ) (bs : List ℕ) (place : Place) → place_at (b ∷ bs) ≡ place → (place ≡ statement) ⊎ (place ≡ line) → IsOpen place
+waits-at : (b : ℕ) (bs : List ℕ) (place : ScriptPlace) → place_of_first_byte (b ∷ bs) ≡ place → (place ≡ in_statement) ⊎ (place ≡ line) → IsCommandOpen place
     → prefix_len is_first_word_byte (b ∷ bs) ≡ length (b ∷ bs) → Unended between (b ∷ bs) 0
 unfolding cut
 waits-at b bs place at which opened all =
@@ -202,8 +202,8 @@ waits-at b bs place at which opened all =
 
 pub word-waits : (b : ℕ) (bs : List ℕ) → is_blank b ≡ false → begins_comment (b ∷ bs) ≡ false → prefix_len is_first_word_byte (b ∷ bs) ≡ length (b ∷ bs) → Unended between (b ∷ bs) 0
 word-waits b bs e f all = on_test (opens_statement (b ∷ bs))
-    (λ o. waits-at b bs statement (place-of-first b bs e f ∙ ap (λ v. if v then statement else line) o) (inl refl) tt all)
-    (λ o. waits-at b bs line (place-of-first b bs e f ∙ ap (λ v. if v then statement else line) o) (inr refl) tt all)
+    (λ o. waits-at b bs in_statement (place-of-first b bs e f ∙ ap (λ v. if v then in_statement else line) o) (inl refl) tt all)
+    (λ o. waits-at b bs line (place-of-first b bs e f ∙ ap (λ v. if v then in_statement else line) o) (inr refl) tt all)
 
 pub within-front : (p : ℕ → Bool) (bs : List ℕ) → prefix_len p bs ≤ length bs
 within-front p bs = prefix_len-le-length p bs

@@ -4,7 +4,7 @@ use Rattle.std.proofs.lemmas.Bool.{eqb-true}
 use Rattle.std.specs.List.{prefix_len}
 use Rattle.asm_grammar.specs.Bytes.{is_blank}
 use Rattle.asm_grammar.specs.FirstWord.{is_first_word_byte, opens_statement}
-use Rattle.script.specs.Script.{between, comment, line, statement, quoted, begins_comment}
+use Rattle.script.specs.Script.{between, comment, line, in_statement, in_quotes, begins_comment}
 use Rattle.script.specs.Scanning.{Steps}
 use Rattle.script.specs.declared.cutter.State.TheVariants.{Gap, Comment, Line, Statement, Quote}
 use Rattle.script.specs.declared.cutter.Step.TheVariants.{Skip, Take, EndsBefore, EndsWith, Waits}
@@ -30,11 +30,11 @@ shorter rest n e l d = inl (omega arith)
 
 pub gap-statement : (rest : List ℕ) → is_blank (get_or rest 0 0) ≡ false → begins_comment rest ≡ false → Decided rest → prefix_len is_first_word_byte rest ≤ length rest → opens_statement rest ≡ true → Steps between rest (Take Statement)
 gap-statement [] e f d w o = tt
-gap-statement (b ∷ bs) e f d w o = (refl, tt, command-begins b bs statement e f d w (ap (λ v. if v then statement else line) o) tt)
+gap-statement (b ∷ bs) e f d w o = (refl, tt, command-begins b bs in_statement e f d w (ap (λ v. if v then in_statement else line) o) tt)
 
 pub gap-line : (rest : List ℕ) → is_blank (get_or rest 0 0) ≡ false → begins_comment rest ≡ false → Decided rest → prefix_len is_first_word_byte rest ≤ length rest → opens_statement rest ≡ false → Steps between rest (Take Line)
 gap-line [] e f d w o = tt
-gap-line (b ∷ bs) e f d w o = (refl, tt, command-begins b bs line e f d w (ap (λ v. if v then statement else line) o) tt)
+gap-line (b ∷ bs) e f d w o = (refl, tt, command-begins b bs line e f d w (ap (λ v. if v then in_statement else line) o) tt)
 
 other : (a b : ℕ) → a ≢ b → (a == b) ≡ false
 other a b n = on_test (a == b) (λ e. absurd (n (eqb-true a b e))) (λ e. e)
@@ -55,22 +55,22 @@ pub line-byte : (rest : List ℕ) → get_or rest 0 0 ≢ 10 → Steps line rest
 line-byte [] e = tt
 line-byte (b ∷ bs) e = (refl, tt, line-goes_on b bs (other b 10 e))
 
-pub statement-semicolon : (rest : List ℕ) → get_or rest 0 0 ≡ 59 → Steps statement rest EndsWith
+pub statement-semicolon : (rest : List ℕ) → get_or rest 0 0 ≡ 59 → Steps in_statement rest EndsWith
 statement-semicolon [] e = tt
-statement-semicolon (b ∷ bs) e = subst (λ x. Steps statement (x ∷ bs) EndsWith) (sym e) (tt, statement-ends bs)
+statement-semicolon (b ∷ bs) e = subst (λ x. Steps in_statement (x ∷ bs) EndsWith) (sym e) (tt, statement-ends bs)
 
-pub statement-quote : (rest : List ℕ) → get_or rest 0 0 ≡ 39 → Steps statement rest (Take Quote)
+pub statement-quote : (rest : List ℕ) → get_or rest 0 0 ≡ 39 → Steps in_statement rest (Take Quote)
 statement-quote [] e = tt
-statement-quote (b ∷ bs) e = subst (λ x. Steps statement (x ∷ bs) (Take Quote)) (sym e) (refl, tt, quote-begins bs)
+statement-quote (b ∷ bs) e = subst (λ x. Steps in_statement (x ∷ bs) (Take Quote)) (sym e) (refl, tt, quote-begins bs)
 
-pub statement-byte : (rest : List ℕ) → get_or rest 0 0 ≢ 59 → get_or rest 0 0 ≢ 39 → Steps statement rest (Take Statement)
+pub statement-byte : (rest : List ℕ) → get_or rest 0 0 ≢ 59 → get_or rest 0 0 ≢ 39 → Steps in_statement rest (Take Statement)
 statement-byte [] e f = tt
 statement-byte (b ∷ bs) e f = (refl, tt, statement-goes_on b bs (other b 39 f) (other b 59 e))
 
-pub quote-quote : (rest : List ℕ) → get_or rest 0 0 ≡ 39 → Steps quoted rest (Take Statement)
+pub quote-quote : (rest : List ℕ) → get_or rest 0 0 ≡ 39 → Steps in_quotes rest (Take Statement)
 quote-quote [] e = tt
-quote-quote (b ∷ bs) e = subst (λ x. Steps quoted (x ∷ bs) (Take Statement)) (sym e) (refl, tt, quote-ends bs)
+quote-quote (b ∷ bs) e = subst (λ x. Steps in_quotes (x ∷ bs) (Take Statement)) (sym e) (refl, tt, quote-ends bs)
 
-pub quote-byte : (rest : List ℕ) → get_or rest 0 0 ≢ 39 → Steps quoted rest (Take Quote)
+pub quote-byte : (rest : List ℕ) → get_or rest 0 0 ≢ 39 → Steps in_quotes rest (Take Quote)
 quote-byte [] e = tt
 quote-byte (b ∷ bs) e = (refl, tt, quote-goes_on b bs (other b 39 e))

@@ -2,7 +2,7 @@
 
 ghost use Rattle.std.specs.Prelude.{◌≡◌, ◌+◌, ◌-◌, ◌<◌, ◌≤◌, List, ℕ, true, false, [], ◌∷◌, length, take, drop, IfSome, IfNone};
 ghost use Rattle.script.specs.Script.{cut, between, commands_of};
-ghost use Rattle.script.specs.Scanning.{place_of, opening, Stands, IsFresh, Leads, FirstIs, Steps, Goes, ComesTo, GoesOnWithMore, last_command};
+ghost use Rattle.script.specs.Scanning.{place_of_state, opening_place, IsCutterOf, IsFresh, Leads, FirstIs, Steps, Goes, ComesTo, GoesOnWithMore, last_command};
 
 use crate::first_word::{begins_comment, is_blank, opens_statement, word_len};
 
@@ -79,7 +79,7 @@ fn look_in_gap(rest: &[u8]) -> Step
 
 fn look_at(state: State, rest: &[u8]) -> Step
     requires { 0 < length rest.now }
-    ensures { Steps (place_of state) rest.now result }
+    ensures { Steps (place_of_state state) rest.now result }
 {
     match (state, rest[0]) {
         (State::Gap, _) => look_in_gap(rest),
@@ -113,7 +113,7 @@ enum Onward {
 impl Cutter {
     /// At the front of a script, or behind a command.
     pub fn new() -> Cutter
-        ensures stands { (bytes : List ℕ) → Stands bytes result }
+        ensures stands { (bytes : List ℕ) → IsCutterOf bytes result }
         ensures fresh { IsFresh result }
     {
         Cutter {
@@ -126,7 +126,7 @@ impl Cutter {
 
     /// Looks at the byte that is next.
     fn onward(self, bytes: &[u8]) -> Onward
-        requires stands { Stands bytes.now self }
+        requires stands { IsCutterOf bytes.now self }
         requires more { self.at < length bytes.now }
         ensures { Goes self bytes.now result }
     {
@@ -163,7 +163,7 @@ impl Cutter {
 
     /// Goes on from where it stands to the end of the next command, or of the bytes.
     fn scan(self, bytes: &[u8]) -> Scan
-        requires { Stands bytes.now self }
+        requires { IsCutterOf bytes.now self }
         ensures { ComesTo self bytes.now result }
     {
         let mut cutter = self;
@@ -180,14 +180,14 @@ impl Cutter {
     /// The next command of a script that begins with these bytes, where its end is among them; the cutter is then a fresh one,
     /// for the bytes behind the command. Where it is not, the cutter goes on later, with more bytes behind these.
     pub fn next(&mut self, bytes: &[u8]) -> Option<Span>
-        requires { Stands bytes.now self.old }
+        requires { IsCutterOf bytes.now self.old }
         ensures within { IfSome result (λ span. span.at + span.len ≤ length bytes.now) }
-        ensures found { IfSome result (λ span. FirstIs (place_of self.old.from) bytes.now
+        ensures found { IfSome result (λ span. FirstIs (place_of_state self.old.from) bytes.now
             (take span.len (drop span.at bytes.now)) (drop (span.at + span.len) bytes.now)) }
         ensures progress { IfSome result (λ span. 0 < span.len) }
         ensures fresh { IfSome result (λ _. IsFresh self.new) }
-        ensures none { IfNone result (cut false (place_of self.old.from) bytes.now ≡ []) }
-        ensures stands { IfNone result (Stands bytes.now self.new) }
+        ensures none { IfNone result (cut false (place_of_state self.old.from) bytes.now ≡ []) }
+        ensures stands { IfNone result (IsCutterOf bytes.now self.new) }
         ensures from { IfNone result (self.new.from ≡ self.old.from) }
         ensures scanned { IfNone result (length bytes.now ≤ self.new.at + 6) }
     {
@@ -205,12 +205,12 @@ impl Cutter {
 
     /// The next command of a script that ends with these bytes.
     pub fn last(self, bytes: &[u8]) -> Option<Span>
-        requires { Stands bytes.now self }
+        requires { IsCutterOf bytes.now self }
         ensures within { IfSome result (λ span. span.at + span.len ≤ length bytes.now) }
-        ensures found { IfSome result (λ span. cut true (place_of self.from) bytes.now
+        ensures found { IfSome result (λ span. cut true (place_of_state self.from) bytes.now
             ≡ take span.len (drop span.at bytes.now) ∷ commands_of (drop (span.at + span.len) bytes.now)) }
         ensures progress { IfSome result (λ span. 0 < span.len) }
-        ensures none { IfNone result (cut true (place_of self.from) bytes.now ≡ []) }
+        ensures none { IfNone result (cut true (place_of_state self.from) bytes.now ≡ []) }
     {
         match self.scan(bytes) {
             Scan::Found(span) => Some(span),
@@ -222,8 +222,8 @@ impl Cutter {
     pub fn without_gap(self) -> Cutter
         requires { self.start ≤ self.at }
         ensures start { result.start ≡ 0 }
-        ensures stands { (bytes : List ℕ) → Stands bytes self → Stands (drop self.start bytes) result }
-        ensures same { (bytes : List ℕ) → Stands bytes self → Leads (place_of self.from) bytes [] (place_of result.from) (drop self.start bytes) }
+        ensures stands { (bytes : List ℕ) → IsCutterOf bytes self → IsCutterOf (drop self.start bytes) result }
+        ensures same { (bytes : List ℕ) → IsCutterOf bytes self → Leads (place_of_state self.from) bytes [] (place_of_state result.from) (drop self.start bytes) }
     {
         Cutter {
             from: opening(self.state),
@@ -236,7 +236,7 @@ impl Cutter {
 
 /// Where the first byte of the open command stands, or of what is left of the gap.
 fn opening(state: State) -> State
-    ensures { place_of result ≡ opening (place_of state) }
+    ensures { place_of_state result ≡ opening_place (place_of_state state) }
 {
     match state {
         State::Gap | State::Comment => state,

@@ -18,7 +18,7 @@ use Rattle.asm_world.specs.Below.{Found, GroupBelow}
 use Rattle.asm_world.specs.Reply.{Reply, Refused}
 use Rattle.asm_world.specs.World.{World, SessionEntry, entry_in, is_mounted}
 use Rattle.asm_world.specs.Run.{Phase, Resting, Expiring, Slicing, Starts, Answers, Rests, AnswersAt, next_expiry, next_slice, below_of_entry, expiring_of, due_resync, due_rebalance, DueRebalance, DueResync, slices_of, mounted_groups, phase_after, is_refusal, reply_in, times_of}
-use Rattle.serving.specs.Acts.{scene, state_of, Acts}
+use Rattle.serving.specs.Acts.{scene, scene_state, Acts}
 use Rattle.asm_world.specs.Waits.{HasLines}
 use Rattle.disk_commands.specs.group_disks.Found.{Counts, counts_of}
 use Rattle.disk_commands.specs.session.Meaning.{meaning}
@@ -126,7 +126,7 @@ pub acts-answers : {C : Type 0} (gives : C → ℕ → C → Type 0) (paths : Li
     → Acts gives paths whole (text ∷ []) (scene w below (Expiring (mounted_groups w.session)) time was old taken clock marks refused manner) (scene w' below' (phase_after reply w') time now new taken' clock marks' refused' manner')
 acts-answers gives paths whole found text reply sent w w' below below' time was now old new taken taken' clock marks marks' refused refused' manner manner' none served written marked refusal told texts =
     let move = Answers found text reply in
-    let answers : HasEffect paths found text reply was now old new below w w' → AnswersAt meaning found text reply (state_of (scene w below (Expiring (mounted_groups w.session)) time was old taken clock marks refused manner)) (state_of (scene w' below' (phase_after reply w') time now new taken' clock marks' refused' manner')) = λ effect. record { groups = mounted_groups w.session; before = refl; none_expires = none; step = effect.step; cause = effect.cause; lines = effect.lines; after = refl; time = refl } in
+    let answers : HasEffect paths found text reply was now old new below w w' → AnswersAt meaning found text reply (scene_state (scene w below (Expiring (mounted_groups w.session)) time was old taken clock marks refused manner)) (scene_state (scene w' below' (phase_after reply w') time now new taken' clock marks' refused' manner')) = λ effect. record { groups = mounted_groups w.session; before = refl; none_expires = none; step = effect.step; cause = effect.cause; lines = effect.lines; after = refl; time = refl } in
     acts-one gives paths whole move sent (scene w below (Expiring (mounted_groups w.session)) time was old taken clock marks refused manner) (scene w' below' (phase_after reply w') time now new taken' clock marks' refused' manner') (record {
       does = λ met. let effect = served.effect (anywhere met.0) met.1 in
           record { does = answers effect; caused = (effect.ids_read, effect.made, effect.counted, effect.worked); calls = served.calls; images = λ m image from before left id. tt; there = λ m image from before left id was is. tt };

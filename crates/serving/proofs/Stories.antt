@@ -12,7 +12,7 @@ use Rattle.bay.proofs.Known.{Appends-none}
 use Rattle.asm_group.specs.Names.{Bytes}
 use Rattle.asm_world.specs.Below.{GroupBelow}
 use Rattle.asm_world.specs.Reply.{Event}
-use Rattle.asm_world.specs.Run.{Move, Phase, Stops, AllMoves, text_of}
+use Rattle.asm_world.specs.Run.{SessionMove, Phase, Stops, AllMoves, text_of}
 use Rattle.asm_world.specs.Text.{event_text}
 use Rattle.asm_world.specs.World.{World}
 use Rattle.serving.specs.Acts.{Acts, Scene, scene}
@@ -141,7 +141,7 @@ module _ {B H K C : Type 0} {bay : Bay.Ghosts B} {host : Host.Ghosts H} {sink : 
     known w below knows = record { entries_are = refl; place_is = knows.place_is ∙ sym carries.place; below_is = refl; told = λ same. none_told (after w) refl new.desk.session.groups }
 
     -- by a move of which nothing is proved, and this text
-    tells_move : {T : Type 0} (result : Result T Stop) (move : Move) (sent : Bytes) → IsSilent move → IsTurnMove when move → MatchBool (is_ok result) (sent ≡ text_of (style_of old.manner move) move) ((rest : List ℕ) × (text_of (style_of old.manner move) move ≡ sent ++ rest))
+    tells_move : {T : Type 0} (result : Result T Stop) (move : SessionMove) (sent : Bytes) → IsSilent move → IsTurnMove when move → MatchBool (is_ok result) (sent ≡ text_of (style_of old.manner move) move) ((rest : List ℕ) × (text_of (style_of old.manner move) move ≡ sent ++ rest))
         → Appends (sink.taken old.sink) (sink.taken new.sink) sent → StopsByOutput result (sink.faults old.sink) (sink.faults new.sink) → TellsTurns result when old new
     tells_move result move sent silent turns texts written cause = record {
       ready = carries.ready;

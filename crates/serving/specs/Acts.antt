@@ -5,9 +5,9 @@ use Rattle.bay.specs.State.{BayState}
 use Rattle.bay.specs.Readings.{Readings}
 use Rattle.asm_group.specs.Names.{Bytes}
 use Rattle.asm_world.specs.World.{World}
-use Rattle.asm_world.specs.Run.{State, Phase, Entry, CallsRise, end_of, IsPrinted, IsPrintedToCut, output_of, answered, times_of, marks_of, has_refusal}
+use Rattle.asm_world.specs.Run.{State, Phase, PrintedMove, CallsRise, end_of, IsPrinted, IsPrintedToCut, output_of, answered, times_of, marks_in_history, has_refusal}
 use Rattle.disk_commands.specs.group_disks.Found.{Counts, counts_of}
-use Rattle.disk_commands.specs.session.Claims.{outside, held_outside, IsProvedApartIn}
+use Rattle.disk_commands.specs.session.Claims.{outside_with_counts, held_outside, IsProvedApartIn}
 use Rattle.serving.specs.declared.manner.Manner.{Manner}
 use Rattle.disk_commands.specs.session.Effects.{Past}
 use Rattle.serving.specs.Manners.{AreTold, after_moves}
@@ -38,29 +38,29 @@ scene world below phase time roster bay taken clock marks refused manner =
     record { world = world; below = below; phase = phase; time = time; roster = roster; bay = bay; taken = taken; clock = clock; marks = marks; refused = refused; manner = manner }
 
 -- the session's state in a scene
-abbrev pub state_of : {C : Type 0} → Scene C → State Counts
-state_of s = record { world = s.world; below = s.below; phase = s.phase; time = s.time; calls = s.bay.calls; counts = counts_of s.bay }
+abbrev pub scene_state : {C : Type 0} → Scene C → State Counts
+scene_state s = record { world = s.world; below = s.below; phase = s.phase; time = s.time; calls = s.bay.calls; counts = counts_of s.bay }
 
 -- Up to the first move that isn't proved, the images of each moment that ends in these moves stand for groups between; where all are
 -- proved, those of the moment that lasts stand for the world's.
-pub record Holding (known : ℕ → Bool) (paths : List Bytes) (s : State Counts) (history : List (Entry Counts)) (roster : Roster) (new : BayState) (world : World) : Type 0 where
+pub record Holding (known : ℕ → Bool) (paths : List Bytes) (s : State Counts) (history : List (PrintedMove Counts)) (roster : Roster) (new : BayState) (world : World) : Type 0 where
   pub held : IsRunFrom (held_outside paths new.leaves) (IsProvedApartIn known) s history
   pub now : AllFrom (IsProvedApartIn known) s history → StandsFor (length paths) known roster.given new world roster.groups
 
 -- Moves that answer these commands lead from old to new, and those before the first that isn't proved are a run. Their texts were
 -- told in the manner of the program, whole or up to a cut.
 pub record Acts {C : Type 0} (gives : C → ℕ → C → Type 0) (paths : List Bytes) (whole : Bool) (commands : List Bytes) (old new : Scene C) : Type 0 where
-  pub history : List (Entry Counts)
-  pub run : IsRunFrom (outside paths new.bay.leaves) IsProvedIn (state_of old) history
-  pub calls_rise : CallsRise (state_of old) history
-  pub ends : end_of (state_of old) history ≡ state_of new
+  pub history : List (PrintedMove Counts)
+  pub run : IsRunFrom (outside_with_counts paths new.bay.leaves) IsProvedIn (scene_state old) history
+  pub calls_rise : CallsRise (scene_state old) history
+  pub ends : end_of (scene_state old) history ≡ scene_state new
   pub commands_are : answered history ≡ commands
   pub past : Past old.bay new.bay
-  pub holds : (known : ℕ → Bool) → StandsFor (length paths) known old.roster.given old.bay old.world old.roster.groups → Holding known paths (state_of old) history new.roster new.bay new.world
+  pub holds : (known : ℕ → Bool) → StandsFor (length paths) known old.roster.given old.bay old.world old.roster.groups → Holding known paths (scene_state old) history new.roster new.bay new.world
   pub told : AreTold old.manner history
   pub manner_is : new.manner ≡ after_moves old.manner history
   pub printed : MatchBool whole (IsPrinted history) (IsPrintedToCut history)
   pub written : Appends old.taken new.taken (output_of history)
   pub readings : Readings gives old.clock (times_of history) new.clock
-  pub marks_grow : new.marks ≡ old.marks ++ marks_of history
+  pub marks_grow : new.marks ≡ old.marks ++ marks_in_history history
   pub refusal : new.refused ≡ (old.refused || has_refusal history)

@@ -7,14 +7,14 @@ use Rattle.bay.specs.declared.stream.Clock as Clock
 use Rattle.asm_group.specs.Names.{Bytes}
 use Rattle.asm_world.specs.World.{World}
 use Rattle.asm_world.specs.Run.{AllMoves, Phase, Resting, Expiring, Slicing, mounted_groups, slices_of}
-use Rattle.script.specs.Script.{Place, cut}
+use Rattle.script.specs.Script.{ScriptPlace, cut}
 use Rattle.serving.specs.declared.program.Program.{Program}
 use Rattle.serving.specs.declared.stop.Stop.{Stop}
 use Rattle.serving.specs.Acts.{Scene, scene, Acts}
 use Rattle.disk_commands.specs.session.Desks.{paths_on}
-use Rattle.serving.specs.Serves.{BeginsFrom, Serves, is_whole}
+use Rattle.serving.specs.Serves.{BeginsFrom, Serves, is_printed_whole}
 use Rattle.disk_commands.specs.session.Sessions.{AreReady, Knows, roster_of}
-use Rattle.serving.specs.Stops.{IsPart, StopsByOutput}
+use Rattle.serving.specs.Stops.{IsCommandOrNone, StopsByOutput}
 use Rattle.disk_commands.specs.group_turns.Turns.{TurnMoment, IsTurnMove, phase_at}
 use Rattle.asm_world.specs.Below.{GroupBelow}
 
@@ -64,11 +64,11 @@ pub record RunsOne {B H K C : Type 0} {bay : Bay.Ghosts B} {host : Host.Ghosts H
   pub commands : List Bytes
   pub knows : Knows new.desk.session w' below'
   pub rests : OnOk result (phase ≡ Resting)
-  pub part : IsPart (is_ok result) text commands
+  pub part : IsCommandOrNone (is_ok result) text commands
   pub acts : Acts clock.gives (paths_on old.desk) (is_ok result) commands (scene_of w below Resting time old) (scene_of w' below' phase time' new)
 
 -- the commands that have ended among some bytes were answered, and of these a rest is left
-pub record AnswersEnded {B H K C : Type 0} {bay : Bay.Ghosts B} {host : Host.Ghosts H} {sink : Sink.Ghosts K} {clock : Clock.Ghosts C} (result : Result (Unit {0}) Stop) (from to : Place) (bytes rest : List ℕ)
+pub record AnswersEnded {B H K C : Type 0} {bay : Bay.Ghosts B} {host : Host.Ghosts H} {sink : Sink.Ghosts K} {clock : Clock.Ghosts C} (result : Result (Unit {0}) Stop) (from to : ScriptPlace) (bytes rest : List ℕ)
     (old new : Program B H K C bay host sink clock) (w : World) (below : ℕ → GroupBelow) (time : ℕ) : Type 0 where
   pub w' : World
   pub below' : ℕ → GroupBelow
@@ -76,7 +76,7 @@ pub record AnswersEnded {B H K C : Type 0} {bay : Bay.Ghosts B} {host : Host.Gho
   pub time' : ℕ
   pub commands : List Bytes
   pub left : List ℕ
-  pub place : Place
+  pub place : ScriptPlace
   pub knows : Knows new.desk.session w' below'
   pub rests : OnOk result (phase ≡ Resting)
   pub begins : BeginsFrom from bytes commands place left
@@ -84,7 +84,7 @@ pub record AnswersEnded {B H K C : Type 0} {bay : Bay.Ghosts B} {host : Host.Gho
   pub acts : Acts clock.gives (paths_on old.desk) (is_ok result) commands (scene_of w below Resting time old) (scene_of w' below' phase time' new)
 
 -- the commands that the end of the script ends were answered
-pub record AnswersLast {B H K C : Type 0} {bay : Bay.Ghosts B} {host : Host.Ghosts H} {sink : Sink.Ghosts K} {clock : Clock.Ghosts C} (result : Result (Unit {0}) Stop) (from : Place) (bytes : List ℕ)
+pub record AnswersLast {B H K C : Type 0} {bay : Bay.Ghosts B} {host : Host.Ghosts H} {sink : Sink.Ghosts K} {clock : Clock.Ghosts C} (result : Result (Unit {0}) Stop) (from : ScriptPlace) (bytes : List ℕ)
     (old new : Program B H K C bay host sink clock) (w : World) (below : ℕ → GroupBelow) (time : ℕ) : Type 0 where
   pub w' : World
   pub below' : ℕ → GroupBelow
@@ -106,5 +106,5 @@ pub record ServesAll {B H K C : Type 0} {bay : Bay.Ghosts B} {host : Host.Ghosts
   pub phase : Phase
   pub time' : ℕ
   pub knows : Knows new.desk.session w' below'
-  pub rests : is_whole result ≡ true → phase ≡ Resting
+  pub rests : is_printed_whole result ≡ true → phase ≡ Resting
   pub serves : Serves clock.gives (paths_on old.desk) result left left' (scene_of w below Resting time old) (scene_of w' below' phase time' new)

@@ -3,7 +3,7 @@ use Rattle.std.specs.Prelude.{◌≡◌, ◌⊎◌, ℕ, ◌+◌, ◌≤◌, ⊤
 use Rattle.std.specs.Io.KnownBytes.{Consumes, IsAtEnd}
 use Rattle.bay.specs.Counts.{Rose}
 use Rattle.asm_group.specs.Names.{Bytes}
-use Rattle.script.specs.Script.{Place, cut, commands_of, ended_commands}
+use Rattle.script.specs.Script.{ScriptPlace, cut, commands_of, ended_commands}
 use Rattle.serving.specs.declared.stop.Stop.{Stop}
 use Rattle.serving.specs.declared.stop.Stop.TheVariants.{ReadFault, WriteFault, NoMemory, TooLong}
 use Rattle.serving.specs.Acts.{Scene, Acts}
@@ -32,20 +32,20 @@ pub record StopsByInput {T : Type 0} (result : Result T Stop) (before after : �
   pub failed : IfErr result (λ stop. IsInputStop stop before after)
 
 -- every text was printed whole, and nothing more is due
-abbrev pub is_whole : Result (Unit {0}) Stop → Bool
-is_whole (Ok done) = true
-is_whole (Err ReadFault) = true
-is_whole (Err WriteFault) = false
-is_whole (Err NoMemory) = false
-is_whole (Err TooLong) = true
+abbrev pub is_printed_whole : Result (Unit {0}) Stop → Bool
+is_printed_whole (Ok done) = true
+is_printed_whole (Err ReadFault) = true
+is_printed_whole (Err WriteFault) = false
+is_printed_whole (Err NoMemory) = false
+is_printed_whole (Err TooLong) = true
 
 -- The commands are the first of these bytes from a place on, whatever follows, and the rest is left with a place.
-abbrev pub BeginsFrom : Place → List ℕ → List Bytes → Place → List ℕ → Type 0
+abbrev pub BeginsFrom : ScriptPlace → List ℕ → List Bytes → ScriptPlace → List ℕ → Type 0
 BeginsFrom from bytes commands to rest = (closed : Bool) (more : List ℕ) → cut closed from (bytes ++ more) ≡ commands ++ cut closed to (rest ++ more)
 
 -- the commands are the first of those that end among these bytes, or, at the source's end, of the whole script
-abbrev pub IsFront : List ℕ → List Bytes → Option (List ℕ) → Type 0
-IsFront taken commands left = ((rest : List Bytes) × (ended_commands taken ≡ commands ++ rest))
+abbrev pub AreFirstCommands : List ℕ → List Bytes → Option (List ℕ) → Type 0
+AreFirstCommands taken commands left = ((rest : List Bytes) × (ended_commands taken ≡ commands ++ rest))
     ⊎ (IsAtEnd left × ((rest : List Bytes) × (commands_of taken ≡ commands ++ rest)))
 
 -- which commands were answered
@@ -53,8 +53,8 @@ abbrev pub AreCommandsAnswered : Result (Unit {0}) Stop → List ℕ → List By
 AreCommandsAnswered (Ok done) taken commands left = (length taken ≤ limit) × IsAtEnd left × (commands ≡ commands_of taken)
 AreCommandsAnswered (Err ReadFault) taken commands left = (length taken ≤ limit) × (commands ≡ ended_commands taken)
 AreCommandsAnswered (Err TooLong) taken commands left = (length taken ≡ limit + 1) × (commands ≡ ended_commands (take limit taken))
-AreCommandsAnswered (Err WriteFault) taken commands left = (length taken ≤ limit) × IsFront taken commands left
-AreCommandsAnswered (Err NoMemory) taken commands left = (length taken ≤ limit) × IsFront taken commands left
+AreCommandsAnswered (Err WriteFault) taken commands left = (length taken ≤ limit) × AreFirstCommands taken commands left
+AreCommandsAnswered (Err NoMemory) taken commands left = (length taken ≤ limit) × AreFirstCommands taken commands left
 
 -- bytes were taken from the source, and commands of them were answered
 pub record Serves {C : Type 0} (gives : C → ℕ → C → Type 0) (paths : List Bytes) (result : Result (Unit {0}) Stop) (left left' : Option (List ℕ)) (old new : Scene C) : Type 0 where
@@ -62,4 +62,4 @@ pub record Serves {C : Type 0} (gives : C → ℕ → C → Type 0) (paths : Lis
   pub commands : List Bytes
   pub consumed : Consumes left left' taken
   pub are_answered : AreCommandsAnswered result taken commands left'
-  pub acts : Acts gives paths (is_whole result) commands old new
+  pub acts : Acts gives paths (is_printed_whole result) commands old new

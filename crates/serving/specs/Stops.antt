@@ -28,5 +28,5 @@ abbrev pub IsWantOfMemory : Reply → Type 0
 IsWantOfMemory reply = (lines : List Bytes) × (reply ≡ Refused lines r.NoMemory)
 
 -- one command was answered; where the program stops, that one or none
-abbrev pub IsPart : Bool → Bytes → List Bytes → Type 0
-IsPart whole command commands = MatchBool whole (commands ≡ command ∷ []) ((commands ≡ []) ⊎ (commands ≡ command ∷ []))
+abbrev pub IsCommandOrNone : Bool → Bytes → List Bytes → Type 0
+IsCommandOrNone whole command commands = MatchBool whole (commands ≡ command ∷ []) ((commands ≡ []) ⊎ (commands ≡ command ∷ []))

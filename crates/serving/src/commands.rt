@@ -2,7 +2,7 @@
 ghost use Rattle.std.specs.Prelude.{◌≡◌};
 ghost use Rattle.asm_world.specs.Command.{Said, Asked};
 ghost use Rattle.asm_world.specs.Language.{command_of};
-ghost use Rattle.asmcmd.specs.Verbs.{said as verb_said};
+ghost use Rattle.asmcmd.specs.Verbs.{meant_verb as verb_said};
 ghost use Rattle.asm_world.specs.Statement.{Alter};
 ghost use Rattle.group_sql.specs.Said.{statement_said, clause_said};
 ghost use Rattle.disk_commands.specs.session.Desks.{IsAnswered};

@@ -1,6 +1,6 @@
 // What the text of a command asks for, by the two languages.
 ghost use Rattle.std.specs.Prelude.{◌≡◌};
-ghost use Rattle.group_sql.specs.Answers.{asked};
+ghost use Rattle.group_sql.specs.Answers.{statement_or_front};
 ghost use Rattle.serving.specs.Reads.{IsRequestRead};
 
 use asmcmd::{ReadError, Verb, read_line};
@@ -18,7 +18,7 @@ pub enum Request {
 /// What a text asks for that is no statement, of which so many bytes begin one.
 #[tactic(auto, using(crate::proofs::Reading::asked_nothing))]
 fn other_request(alloc: Global, text: &[u8], at: u64) -> Result<Request, ReadError>
-    requires { asked text.now ≡ Err at }
+    requires { statement_or_front text.now ≡ Err at }
     ensures reads { IsRequestRead result text.now }
 {
     if opens_statement(text) {

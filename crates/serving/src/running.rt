@@ -2,7 +2,7 @@
 ghost use Rattle.std.specs.Prelude.{◌≡◌, ℕ, ◌<◌, ◌≤◌, false, [], length, map, vec_len, vec_capacity};
 ghost use Rattle.std.specs.String.{string_bytes};
 ghost use Rattle.asm_world.specs.Language.{command_of};
-ghost use Rattle.disk_commands.specs.session.Desks.{copies, paths_on};
+ghost use Rattle.disk_commands.specs.session.Desks.{is_copy_command, paths_on};
 ghost use Rattle.disk_commands.specs.session.Sessions.{AreReady};
 ghost use Rattle.serving.specs.Programs.{EachWorld, AnswersOne, RunsOne};
 ghost use Rattle.serving.specs.Stops.{StopsByOutput};
@@ -63,7 +63,7 @@ impl<B: Bay, H: Host, K: Sink, C: Clock> Program<B, H, K, C> {
         requires ready { AreReady self.old.desk.session.groups (B.state self.old.desk.bay) }
         ensures ready { AreReady self.new.desk.session.groups (B.state self.new.desk.bay) }
         ensures paths { paths_on self.new.desk ≡ paths_on self.old.desk }
-        ensures host { copies (command_of text.now) ≡ false → self.new.desk.host ≡ self.old.desk.host }
+        ensures host { is_copy_command (command_of text.now) ≡ false → self.new.desk.host ≡ self.old.desk.host }
         ensures answers { EachWorld self.old (AnswersOne result text.now self.old self.new) }
         ensures cause { StopsByOutput result (K.faults self.old.sink) (K.faults self.new.sink) }
     {
@@ -96,7 +96,7 @@ impl<B: Bay, H: Host, K: Sink, C: Clock> Program<B, H, K, C> {
         requires ready { AreReady self.old.desk.session.groups (B.state self.old.desk.bay) }
         ensures ready { AreReady self.new.desk.session.groups (B.state self.new.desk.bay) }
         ensures paths { paths_on self.new.desk ≡ paths_on self.old.desk }
-        ensures host { copies (command_of text.now) ≡ false → self.new.desk.host ≡ self.old.desk.host }
+        ensures host { is_copy_command (command_of text.now) ≡ false → self.new.desk.host ≡ self.old.desk.host }
         ensures runs { EachWorld self.old (RunsOne result text.now self.old self.new) }
         ensures cause { StopsByOutput result (K.faults self.old.sink) (K.faults self.new.sink) }
     {

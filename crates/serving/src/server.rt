@@ -4,7 +4,7 @@ ghost use Rattle.std.specs.Prelude.{◌≡◌, ℕ, ◌≤◌, false, List, [], 
 ghost use Rattle.std.specs.Io.KnownBytes.{Consumes};
 ghost use Rattle.bay.specs.Counts.{Rose};
 ghost use Rattle.script.specs.Script.{cut};
-ghost use Rattle.script.specs.Scanning.{place_of, Stands};
+ghost use Rattle.script.specs.Scanning.{place_of_state, IsCutterOf};
 ghost use Rattle.disk_commands.specs.session.Desks.{paths_on};
 ghost use Rattle.disk_commands.specs.session.Sessions.{AreReady};
 ghost use Rattle.serving.specs.Programs.{EachWorld, AnswersEnded, AnswersLast, ServesAll};
@@ -75,14 +75,14 @@ impl<B: Bay, H: Host, K: Sink, C: Clock> Program<B, H, K, C> {
 
     /// Answers the commands whose ends are among the pending bytes, and drops these and what is skipped behind them.
     fn answer_ended(&mut self, cutter: &mut Cutter, pending: &mut Vec<u8>) -> Result<(), Stop>
-        requires stands { Stands pending.old.items cutter.old }
+        requires stands { IsCutterOf pending.old.items cutter.old }
         requires ready { AreReady self.old.desk.session.groups (B.state self.old.desk.bay) }
         ensures ready { AreReady self.new.desk.session.groups (B.state self.new.desk.bay) }
         ensures paths { paths_on self.new.desk ≡ paths_on self.old.desk }
         ensures answers { EachWorld self.old (AnswersEnded result
-            (place_of cutter.old.from) (place_of cutter.new.from) pending.old.items pending.new.items self.old self.new) }
-        ensures stands { OnOk result (Stands pending.new.items cutter.new) }
-        ensures none { OnOk result (cut false (place_of cutter.new.from) pending.new.items ≡ []) }
+            (place_of_state cutter.old.from) (place_of_state cutter.new.from) pending.old.items pending.new.items self.old self.new) }
+        ensures stands { OnOk result (IsCutterOf pending.new.items cutter.new) }
+        ensures none { OnOk result (cut false (place_of_state cutter.new.from) pending.new.items ≡ []) }
         ensures cause { StopsByOutput result (K.faults self.old.sink) (K.faults self.new.sink) }
     {
         let mut done = 0;
@@ -100,12 +100,12 @@ impl<B: Bay, H: Host, K: Sink, C: Clock> Program<B, H, K, C> {
 
     /// Answers the commands that the end of the script ends.
     fn answer_last(&mut self, cutter: Cutter, pending: &[u8]) -> Result<(), Stop>
-        requires stands { Stands pending.now cutter }
+        requires stands { IsCutterOf pending.now cutter }
         requires ready { AreReady self.old.desk.session.groups (B.state self.old.desk.bay) }
         ensures ready { AreReady self.new.desk.session.groups (B.state self.new.desk.bay) }
         ensures paths { paths_on self.new.desk ≡ paths_on self.old.desk }
         ensures answers { EachWorld self.old (AnswersLast result
-            (place_of cutter.from) pending.now self.old self.new) }
+            (place_of_state cutter.from) pending.now self.old self.new) }
         ensures cause { StopsByOutput result (K.faults self.old.sink) (K.faults self.new.sink) }
     {
         let mut cutter = cutter;

@@ -20,7 +20,7 @@ use Rattle.group_contents.specs.group_engine.declared.attached.Attached.{Attache
 use Rattle.session.specs.declared.entry.Entry.{Entry}
 use Rattle.session.specs.Entries.{entry_view, group_view}
 use Rattle.session.specs.Joining.{JoinsIn, others_of, without_own}
-use Rattle.session.specs.Naming.{CarriesOn, IsMountedName, IsOutCause, group_among, with_group}
+use Rattle.session.specs.Naming.{CarriesOn, IsMountedName, IsOutCause, group_among, with_group_named}
 use Rattle.session.specs.Sessions.{AreReady, AreTwoApart, slots_in}
 use Rattle.session.proofs.Carrying.{carries_none, if_err, mounted_or, on_ok, seen}
 use Rattle.session.proofs.Entries.{sought}
@@ -110,7 +110,7 @@ takes_none held m s takes apart = record {
 
 -- Images were attached to the mounted group of a name, past the slots of the others: all groups take the next call.
 pub joined_ready : (es : List SessionEntry) (groups : List MountedGroup) (name : Bytes) (a b : MountedGroup) (all : List ℕ) {s t : BayState} → Covers groups all → group_among es groups name ≡ Some a → IsMounted a
-    → TakesIn (others_of a.disks all) a b s t → AreReady groups s → AreReady (with_group es groups name b) t
+    → TakesIn (others_of a.disks all) a b s t → AreReady groups s → AreReady (with_group_named es groups name b) t
 joined_ready es groups name a b all {s} {t} covers is mounted takes ready =
     let whole : IsWhole a = (ready.takes a (found_among es groups name a is) mounted).0 in
     let beside : (g : MountedGroup) → IsAmong groups g → AreTwoApart g a → IsMounted g → (slot : ℕ) → IsOwn g slot → IsHeldSlot (others_of a.disks all) slot =
@@ -138,7 +138,7 @@ module _ {B : Type 0} (state : B → BayState) (b b' : B) (name : Bytes) (v w : 
   causes = if_err (λ refusal. IsMounted v.group ⊎ IsOutCause (map entry_view es) name refusal) (λ refusal. IsMountedName (seen es place given time) name ⊎ IsOutCause (map entry_view es) name refusal) result
       (λ refusal why. ⊎_elim (λ on. inl (there on)) (λ out. inr out) why) err
 
-  groups_are : map group_view fs ≡ with_group (map entry_view es) (map group_view es) name w.group
+  groups_are : map group_view fs ≡ with_group_named (map entry_view es) (map group_view es) name w.group
   groups_are = ap (map group_view) is ∙ groups_set name w es
 
   carried : IsMounted v.group → CarriesOn (seen es place given time) (seen fs place given time) (state b) (state b')

@@ -14,7 +14,7 @@ use Rattle.group_contents.specs.file_directory.Files.{head_at}
 use Rattle.group_turns.specs.group_reports.Listing.{path_to}
 use Rattle.session.specs.FileLines.{IsNewLine, line_of_head, system_lines}
 use Rattle.session.specs.Listing.{IsInGroup}
-use Rattle.session.specs.Naming.{CarriesOn, IsGroupOf, group_among, key_of, with_group}
+use Rattle.session.specs.Naming.{CarriesOn, IsGroupOf, group_among, key_of, with_group_named}
 use Rattle.session.specs.Works.{DoesOn, Doing}
 use Rattle.session.specs.Sessions.{AreReady, SessionView}
 use Rattle.session.proofs.Keeping.{lets_go}
@@ -67,13 +67,13 @@ found_by true g b gs others es' name found m rest is first same = rw same refl
 found_by false g b gs others es' name found m rest is first same = rw same (rest is)
 
 -- it is found by the name
-pub found_after : (es es' : List SessionEntry) (gs : List MountedGroup) (name : Bytes) (m b : MountedGroup) → map key_of es' ≡ map key_of es → group_among es gs name ≡ Some m → group_among es' (with_group es gs name b) name ≡ Some b
+pub found_after : (es es' : List SessionEntry) (gs : List MountedGroup) (name : Bytes) (m b : MountedGroup) → map key_of es' ≡ map key_of es → group_among es gs name ≡ Some m → group_among es' (with_group_named es gs name b) name ≡ Some b
 found_after [] es' gs name m b keys is = absurd cc
 found_after (e ∷ es) es' [] name m b keys is = absurd cc
 found_after (e ∷ es) [] (g ∷ gs) name m b keys is = absurd cc
 found_after (e ∷ es) (e' ∷ es') (g ∷ gs) name m b keys is =
     let same = same_names e e' es es' keys in
-    found_by (is_same_name e.name name) g b gs (with_group es gs name b) es' name (group_among es gs name) m (found_after es es' gs name m b same.1) is e' (ap (λ (n : Bytes). is_same_name n name) same.0)
+    found_by (is_same_name e.name name) g b gs (with_group_named es gs name b) es' name (group_among es gs name) m (found_after es es' gs name m b same.1) is e' (ap (λ (n : Bytes). is_same_name n name) same.0)
 
 one_of : (m b : MountedGroup) (o : Option MountedGroup) → o ≡ Some m → o ≡ Some b → m ≡ b
 one_of m b o is other = cc

@@ -11,7 +11,7 @@ use Rattle.group_contents.specs.group_engine.declared.access.Access.TheVariants 
 use Rattle.session.specs.declared.entry.Entry.{Entry}
 use Rattle.session.specs.Entries.{entry_view, group_view}
 use Rattle.asm_base.specs.declared.refusal.Refusal.{Refusal}
-use Rattle.session.specs.Naming.{CarriesOn, with_group}
+use Rattle.session.specs.Naming.{CarriesOn, with_group_named}
 use Rattle.session.specs.Sessions.{AreReady, SessionView}
 use Rattle.session.proofs.Entries.{sought}
 use Rattle.session.proofs.Grouped.{Pairs, group_found, groups_set, keys_set}
@@ -34,7 +34,7 @@ mounted_or access.Closed = inr (λ is. absurd cc)
 -- A call on the group of one entry, which was mounted: `es` and `fs` are the map before and after.
 module _ (name : Bytes) (v w : Entry) (es fs : Pairs) (place : List Bytes) (given time : ℕ) {s t : BayState} (is : fs ≡ set_value (sought name) es w) (found : lookup (sought name) es ≡ Some v)
     (mounted : IsMounted v.group) (keeps : LetsGo v.group w.group s t) where
-  groups_are : map group_view fs ≡ with_group (map entry_view es) (map group_view es) name w.group
+  groups_are : map group_view fs ≡ with_group_named (map entry_view es) (map group_view es) name w.group
   groups_are = ap (map group_view) is ∙ groups_set name w es
 
   pub carried : w.id ≡ v.id → AreReady (map group_view es) s → CarriesOn (seen es place given time) (seen fs place given time) s t

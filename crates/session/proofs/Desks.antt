@@ -7,7 +7,7 @@ use Rattle.asm_group.specs.Names.{Bytes}
 use Rattle.asm_world.specs.Language.{command_of}
 use Rattle.session.specs.declared.answer.Answer.{Answer}
 use Rattle.session.specs.declared.desk.Desk.{Desk}
-use Rattle.session.specs.Desks.{paths_on, copies, IsAnswered}
+use Rattle.session.specs.Desks.{paths_on, is_copy_command, IsAnswered}
 use Rattle.session.specs.Effects.{IsServed, Past}
 use Rattle.session.specs.Families.{is_proved_on_disks}
 use Rattle.session.specs.Meaning.{meaning}
@@ -33,7 +33,7 @@ from-same {bay = bay} text answer old mid new paths stays session disks a = reco
 -- A command that is served, and of which nothing is proved but that its calls say nothing new of moments that have ended. Nothing is
 -- known of any group behind it.
 pub answered-only : {B H : Type 0} {bay : Bay.Ghosts B} {host : Host.Ghosts H} (text : Bytes) (answer : Answer) (old new : Desk B H bay host) → is_proved_on_disks (command_of text) ≡ false → paths_on new ≡ paths_on old
-    → (copies (command_of text) ≡ false → new.host ≡ old.host) → AreReady new.session.groups (bay.state new.bay)
+    → (is_copy_command (command_of text) ≡ false → new.host ≡ old.host) → AreReady new.session.groups (bay.state new.bay)
     → (bay.state old.bay).calls ≤ (bay.state new.bay).calls → Past (bay.state old.bay) (bay.state new.bay) → IsAnswered text answer old new
 answered-only text answer old new none paths stays ready calls past = record {
   paths = paths;
@@ -55,5 +55,5 @@ answered-still {bay = bay} text answer old new none paths stays same ready =
 
 -- a command after which all groups of the session stay and take the next call
 pub answered-carried : {B H : Type 0} {bay : Bay.Ghosts B} {host : Host.Ghosts H} (text : Bytes) (answer : Answer) (old new : Desk B H bay host) → is_proved_on_disks (command_of text) ≡ false → paths_on new ≡ paths_on old
-    → (copies (command_of text) ≡ false → new.host ≡ old.host) → CarriesOn old.session new.session (bay.state old.bay) (bay.state new.bay) → IsAnswered text answer old new
+    → (is_copy_command (command_of text) ≡ false → new.host ≡ old.host) → CarriesOn old.session new.session (bay.state old.bay) (bay.state new.bay) → IsAnswered text answer old new
 answered-carried text answer old new none paths stays carries = answered-only text answer old new none paths stays carries.ready carries.calls carries.past

@@ -14,7 +14,7 @@ use Rattle.session_claims.specs.Claims.{IsPaired}
 use Rattle.session.specs.declared.entry.Entry.{Entry}
 use Rattle.session.specs.declared.group_name.GroupName.{GroupName}
 use Rattle.session.specs.Entries.{entry_view, group_view, state_view}
-use Rattle.session.specs.Naming.{AreNamesApart, group_among, with_group}
+use Rattle.session.specs.Naming.{AreNamesApart, group_among, with_group_named}
 use Rattle.session.specs.Works.{with_state}
 use Rattle.session.proofs.Entries.{flip, same_key, sought}
 use Rattle.session.proofs.Grouped.{Pairs}
@@ -95,13 +95,13 @@ same_state (x ∷ es) name e state apart found has = same-by x es name e state (
 
 -- ---- groups
 
-unchanged-by : (x : SessionEntry) (y : MountedGroup) (es : List SessionEntry) (ms : List MountedGroup) (name : Bytes) (m : MountedGroup) (t : Bool) → is_same_name x.name name ≡ t → (group_among es ms name ≡ Some m → with_group es ms name m ≡ ms)
-    → cond t (Some y) (group_among es ms name) ≡ Some m → with_group (x ∷ es) (y ∷ ms) name m ≡ y ∷ ms
+unchanged-by : (x : SessionEntry) (y : MountedGroup) (es : List SessionEntry) (ms : List MountedGroup) (name : Bytes) (m : MountedGroup) (t : Bool) → is_same_name x.name name ≡ t → (group_among es ms name ≡ Some m → with_group_named es ms name m ≡ ms)
+    → cond t (Some y) (group_among es ms name) ≡ Some m → with_group_named (x ∷ es) (y ∷ ms) name m ≡ y ∷ ms
 unchanged-by x y es ms name m true is rest found = let same : m ≡ y = cc in rw is (ap (λ (b : MountedGroup). b ∷ ms) same)
 unchanged-by x y es ms name m false is rest found = rw is (ap (λ (l : List MountedGroup). y ∷ l) (rest found))
 
 -- the group that was there
-pub same_group : (es : List SessionEntry) (ms : List MountedGroup) (name : Bytes) (m : MountedGroup) → group_among es ms name ≡ Some m → with_group es ms name m ≡ ms
+pub same_group : (es : List SessionEntry) (ms : List MountedGroup) (name : Bytes) (m : MountedGroup) → group_among es ms name ≡ Some m → with_group_named es ms name m ≡ ms
 same_group [] ms name m found = absurd cc
 same_group (x ∷ es) [] name m found = absurd cc
 same_group (x ∷ es) (y ∷ ms) name m found = unchanged-by x y es ms name m (is_same_name x.name name) refl (same_group es ms name m) found
@@ -110,10 +110,10 @@ length-by : (b y : MountedGroup) (ms others : List MountedGroup) (t : Bool) → 
 length-by b y ms others true same = refl
 length-by b y ms others false same = omega (arith, same)
 
-pub with_length : (es : List SessionEntry) (ms : List MountedGroup) (name : Bytes) (b : MountedGroup) → length (with_group es ms name b) ≡ length ms
+pub with_length : (es : List SessionEntry) (ms : List MountedGroup) (name : Bytes) (b : MountedGroup) → length (with_group_named es ms name b) ≡ length ms
 with_length [] ms name b = refl
 with_length (x ∷ es) [] name b = refl
-with_length (x ∷ es) (y ∷ ms) name b = length-by b y ms (with_group es ms name b) (is_same_name x.name name) (with_length es ms name b)
+with_length (x ∷ es) (y ∷ ms) name b = length-by b y ms (with_group_named es ms name b) (is_same_name x.name name) (with_length es ms name b)
 
 -- ---- pairs
 
@@ -135,7 +135,7 @@ abbrev Kept : List SessionEntry → List MountedGroup → Bytes → MountedGroup
 Kept es ms name b e m = ((is_same_name e.name name ≡ true) × (m ≡ b)) ⊎ ((is_same_name e.name name ≡ false) × IsPaired es ms e m)
 
 with-by : (x : SessionEntry) (y : MountedGroup) (es : List SessionEntry) (ms : List MountedGroup) (name : Bytes) (b : MountedGroup) (e : SessionEntry) (m : MountedGroup) (t : Bool) → is_same_name x.name name ≡ t → AreNamesApart (x ∷ es)
-    → (IsPaired es (with_group es ms name b) e m → Kept es ms name b e m) → IsPaired (x ∷ es) (if t then b ∷ ms else y ∷ with_group es ms name b) e m → Kept (x ∷ es) (y ∷ ms) name b e m
+    → (IsPaired es (with_group_named es ms name b) e m → Kept es ms name b e m) → IsPaired (x ∷ es) (if t then b ∷ ms else y ∷ with_group_named es ms name b) e m → Kept (x ∷ es) (y ∷ ms) name b e m
 with-by x y es ms name b e m true is apart rest pair = ⊎_elim
     (λ here. inl (ap (λ (z : SessionEntry). is_same_name z.name name) here.0 ∙ is, here.1))
     (λ later. inr (other_than x.name e.name name is (apart.0 e (paired_among es ms e m later)), inr later))
@@ -146,14 +146,14 @@ with-by x y es ms name b e m false is apart rest pair = ⊎_elim
     pair
 
 -- where the group of a name was put
-pub paired_with : (es : List SessionEntry) (ms : List MountedGroup) (name : Bytes) (b : MountedGroup) (e : SessionEntry) (m : MountedGroup) → AreNamesApart es → IsPaired es (with_group es ms name b) e m → Kept es ms name b e m
+pub paired_with : (es : List SessionEntry) (ms : List MountedGroup) (name : Bytes) (b : MountedGroup) (e : SessionEntry) (m : MountedGroup) → AreNamesApart es → IsPaired es (with_group_named es ms name b) e m → Kept es ms name b e m
 paired_with [] ms name b e m apart pair = absurd pair
 paired_with (x ∷ es) [] name b e m apart pair = absurd pair
 paired_with (x ∷ es) (y ∷ ms) name b e m apart pair = with-by x y es ms name b e m (is_same_name x.name name) refl apart (paired_with es ms name b e m apart.1) pair
 
 torn-by : (disk : Bytes) (x : SessionEntry) (y : MountedGroup) (es : List SessionEntry) (ms : List MountedGroup) (name : Bytes) (b : MountedGroup) (e : SessionEntry) (m : MountedGroup) (t : Bool) → is_same_name x.name name ≡ t → AreNamesApart (x ∷ es)
-    → is_mounted e ≡ true → (IsPaired (with_state es name (DismountedBy disk)) (with_group es ms name b) e m → (is_same_name e.name name ≡ false) × IsPaired es ms e m)
-    → IsPaired ((if t then record x { state = DismountedBy disk } else x) ∷ with_state es name (DismountedBy disk)) (if t then b ∷ ms else y ∷ with_group es ms name b) e m → (is_same_name e.name name ≡ false) × IsPaired (x ∷ es) (y ∷ ms) e m
+    → is_mounted e ≡ true → (IsPaired (with_state es name (DismountedBy disk)) (with_group_named es ms name b) e m → (is_same_name e.name name ≡ false) × IsPaired es ms e m)
+    → IsPaired ((if t then record x { state = DismountedBy disk } else x) ∷ with_state es name (DismountedBy disk)) (if t then b ∷ ms else y ∷ with_group_named es ms name b) e m → (is_same_name e.name name ≡ false) × IsPaired (x ∷ es) (y ∷ ms) e m
 torn-by disk x y es ms name b e m true is apart on rest pair = ⊎_elim
     (λ here. absurd (false≢true (ap is_mounted (sym here.0) ∙ on)))
     (λ later.
@@ -168,7 +168,7 @@ torn-by disk x y es ms name b e m false is apart on rest pair = ⊎_elim
 
 -- where it was put, dismounted
 pub paired_torn : (disk : Bytes) (es : List SessionEntry) (ms : List MountedGroup) (name : Bytes) (b : MountedGroup) (e : SessionEntry) (m : MountedGroup) → AreNamesApart es → is_mounted e ≡ true
-    → IsPaired (with_state es name (DismountedBy disk)) (with_group es ms name b) e m → (is_same_name e.name name ≡ false) × IsPaired es ms e m
+    → IsPaired (with_state es name (DismountedBy disk)) (with_group_named es ms name b) e m → (is_same_name e.name name ≡ false) × IsPaired es ms e m
 paired_torn disk [] ms name b e m apart on pair = absurd pair
 paired_torn disk (x ∷ es) [] name b e m apart on pair = absurd pair
 paired_torn disk (x ∷ es) (y ∷ ms) name b e m apart on pair = torn-by disk x y es ms name b e m (is_same_name x.name name) refl apart on (paired_torn disk es ms name b e m apart.1 on) pair

@@ -18,7 +18,7 @@ use Rattle.group_contents.specs.group_engine.declared.access.Access.{Access}
 use Rattle.session.specs.declared.entry.Entry.{Entry}
 use Rattle.session.specs.declared.group_name.GroupName.{GroupName}
 use Rattle.session.specs.Entries.{AreAlike, by_disk, entry_view, group_view, state_view}
-use Rattle.session.specs.Naming.{IsOn, group_among, key_of, with_group}
+use Rattle.session.specs.Naming.{HasMountedEntry, group_among, key_of, with_group_named}
 use Rattle.session.specs.Sessions.{AreGiven, without_groups}
 use Rattle.session.proofs.Entries.{absent_by_name, added, all-cons, found_by_name, flip, same_key, sought}
 
@@ -74,7 +74,7 @@ pub none_found : (name : Bytes) (es : Pairs) → lookup (sought name) es ≡ Non
 none_found name es none = none-of (entry_among (map entry_view es) name) (sym (found_by_name name es) ∙ ap is_some none)
 
 -- of a group that takes calls it is mounted
-pub entry_on : (name : Bytes) (es : Pairs) (v : Entry) → lookup (sought name) es ≡ Some v → IsMounted v.group → IsOn (map entry_view es) name
+pub entry_on : (name : Bytes) (es : Pairs) (v : Entry) → lookup (sought name) es ≡ Some v → IsMounted v.group → HasMountedEntry (map entry_view es) name
 entry_on name es v found mounted =
     let at = entry_found name es v found in
     record { entry = at.entry; named = at.named; state = at.state ∙ ap (λ (a : Access). by_disk v.group (dismounted_by a)) mounted }
@@ -127,12 +127,12 @@ groups_left name es fs is gone =
 -- ---- one that is changed
 
 set-by : (name : Bytes) (w : Entry) (p : GroupName × Entry) (es : Pairs) (t : Bool) → sought name p.0 ≡ t
-    → map group_view (set_value (sought name) es w) ≡ with_group (map entry_view es) (map group_view es) name w.group
-    → map group_view (set_value (sought name) (p ∷ es) w) ≡ with_group (map entry_view (p ∷ es)) (map group_view (p ∷ es)) name w.group
+    → map group_view (set_value (sought name) es w) ≡ with_group_named (map entry_view es) (map group_view es) name w.group
+    → map group_view (set_value (sought name) (p ∷ es) w) ≡ with_group_named (map entry_view (p ∷ es)) (map group_view (p ∷ es)) name w.group
 set-by name w p es true is rest = rw (is, flip name p.0.name true is) refl
 set-by name w p es false is rest = rw (is, flip name p.0.name false is) (ap (λ (others : List MountedGroup). group_view p ∷ others) rest)
 
-pub groups_set : (name : Bytes) (w : Entry) (es : Pairs) → map group_view (set_value (sought name) es w) ≡ with_group (map entry_view es) (map group_view es) name w.group
+pub groups_set : (name : Bytes) (w : Entry) (es : Pairs) → map group_view (set_value (sought name) es w) ≡ with_group_named (map entry_view es) (map group_view es) name w.group
 groups_set name w [] = refl
 groups_set name w (p ∷ es) = set-by name w p es (sought name p.0) refl (groups_set name w es)
 

@@ -17,7 +17,7 @@ use Rattle.group_contents.specs.group_engine.Mounts.{IsMounted, IsOwn, IsReady, 
 use Rattle.group_contents.specs.group_engine.Members.{LetsGo}
 use Rattle.group_contents.specs.group_engine.declared.attached.Attached.{Attached}
 use Rattle.group_contents.proofs.group_engine.Elsewhere.{ready_with_own}
-use Rattle.session.specs.Naming.{IsGroupOf, group_among, with_group}
+use Rattle.session.specs.Naming.{IsGroupOf, group_among, with_group_named}
 use Rattle.session.specs.Sessions.{AreGroupsApart, AreReady, AreTwoApart, SessionView, held_by, held_of, slots_in, without_groups}
 
 -- ---- groups among others
@@ -160,8 +160,8 @@ found_among (e ∷ es) (g ∷ groups) name a is = found_by (is_same_name e.name 
 
 module _ (name : Bytes) (a b : MountedGroup) where
   among_with_by : (t : Bool) (g m : MountedGroup) (es : List SessionEntry) (groups : List MountedGroup) → AreGroupsApart (g ∷ groups)
-      → (group_among es groups name ≡ Some a → IsAmong (with_group es groups name b) m → (m ≡ b) ⊎ (IsAmong groups m × AreTwoApart a m))
-      → (if t then Some g else group_among es groups name) ≡ Some a → IsAmong (if t then b ∷ groups else g ∷ with_group es groups name b) m
+      → (group_among es groups name ≡ Some a → IsAmong (with_group_named es groups name b) m → (m ≡ b) ⊎ (IsAmong groups m × AreTwoApart a m))
+      → (if t then Some g else group_among es groups name) ≡ Some a → IsAmong (if t then b ∷ groups else g ∷ with_group_named es groups name b) m
       → (m ≡ b) ⊎ (IsAmong (g ∷ groups) m × AreTwoApart a m)
   among_with_by true g m es groups all rest is among =
       let same : g ≡ a = cc in
@@ -172,7 +172,7 @@ module _ (name : Bytes) (a b : MountedGroup) where
       among
 
   -- a group among those after the call is the new one, or one of the others, which is apart from the old one
-  pub among_with : (es : List SessionEntry) (groups : List MountedGroup) → AreGroupsApart groups → (m : MountedGroup) → group_among es groups name ≡ Some a → IsAmong (with_group es groups name b) m
+  pub among_with : (es : List SessionEntry) (groups : List MountedGroup) → AreGroupsApart groups → (m : MountedGroup) → group_among es groups name ≡ Some a → IsAmong (with_group_named es groups name b) m
       → (m ≡ b) ⊎ (IsAmong groups m × AreTwoApart a m)
   among_with [] groups all m is among = absurd cc
   among_with (e ∷ es) [] all m is among = absurd cc
@@ -183,8 +183,8 @@ module _ (name : Bytes) (a b : MountedGroup) where
   Renews groups = (g : MountedGroup) → IsAmong groups g → AreTwoApart g a → AreTwoApart g b
 
   apart_with_by : (t : Bool) (g : MountedGroup) (es : List SessionEntry) (groups : List MountedGroup) → Renews (g ∷ groups) → AreGroupsApart (g ∷ groups)
-      → (group_among es groups name ≡ Some a → AreGroupsApart (with_group es groups name b)) → (if t then Some g else group_among es groups name) ≡ Some a
-      → AreGroupsApart (if t then b ∷ groups else g ∷ with_group es groups name b)
+      → (group_among es groups name ≡ Some a → AreGroupsApart (with_group_named es groups name b)) → (if t then Some g else group_among es groups name) ≡ Some a
+      → AreGroupsApart (if t then b ∷ groups else g ∷ with_group_named es groups name b)
   apart_with_by true g es groups renews all rest is =
       let same : g ≡ a = cc in
       (λ m among. turned m b (renews m (inr among) (turned a m (subst (λ (x : MountedGroup). AreTwoApart x m) same (all.0 m among)))), all.1)
@@ -196,7 +196,7 @@ module _ (name : Bytes) (a b : MountedGroup) where
     rest is,
   )
 
-  pub apart_with : (es : List SessionEntry) (groups : List MountedGroup) → Renews groups → AreGroupsApart groups → group_among es groups name ≡ Some a → AreGroupsApart (with_group es groups name b)
+  pub apart_with : (es : List SessionEntry) (groups : List MountedGroup) → Renews groups → AreGroupsApart groups → group_among es groups name ≡ Some a → AreGroupsApart (with_group_named es groups name b)
   apart_with [] groups renews all is = absurd cc
   apart_with (e ∷ es) [] renews all is = absurd cc
   apart_with (e ∷ es) (g ∷ groups) renews all is =
@@ -204,7 +204,7 @@ module _ (name : Bytes) (a b : MountedGroup) where
 
 -- a call on the mounted group of a name, by which disks of it may leave, keeps all of them ready
 pub worked_ready : (es : List SessionEntry) (groups : List MountedGroup) (name : Bytes) (a b : MountedGroup) {s t : BayState} → group_among es groups name ≡ Some a → IsMounted a → LetsGo a b s t
-    → AreReady groups s → AreReady (with_group es groups name b) t
+    → AreReady groups s → AreReady (with_group_named es groups name b) t
 worked_ready es groups name a b {s} {t} is mounted goes ready = record {
   takes = λ m among. ⊎_elim
       (λ new. subst (λ (x : MountedGroup). Takes x t) (sym new) (λ on. (goes.whole on, goes.ready on)))
@@ -226,10 +226,10 @@ same_by : (t : Bool) (g a : MountedGroup) (groups others : List MountedGroup) (f
 same_by true g a groups others found rest is = let same : a ≡ g = cc in ap (λ (x : MountedGroup). x ∷ groups) same
 same_by false g a groups others found rest is = ap (λ (l : List MountedGroup). g ∷ l) (rest is)
 
-with_same : (es : List SessionEntry) (groups : List MountedGroup) (name : Bytes) (a : MountedGroup) → group_among es groups name ≡ Some a → with_group es groups name a ≡ groups
+with_same : (es : List SessionEntry) (groups : List MountedGroup) (name : Bytes) (a : MountedGroup) → group_among es groups name ≡ Some a → with_group_named es groups name a ≡ groups
 with_same [] groups name a is = absurd cc
 with_same (e ∷ es) [] name a is = absurd cc
-with_same (e ∷ es) (g ∷ groups) name a is = same_by (is_same_name e.name name) g a groups (with_group es groups name a) (group_among es groups name) (with_same es groups name a) is
+with_same (e ∷ es) (g ∷ groups) name a is = same_by (is_same_name e.name name) g a groups (with_group_named es groups name a) (group_among es groups name) (with_same es groups name a) is
 
 -- a call that leaves the group as it is, as one that reads
 pub read_ready : (session : SessionView) (name : Bytes) (m : MountedGroup) {s t : BayState} → AreReady session.groups s → IsGroupOf session name m → LetsGo m m s t → AreReady session.groups t

@@ -9,7 +9,7 @@ use Rattle.group_contents.specs.group_engine.Mounts.{IsMounted, MountedGroup}
 use Rattle.group_contents.specs.group_engine.Members.{LetsGo}
 use Rattle.session.specs.declared.entry.Entry.{Entry}
 use Rattle.session.specs.Entries.{entry_view, group_view}
-use Rattle.session.specs.Naming.{AreNamesApart, ChangesGroup, IsMountedName, IsGroupOf, IsOutCause, group_among, with_group}
+use Rattle.session.specs.Naming.{AreNamesApart, ChangesGroup, IsMountedName, IsGroupOf, IsOutCause, group_among, with_group_named}
 use Rattle.session.specs.Sessions.{AreReady}
 use Rattle.session.specs.Works.{DoesOn, DoesWork, Doing, IsSpelt, WorksOn}
 use Rattle.session.proofs.Carrying.{carried, carries_none, if_err, mounted_or, on_ok, seen}
@@ -60,7 +60,7 @@ module _ {B : Type 0} (state : B → BayState) (b b' : B) (name : Bytes) (v w : 
   same_entry : w.group ≡ v.group → w ≡ v
   same_entry group = λ i. record { id = id i; group = group i }
 
-  groups_are : map group_view fs ≡ with_group (map entry_view es) (map group_view es) name w.group
+  groups_are : map group_view fs ≡ with_group_named (map entry_view es) (map group_view es) name w.group
   groups_are = ap (map group_view) is ∙ groups_set name w es
 
   changes : IsMounted v.group → ChangesGroup name (seen es place given time) (seen fs place given time) (state b) (state b')

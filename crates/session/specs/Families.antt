@@ -73,9 +73,9 @@ of_verb (c.DbResize path size) = FileFamily
 of_verb (c.Ls long path) = ReportFamily
 of_verb (c.Cd path) = PlaceFamily
 of_verb c.Pwd = PlaceFamily
-of_verb (c.MakeDir path) = NameFamily
+of_verb (c.MakeDirectory path) = NameFamily
 of_verb (c.Remove path) = NameFamily
-of_verb (c.Copy source target) = FileFamily
+of_verb (c.CopyFile source target) = FileFamily
 of_verb (c.Usage path) = ReportFamily
 of_verb (c.Find path pattern) = ReportFamily
 of_verb (c.MakeAlias path alias) = NameFamily
@@ -104,13 +104,13 @@ proved_in ReportFamily c = reports.is_proved c
 proved_in NoFamily c = true
 
 abbrev made_in : Family → Command → ℕ → World → Type 0
-made_in GroupFamily c id w = groups.IsMade c id w
-made_in DiskFamily c id w = disks.IsMade c id w
-made_in FileFamily c id w = files.IsMade c id w
-made_in NameFamily c id w = names.IsMade c id w
-made_in SettingFamily c id w = settings.IsMade c id w
-made_in PlaceFamily c id w = places.IsMade c id w
-made_in ReportFamily c id w = reports.IsMade c id w
+made_in GroupFamily c id w = groups.IsMadeByGroupCommand c id w
+made_in DiskFamily c id w = disks.IsMadeByDiskCommand c id w
+made_in FileFamily c id w = files.IsMadeByFileCommand c id w
+made_in NameFamily c id w = names.IsMadeByNameCommand c id w
+made_in SettingFamily c id w = settings.IsMadeBySettingCommand c id w
+made_in PlaceFamily c id w = places.IsMadeByPlaceCommand c id w
+made_in ReportFamily c id w = reports.IsMadeByReportCommand c id w
 made_in NoFamily c id w = ⊥
 
 abbrev refused_in : Family → List Bytes → Command → r.Refusal → Counts → Counts → Type 0

@@ -19,8 +19,8 @@ abbrev pub is_proved : Command → Bool
 is_proved c = writes_bytes c
 
 -- none makes a group
-abbrev pub IsMade : Command → ℕ → World → Type 0
-IsMade c id w = ⊥
+abbrev pub IsMadeByFileCommand : Command → ℕ → World → Type 0
+IsMadeByFileCommand c id w = ⊥
 
 -- the slot of some disk failed
 abbrev pub SomeSlotFailed : Counts → Counts → Type 0

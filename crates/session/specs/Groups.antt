@@ -88,8 +88,8 @@ makes None id w = ⊥
 makes (Some v) id w = maps.get w.groups id ≡ Some (made_group v.0 ∷ [])
 
 -- an id that was given has the new group alone
-abbrev pub IsMade : Command → ℕ → World → Type 0
-IsMade c id w = makes (creation_asked c) id w
+abbrev pub IsMadeByGroupCommand : Command → ℕ → World → Type 0
+IsMadeByGroupCommand c id w = makes (creation_asked c) id w
 
 abbrev causes : List Bytes → Option (Bytes × Bytes) → r.Refusal → Counts → Counts → Type 0
 causes paths None cause s t = ⊤

@@ -12,8 +12,8 @@ is_proved (Asked (Remove path)) = false
 is_proved other = true
 
 -- none makes a group
-abbrev pub IsMade : Command → ℕ → World → Type 0
-IsMade c id w = ⊥
+abbrev pub IsMadeByNameCommand : Command → ℕ → World → Type 0
+IsMadeByNameCommand c id w = ⊥
 
 -- of none a cause is counted
 abbrev pub IsRefused : List Bytes → Command → r.Refusal → Counts → Counts → Type 0

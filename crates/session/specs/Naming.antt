@@ -35,12 +35,12 @@ group_among (entry ∷ entries) (m ∷ groups) name = if is_same_name entry.name
 group_among entries groups name = None
 
 -- the groups with another in the place of that of a name
-abbrev pub with_group : List SessionEntry → List MountedGroup → Bytes → MountedGroup → List MountedGroup
-with_group (entry ∷ entries) (m ∷ groups) name new = if is_same_name entry.name name then new ∷ groups else m ∷ with_group entries groups name new
-with_group entries groups name new = groups
+abbrev pub with_group_named : List SessionEntry → List MountedGroup → Bytes → MountedGroup → List MountedGroup
+with_group_named (entry ∷ entries) (m ∷ groups) name new = if is_same_name entry.name name then new ∷ groups else m ∷ with_group_named entries groups name new
+with_group_named entries groups name new = groups
 
 -- The session has an entry of the name, which is mounted.
-pub record IsOn (entries : List SessionEntry) (name : Bytes) : Type 0 where
+pub record HasMountedEntry (entries : List SessionEntry) (name : Bytes) : Type 0 where
   pub entry : SessionEntry
   pub named : entry_among entries name ≡ Some entry
   pub state : entry.state ≡ Mounted
@@ -49,7 +49,7 @@ pub record IsOn (entries : List SessionEntry) (name : Bytes) : Type 0 where
 pub record IsGroupOf (session : SessionView) (name : Bytes) (m : MountedGroup) : Type 0 where
   pub named : group_among session.entries session.groups name ≡ Some m
   pub mounted : IsMounted m
-  pub on : IsOn session.entries name
+  pub on : HasMountedEntry session.entries name
   -- each entry has its group
   pub paired : length session.groups ≡ length session.entries
 
@@ -63,7 +63,7 @@ pub record ChangesGroup (name : Bytes) (old new : SessionView) (s t : BayState) 
   pub after : MountedGroup
   pub is : IsGroupOf old name before
   pub keeps : LetsGo before after s t
-  pub groups : new.groups ≡ with_group old.entries old.groups name after
+  pub groups : new.groups ≡ with_group_named old.entries old.groups name after
 
 -- a mounted group has the name
 abbrev pub IsMountedName : SessionView → Bytes → Type 0

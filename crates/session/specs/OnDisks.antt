@@ -21,14 +21,14 @@ pub data DiskWork : Type 0 where
   -- the headers of an id are closed, on its attached disks, which are in these slots
   CloseHeaders : (id : ℕ) (slots : List ℕ) → DiskWork
 
-abbrev pub closing : Option SessionEntry → (ℕ → GroupBelow) → DiskWork
-closing None below = NoWork
-closing (Some entry) below = CloseHeaders entry.id (below entry.id).attached
+abbrev pub closing_work : Option SessionEntry → (ℕ → GroupBelow) → DiskWork
+closing_work None below = NoWork
+closing_work (Some entry) below = CloseHeaders entry.id (below entry.id).attached
 
 -- what a command has to do
 abbrev pub work_of : Command → World → (ℕ → GroupBelow) → DiskWork
 work_of (Said (CreateDisk path size)) w below = MakeDisk path size
-work_of (Said (DropGroup name contents)) w below = closing (entry_in w name) below
+work_of (Said (DropGroup name contents)) w below = closing_work (entry_in w name) below
 work_of other w below = NoWork
 
 -- the disk of the slot is n zeros

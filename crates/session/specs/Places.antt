@@ -21,8 +21,8 @@ shows_group (Asked (Cd path)) = not (is_top path)
 shows_group other = false
 
 -- none makes a group
-abbrev pub IsMade : Command → ℕ → World → Type 0
-IsMade c id w = ⊥
+abbrev pub IsMadeByPlaceCommand : Command → ℕ → World → Type 0
+IsMadeByPlaceCommand c id w = ⊥
 
 -- no device is asked, so nothing is counted
 abbrev pub IsRefused : List Bytes → Command → r.Refusal → Counts → Counts → Type 0

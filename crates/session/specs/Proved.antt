@@ -8,7 +8,7 @@ use Rattle.asm_group.specs.Refusal as r
 use Rattle.asm_formats.specs.Among.{IsAmong}
 use Rattle.asm_world.specs.Command.{Command}
 use Rattle.asm_world.specs.Reply.{Reply, Refused}
-use Rattle.asm_world.specs.Run.{State, Move, Starts, Expires, Answers, Slices, Rests, Stops}
+use Rattle.asm_world.specs.Run.{State, SessionMove, Starts, Expires, Answers, Slices, Rests, Stops}
 use Rattle.asm_world.specs.World.{SessionEntry, World, groups_of, has_mounted, is_mounted}
 use Rattle.session_claims.specs.group_disks.Found.{Counts}
 use Rattle.session.specs.Families.{changes_group, is_proved, is_proved_on_disks, may_stop_torn, shows_group}
@@ -30,7 +30,7 @@ is_proved_as c reply = if may_stop_torn c && is_short reply then false else is_p
 abbrev pub is_proved_on_disks_as : Command → Reply → Bool
 is_proved_on_disks_as c reply = if may_stop_torn c && is_short reply then false else is_proved_on_disks c
 
-abbrev moves_by : (Command → Reply → Bool) → Move → Bool
+abbrev moves_by : (Command → Reply → Bool) → SessionMove → Bool
 moves_by proved (Answers found text reply) = proved (meaning text) reply
 moves_by proved (Starts time) = true
 moves_by proved (Expires event) = false
@@ -38,17 +38,17 @@ moves_by proved (Slices event) = false
 moves_by proved Rests = true
 moves_by proved Stops = false
 
-abbrev pub is_proved_move : Move → Bool
+abbrev pub is_proved_move : SessionMove → Bool
 is_proved_move move = moves_by is_proved_as move
 
 -- the same where the disks stand for the world
-abbrev pub is_proved_move_on_disks : Move → Bool
+abbrev pub is_proved_move_on_disks : SessionMove → Bool
 is_proved_move_on_disks move = moves_by is_proved_on_disks_as move
 
-abbrev pub IsProved : Move → Type 0
+abbrev pub IsProved : SessionMove → Type 0
 IsProved move = is_proved_move move ≡ true
 
-abbrev pub IsProvedOnDisks : Move → Type 0
+abbrev pub IsProvedOnDisks : SessionMove → Type 0
 IsProvedOnDisks move = is_proved_move_on_disks move ≡ true
 
 -- Each mounted group is alone under its id, and has the entry's name. This is so in each run, but where ids run out: then a creation may
@@ -61,7 +61,7 @@ pub record HasOwnGroups (w : World) : Type 0 where
 abbrev pub IsMet : Command → World → Type 0
 IsMet c w = (changes_group c ≡ true) ⊎ (shows_group c ≡ true) → HasOwnGroups w
 
-abbrev pub IsMetIn : World → Move → Type 0
+abbrev pub IsMetIn : World → SessionMove → Type 0
 IsMetIn w (Answers found text reply) = IsMet (meaning text) w
 IsMetIn w (Starts time) = ⊤
 IsMetIn w (Expires event) = ⊤
@@ -77,7 +77,7 @@ IsAloneByName w name = (id : ℕ) (g : Group) → has_mounted w id ≡ false →
 abbrev pub IsOneFor : Command → World → Type 0
 IsOneFor c w = mounts c ≡ true → IsAloneByName w (name_mounted c)
 
-abbrev pub IsOneForIn : World → Move → Type 0
+abbrev pub IsOneForIn : World → SessionMove → Type 0
 IsOneForIn w (Answers found text reply) = IsOneFor (meaning text) w
 IsOneForIn w (Starts time) = ⊤
 IsOneForIn w (Expires event) = ⊤
@@ -86,5 +86,5 @@ IsOneForIn w Rests = ⊤
 IsOneForIn w Stops = ⊤
 
 -- a move that is proved, in a state that meets its premise
-abbrev pub IsProvedIn : State Counts → Move → Type 0
+abbrev pub IsProvedIn : State Counts → SessionMove → Type 0
 IsProvedIn s move = IsProved move × IsMetIn s.world move

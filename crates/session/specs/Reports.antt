@@ -15,8 +15,8 @@ abbrev pub shows_group : Command → Bool
 shows_group c = true
 
 -- none makes a group
-abbrev pub IsMade : Command → ℕ → World → Type 0
-IsMade c id w = ⊥
+abbrev pub IsMadeByReportCommand : Command → ℕ → World → Type 0
+IsMadeByReportCommand c id w = ⊥
 
 -- of none a cause is counted
 abbrev pub IsRefused : List Bytes → Command → r.Refusal → Counts → Counts → Type 0

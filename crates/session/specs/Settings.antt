@@ -11,8 +11,8 @@ abbrev pub is_proved : Command → Bool
 is_proved c = true
 
 -- none makes a group
-abbrev pub IsMade : Command → ℕ → World → Type 0
-IsMade c id w = ⊥
+abbrev pub IsMadeBySettingCommand : Command → ℕ → World → Type 0
+IsMadeBySettingCommand c id w = ⊥
 
 -- of none a cause is counted
 abbrev pub IsRefused : List Bytes → Command → r.Refusal → Counts → Counts → Type 0

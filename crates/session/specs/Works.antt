@@ -8,7 +8,7 @@ use Rattle.asm_group.specs.Refusal as r
 use Rattle.asm_world.specs.World.{SessionEntry, SessionState, entry_among}
 use Rattle.group_contents.specs.group_engine.Mounts.{MountedGroup}
 use Rattle.session.specs.Entries.{disk_name, state_view}
-use Rattle.session.specs.Naming.{AreNamesApart, CarriesOn, ChangesGroup, IsMountedName, IsGroupOf, IsOutCause, with_group}
+use Rattle.session.specs.Naming.{AreNamesApart, CarriesOn, ChangesGroup, IsMountedName, IsGroupOf, IsOutCause, with_group_named}
 use Rattle.session.specs.Sessions.{SessionView}
 
 -- the refusal as a command has it, with the disk spelt, or want of memory
@@ -40,7 +40,7 @@ pub record DoesWork {T : Type 0} (name : Bytes) (Does : Doing T) (result : Resul
   pub answer : Result T Refusal
   pub spelt : IsSpelt after answer result
   pub does : Does before answer after s t
-  pub groups : new.groups ≡ with_group old.entries old.groups name after
+  pub groups : new.groups ≡ with_group_named old.entries old.groups name after
   pub entries : new.entries ≡ with_state old.entries name (state_view after)
 
 -- a piece of work changed the mounted group of the name, and did this where it gave that

@@ -7,7 +7,7 @@ ghost use Rattle.asm_world.specs.World.{World, entry_among, mounted_entry, witho
 ghost use Rattle.group_contents.specs.group_engine.Mounts.{IsMounted};
 ghost use Rattle.session.specs.Entries.{AreAlike, entry_view, group_view};
 ghost use Rattle.session.specs.Naming.{AreNamesApart};
-ghost use Rattle.session.specs.Sessions.{AreGiven, given_after, entries_of, groups_of, without_groups};
+ghost use Rattle.session.specs.Sessions.{AreGiven, given_after, entries_of, new_group_if_any, without_groups};
 
 use crate::entry::Entry;
 use crate::group_name::{GroupName, SoughtName};
@@ -183,7 +183,7 @@ impl Session {
         ensures given { self.new.given ≡ given_after self.old.given made }
         ensures place { self.new.place ≡ self.old.place }
         ensures entered { OnOk result (self.new.entries ≡ self.old.entries ++ entries_of name made) }
-        ensures groups { OnOk result (self.new.groups ≡ self.old.groups ++ groups_of made group) }
+        ensures groups { OnOk result (self.new.groups ≡ self.old.groups ++ new_group_if_any made group) }
         ensures refused { OnErr result ((self.new.entries ≡ self.old.entries) × (self.new.groups ≡ self.old.groups)) }
     {
         self.gave(made);

@@ -1,6 +1,6 @@
 // Refusals in which each disk is spelt.
 ghost use Rattle.std.specs.Prelude.{◌≡◌, ◌⊎◌, [], IfOk};
-ghost use Rattle.asm_base.specs.Refusals.{disk_name as name_of, said};
+ghost use Rattle.asm_base.specs.Refusals.{referred_disk_name as name_of, said};
 ghost use Rattle.asm_group.specs.Refusal.{NoMemory as WantOfMemory};
 ghost use Rattle.session.specs.Entries.{disk_name};
 

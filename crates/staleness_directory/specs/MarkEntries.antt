@@ -3,9 +3,9 @@ use Rattle.std.proofs.Common.{refl, inl, inr}
 use Rattle.asm_formats.specs.Items.{Item, file_item, chunk_item, disk_item, rebalance_item, pending_item, templates_item, node_item, settings_item, marks_item}
 use Rattle.asm_base.proofs.ItemTables.{AreEntries, IsEntry}
 use Rattle.item_table.proofs.Entries.{IsKnown, entries_by, entry_by}
-use Rattle.staleness_directory.specs.Marks.{is_marks, item_of, marked}
+use Rattle.staleness_directory.specs.Marks.{is_marks, item_of_marks, marks_of_item}
 
-each_item : (i : Item) → IsKnown is_marks item_of marked i
+each_item : (i : Item) → IsKnown is_marks item_of_marks marks_of_item i
 each_item (file_item f h) = inr (refl, refl)
 each_item (chunk_item f c homes) = inr (refl, refl)
 each_item (disk_item d info) = inr (refl, refl)
@@ -16,8 +16,8 @@ each_item (node_item n node) = inr (refl, refl)
 each_item (settings_item s) = inr (refl, refl)
 each_item (marks_item f c marks) = inl (((f, c), marks), refl)
 
-pub is_entry : IsEntry item_of marked
-is_entry = entry_by is_marks item_of marked each_item (λ x. refl)
+pub is_marks_entry : IsEntry item_of_marks marks_of_item
+is_marks_entry = entry_by is_marks item_of_marks marks_of_item each_item (λ x. refl)
 
-pub are_entries : AreEntries is_marks item_of
-are_entries = entries_by is_marks item_of marked each_item
+pub are_marks_entries : AreEntries is_marks item_of_marks
+are_marks_entries = entries_by is_marks item_of_marks marks_of_item each_item

@@ -2,9 +2,9 @@
 use Rattle.std.specs.Prelude.{ℕ, ◌+◌, ◌^◌, Bool, ◌==◌, ◌&&◌, List, length, take, drop, ◌++◌, replicate, nat_lt, Option, Some, None, if◌then◌else◌}
 use Rattle.std.specs.List.{list_all}
 use Rattle.asm_formats.specs.Items.{Item, marks_item, Key, marks_kind}
-use Rattle.asm_base.specs.Records.{Entry}
+use Rattle.asm_base.specs.Records.{DirectoryRecord}
 use Rattle.asm_base.specs.Chunks.{Chunk, chunk_cmp}
-use Rattle.item_table.specs.Tables.{IsTable as IsKeyTable, add as key_add, at_key, from_key, record_of as key_record, with_key, without_key}
+use Rattle.item_table.specs.Tables.{IsTable as IsKeyTable, add_record as key_add, at_key, from_key, record_of as key_record, with_key, without_key}
 
 -- a chunk's marks: of each extent a byte, bit k for copy k
 abbrev pub Marked : Type 0
@@ -28,30 +28,30 @@ marks_from table chunk = from_key chunk_cmp table chunk
 abbrev pub marks_to : ℕ → List ℕ → List ℕ
 marks_to kept marks = take kept marks ++ drop kept (replicate 256 0)
 
-abbrev pub chunk_key : ℕ → ℕ → Key
-chunk_key f c = record { kind = marks_kind; a = f; b = c }
+abbrev pub marks_chunk_key : ℕ → ℕ → Key
+marks_chunk_key f c = record { kind = marks_kind; a = f; b = c }
 
 -- the item of a chunk's marks, and its record
-abbrev pub item_of : Marked → Item
-item_of x = marks_item x.0.0 x.0.1 x.1
+abbrev pub item_of_marks : Marked → Item
+item_of_marks x = marks_item x.0.0 x.0.1 x.1
 
-abbrev pub record_of : Marked → Entry
-record_of x = key_record item_of x
+abbrev pub record_of_marks : Marked → DirectoryRecord
+record_of_marks x = key_record item_of_marks x
 
 abbrev pub is_marks : Key → Bool
 is_marks key = key.kind == marks_kind
 
 -- the entry that an item is
-abbrev pub marked : Item → Option Marked
-marked (marks_item f c marks) = Some ((f, c), marks)
-marked _ = None
+abbrev pub marks_of_item : Item → Option Marked
+marks_of_item (marks_item f c marks) = Some ((f, c), marks)
+marks_of_item _ = None
 
 -- a table: chunks in order, each of the formats
-abbrev pub IsTable : List Marked → Type 0
-IsTable table = IsKeyTable chunk_cmp item_of table
+abbrev pub IsMarkTable : List Marked → Type 0
+IsMarkTable table = IsKeyTable chunk_cmp item_of_marks table
 
-abbrev pub add : List Marked → Entry → Option (List Marked)
-add table e = key_add chunk_cmp marked table e
+abbrev pub add_marks_record : List Marked → DirectoryRecord → Option (List Marked)
+add_marks_record table e = key_add chunk_cmp marks_of_item table e
 
 -- ---- the reading of a record's value
 

@@ -2,7 +2,7 @@
 
 ghost use Rattle.asm_base.proofs.Chunks.{same_chunk};
 ghost use Rattle.staleness_directory.specs.Marks as marks;
-ghost use Rattle.staleness_directory.specs.MarkEntries.{are_entries, is_entry};
+ghost use Rattle.staleness_directory.specs.MarkEntries.{are_marks_entries, is_marks_entry};
 
 use crate::marks::Marks;
 use crate::reading::marks_in;
@@ -15,9 +15,9 @@ use std::alloc::Global;
 pub type StaleTable = KeyTable<(u32, u32), Marks>;
 
 impl Listed<(u32, u32)> for Marks {
-    ghost item_of = { marks.item_of };
+    ghost item_of = { marks.item_of_marks };
 
-    ghost entry_of = { marks.marked };
+    ghost entry_of = { marks.marks_of_item };
 
     ghost is_mine = { marks.is_marks };
 
@@ -39,9 +39,9 @@ impl Listed<(u32, u32)> for Marks {
         Ok(*self)
     }
 
-    ghost is_entry = { is_entry };
+    ghost is_entry = { is_marks_entry };
 
-    ghost are_entries = { are_entries };
+    ghost are_entries = { are_marks_entries };
 
     ghost exact = { same_chunk };
 }

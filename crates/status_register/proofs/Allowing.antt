@@ -12,22 +12,22 @@ use Rattle.asm_images.specs.Members.{of_group}
 use Rattle.asm_images.specs.Register.{greatest}
 use Rattle.asm_images.proofs.History.{greatest_is}
 use Rattle.status_register.specs.Answers.{Surveyed, Judges}
-use Rattle.status_register.specs.Sayings.{IsAllowed, IsOwnRecord, ShowsAllowed, listed}
+use Rattle.status_register.specs.Sayings.{IsAllowedStatus, IsOwnRecord, ShowsAllowed, none_or_one}
 use Rattle.status_register.specs.Surveys.{AreRead, greater_of}
 use Rattle.status_register.specs.declared.error.SurveyError.{SurveyError}
 use Rattle.status_register.specs.declared.member.Member.{Member}
 use Rattle.status_register.specs.declared.tally.Tally.{Tally}
 
-allowed_by : (o : Option Status) → ((r : Status) → o ≡ Some r → IsTrue (is_status r)) → IsAllowed o
+allowed_by : (o : Option Status) → ((r : Status) → o ≡ Some r → IsTrue (is_status r)) → IsAllowedStatus o
 allowed_by None each = tt
 allowed_by (Some r) each = each r refl
 
-either : (a b : Option Status) → IsAllowed a → IsAllowed b → IsAllowed (option_or a b)
+either : (a b : Option Status) → IsAllowedStatus a → IsAllowedStatus b → IsAllowedStatus (option_or a b)
 either None b one two = two
 either (Some r) b one two = one
 
 -- a block that is decoded
-pub decoded_allowed : (bytes : Bytes) → IsAllowed (decoded_status bytes)
+pub decoded_allowed : (bytes : Bytes) → IsAllowedStatus (decoded_status bytes)
 unfolding decoded_status
 decoded_allowed bytes = either (spelled_by is_status status_spelling bytes (status_at bytes)) (spelled_by is_status_1 status_spelling_1 bytes (status_at_1 bytes))
     (allowed_by (spelled_by is_status status_spelling bytes (status_at bytes)) (λ r is. (spelled is_status status_spelling bytes (status_at bytes) r is).allowed))
@@ -35,7 +35,7 @@ decoded_allowed bytes = either (spelled_by is_status status_spelling bytes (stat
 
 -- ---- the greatest record of both slots
 
-own_allowed : (id : ℕ) (o : Option (Option Status)) → ShowsAllowed o → (r : Status) → IsAmong (of_group id (listed o)) r → IsTrue (is_status r) × (r.id ≡ id)
+own_allowed : (id : ℕ) (o : Option (Option Status)) → ShowsAllowed o → (r : Status) → IsAmong (of_group id (none_or_one o)) r → IsTrue (is_status r) × (r.id ≡ id)
 own_allowed id None shows r h = absurd h
 own_allowed id (Some None) shows r h = absurd h
 own_allowed id (Some (Some k)) shows r h = cond_both (k.id == id) (k ∷ []) [] (λ (l : List Status). IsAmong l r → IsTrue (is_status r) × (r.id ≡ id))
@@ -59,12 +59,12 @@ own_by id None each = tt
 own_by id (Some r) each = each r refl
 
 pub greatest_own : (id : ℕ) (first second : Option (Option Status)) → ShowsAllowed first → ShowsAllowed second
-    → IsOwnRecord id (greatest (of_group id (listed first ++ listed second)))
-greatest_own id first second one two = own_by id (greatest (of_group id (listed first ++ listed second)))
+    → IsOwnRecord id (greatest (of_group id (none_or_one first ++ none_or_one second)))
+greatest_own id first second one two = own_by id (greatest (of_group id (none_or_one first ++ none_or_one second)))
     (λ r is. ⊎_elim (own_allowed id first one r) (own_allowed id second two r)
-    (among_split (of_group id (listed first)) (of_group id (listed second)) r
-    (subst (λ (l : List Status). IsAmong l r) (both_groups id (listed first) (listed second))
-    (greatest_is (of_group id (listed first ++ listed second)) r is).among)))
+    (among_split (of_group id (none_or_one first)) (of_group id (none_or_one second)) r
+    (subst (λ (l : List Status). IsAmong l r) (both_groups id (none_or_one first) (none_or_one second))
+    (greatest_is (of_group id (none_or_one first ++ none_or_one second)) r is).among)))
 
 -- ---- a member more
 

@@ -9,7 +9,7 @@ use Rattle.asm_formats.specs.Status.{Status, status_spelling}
 use Rattle.asm_formats.specs.Following.{sets}
 use Rattle.status_register.specs.Rows.{HasBody, HasStatus, HaveBody, HaveStatus}
 use Rattle.status_register.specs.Surveys.{AreRead, missing}
-use Rattle.status_register.specs.Writes.{is_one_of, IsFailed, IsLost, IsDeadOf, IsWriteAnswer, ShowBut}
+use Rattle.status_register.specs.Writes.{is_one_of, IsFailed, IsLostMember, IsDeadOf, IsWriteAnswer, ShowBut}
 use Rattle.status_register.specs.declared.member.Member.{Member}
 use Rattle.status_register.proofs.Losing.{twin_of, left_out_failed, none_in, found_in, shown_but}
 use Rattle.status_register.proofs.Tallying.{RoseAt}
@@ -20,9 +20,9 @@ module _ (s t : BayState) (r : Status) (ms took shown : List Member) (body : Lis
   they_show : Ends (HaveStatus (status_spelling r) took) s t
   they_show = subst (λ (b : List ℕ). Ends (HaveStatus b took) s t) spelt done
 
-  pub write_lost : (disk : Member) → IsLost ms shown (sets r) disk → IsWriteAnswer ms r (Err (record { slot = disk.slot })) s t
+  pub write_lost : (disk : Member) → IsLostMember ms shown (sets r) disk → IsWriteAnswer ms r (Err (record { slot = disk.slot })) s t
   write_lost disk lost =
-      let here = subst (λ (l : List Member). IsLost ms l (sets r) disk) same lost in
+      let here = subst (λ (l : List Member). IsLostMember ms l (sets r) disk) same lost in
       (took, are, they_show, (disk, here, refl, left_out_failed (RoseAt s t) ms took are disk here.lost.attached here.lost.not_taken))
 
   pub write_taken : (failed : ℕ) (again : List Member) → again ≡ took → missing shown (Some r) ≡ None → IsFailed ms again failed → IsWriteAnswer ms r (Ok failed) s t

@@ -5,7 +5,7 @@ use Rattle.bay.specs.State.{BayState}
 use Rattle.asm_formats.specs.Status.{Status}
 use Rattle.asm_images.specs.Register.{greatest}
 use Rattle.bay.specs.Told.{Told}
-use Rattle.status_register.specs.Surveys.{AreRead, Says, records_on, first_damage, missing}
+use Rattle.status_register.specs.Surveys.{AreRead, DisksSay, records_on, first_damage, missing}
 use Rattle.status_register.specs.Answers.{Surveyed, IsAnswer, IsSurveyed, Judges}
 use Rattle.status_register.specs.declared.member.Member.{Member}
 use Rattle.status_register.specs.declared.tally.Tally.{Tally}
@@ -18,7 +18,7 @@ use Rattle.status_register.specs.Registered.{Registered, registered, claim_of, I
 use Rattle.status_register.proofs.Tallying.{RoseAt}
 
 pub answered : (s t : BayState) (id : ℕ) (ms : List Member) (tally : Tally) (answer : Result Surveyed SurveyError) → AreRead (RoseAt s t) ms tally.read
-    → Told s t (Says id tally.read tally.epoch tally.status tally.damage) → Judges id ms tally answer → IsSurveyed id ms answer s t
+    → Told s t (DisksSay id tally.read tally.epoch tally.status tally.damage) → Judges id ms tally answer → IsSurveyed id ms answer s t
 answered s t id ms tally answer are told judged = (
   tally.read,
   are,

@@ -15,14 +15,14 @@ use Rattle.asm_images.specs.Register.{current_records, IsOlder, HoldsOne, is_eno
 use Rattle.asm_images.specs.Steps.{IsLast}
 use Rattle.asm_images.proofs.History.{surveyed_counts}
 use Rattle.asm_images.proofs.Sharing.{current_share, shares_itself}
-use Rattle.status_register.specs.History.{FitsIn}
+use Rattle.status_register.specs.History.{FitsHistory}
 use Rattle.status_register.specs.Rows.{HasStatus}
 use Rattle.status_register.specs.SurveyLaws.{IsMemberOn}
 use Rattle.status_register.specs.Surveys.{disk_in, missing}
 use Rattle.status_register.specs.declared.member.Member.{Member}
 use Rattle.status_register.proofs.Seeing.{meets, shows_record}
 
-module _ (slots id : ℕ) (completed : Option Status) (begun : List Status) (image : bay.Image) (fits : FitsIn slots id completed begun image) (r : Status) (last : IsLast completed begun r)
+module _ (slots id : ℕ) (completed : Option Status) (begun : List Status) (image : bay.Image) (fits : FitsHistory slots id completed begun image) (r : Status) (last : IsLast completed begun r)
     (took : List Member) (are : (m : Member) → IsAmong took m → IsMemberOn slots id image m) (there : (m : Member) → IsAmong took m → IsAmong (of_group id (disk_in image m.slot).statuses) r)
     (enough : missing took (Some r) ≡ None) where
   abbrev all : List a.Member
@@ -45,7 +45,7 @@ module _ (slots id : ℕ) (completed : Option Status) (begun : List Status) (ima
       below (Some v) is older = ⊎_elim (λ (one : v ≡ r). omega (arith, ap rank one, older)) (λ (lt : rank v < rank r). omega (arith, lt, older))
           (last.greatest v (subst (λ (o : Option Status). IsAmong (current_records o begun) v) (sym is) (inl refl)))
 
-  pub completes : FitsIn slots id (Some r) [] image
+  pub completes : FitsHistory slots id (Some r) [] image
   completes = record {
     distinct = fits.distinct;
     greater = λ v s is h. absurd h;
@@ -58,8 +58,8 @@ module _ (slots id : ℕ) (completed : Option Status) (begun : List Status) (ima
     claimed = λ P x s h k also. absurd h;
   }
 
-pub stored_record_completes : (slots id : ℕ) (completed : Option Status) (begun : List Status) (image : bay.Image) (took : List Member) (r : Status) → FitsIn slots id completed begun image → IsLast completed begun r
+pub stored_record_completes : (slots id : ℕ) (completed : Option Status) (begun : List Status) (image : bay.Image) (took : List Member) (r : Status) → FitsHistory slots id completed begun image → IsLast completed begun r
     → IsTrue (is_status r) → r.id ≡ id → ((m : Member) → IsAmong took m → IsMemberOn slots id image m)
-    → ((m : Member) → IsAmong took m → HasStatus (status_spelling r) m.slot image) → missing took (Some r) ≡ None → FitsIn slots id (Some r) [] image
+    → ((m : Member) → IsAmong took m → HasStatus (status_spelling r) m.slot image) → missing took (Some r) ≡ None → FitsHistory slots id (Some r) [] image
 stored_record_completes slots id completed begun image took r fits last allowed group are show enough =
     completes slots id completed begun image fits r last took are (λ m h. shows_record slots id image m (are m h) r allowed group (show m h)) enough

@@ -10,13 +10,13 @@ use Rattle.std.proofs.lemmas.List.Elements.{filter-append}
 use Rattle.asm_formats.specs.Sets.{has_bit, elements}
 use Rattle.asm_formats.specs.Status.{Entry, entry_of}
 use Rattle.asm_formats.specs.Following.{Holder, holder_of, disks_of, sets_of}
-use Rattle.status_register.specs.Surveys.{is_there, seen_of, shortfall}
+use Rattle.status_register.specs.Surveys.{is_holder_there, seen_of, shortfall}
 use Rattle.status_register.specs.Counting.{of_disk, disks_from}
 use Rattle.status_register.specs.declared.member.Member.{Member}
 
 pub seen_both : (ms : List Member) (xs ys : List Holder) → seen_of ms (xs ++ ys) ≡ seen_of ms xs + seen_of ms ys
 unfolding seen_of
-seen_both ms xs ys = ap length (filter-append (is_there ms) xs ys) ∙ length-append (filter (is_there ms) xs) (filter (is_there ms) ys)
+seen_both ms xs ys = ap length (filter-append (is_holder_there ms) xs ys) ∙ length-append (filter (is_holder_there ms) xs) (filter (is_holder_there ms) ys)
 
 module _ (entries : List Entry) (set : ℕ) where
   pub all_from : disks_from entries set 0 ≡ disks_of entries set
@@ -90,10 +90,10 @@ module _ (ms : List Member) (entries : List Entry) (set d : ℕ) where
     one_disk : of_disk entries set d ≡ (d, b) ∷ []
     one_disk = cond-true (has_bit set d) (holder_of d (entry_of entries d)) [] in_set ∙ holder_is d (entry_of entries d) b birth
 
-    pub there_seen : is_there ms (d, b) ≡ true → seen_of ms (of_disk entries set d) ≡ 1
+    pub there_seen : is_holder_there ms (d, b) ≡ true → seen_of ms (of_disk entries set d) ≡ 1
     unfolding seen_of
-    there_seen there = ap (λ (l : List Holder). length (filter (is_there ms) l)) one_disk ∙ ap length (cond-true (is_there ms (d, b)) ((d, b) ∷ []) [] there)
+    there_seen there = ap (λ (l : List Holder). length (filter (is_holder_there ms) l)) one_disk ∙ ap length (cond-true (is_holder_there ms (d, b)) ((d, b) ∷ []) [] there)
 
-    pub absent_seen : is_there ms (d, b) ≡ false → seen_of ms (of_disk entries set d) ≡ 0
+    pub absent_seen : is_holder_there ms (d, b) ≡ false → seen_of ms (of_disk entries set d) ≡ 0
     unfolding seen_of
-    absent_seen absent = ap (λ (l : List Holder). length (filter (is_there ms) l)) one_disk ∙ ap length (cond-false (is_there ms (d, b)) ((d, b) ∷ []) [] absent)
+    absent_seen absent = ap (λ (l : List Holder). length (filter (is_holder_there ms) l)) one_disk ∙ ap length (cond-false (is_holder_there ms (d, b)) ((d, b) ∷ []) [] absent)

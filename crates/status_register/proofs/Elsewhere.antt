@@ -17,7 +17,7 @@ use Rattle.asm_formats.specs.Status.{Status}
 use Rattle.asm_formats.proofs.Framing.{directory_write}
 use Rattle.asm_images.specs.Bridge.{disk_bytes, disks_in}
 use Rattle.asm_images.specs.Members as a
-use Rattle.asm_images.specs.Members.{Image, AreDistinct, all_members, claims_of_group, disk_of, members, members_from, of_group, statuses, with_member, within}
+use Rattle.asm_images.specs.Members.{ImageBytes, AreDistinct, all_members, claims_of_group, disk_of, members, members_from, of_group, statuses, with_member, within}
 use Rattle.asm_images.specs.Register.{Fits, greatest}
 use Rattle.asm_images.proofs.Bridges.{bytes_are_listed, disks_are_listed, listed}
 use Rattle.asm_images.proofs.Claiming.{fits_raised}
@@ -25,8 +25,8 @@ use Rattle.asm_images.proofs.Members.{member_is}
 use Rattle.asm_images.proofs.Membership.{among_flat_map, flat_map_among, among_within}
 use Rattle.asm_images.proofs.Replacing.{Keeps as KeepsMembers}
 use Rattle.status_register.specs.Elsewhere.{SameFront, LeavesRegister, with_attached, IsApartFrom}
-use Rattle.status_register.specs.History.{FitsIn}
-use Rattle.status_register.specs.Keeping.{EpochStands, FitsWith, HasHistory, IsReady, Keeps, ShowsEpoch}
+use Rattle.status_register.specs.History.{FitsHistory}
+use Rattle.status_register.specs.Keeping.{EpochStands, FitsWith, HasHistory, IsRegisterReady, FitsRegister, ShowsEpoch}
 use Rattle.status_register.specs.Places.{HasSlots}
 use Rattle.status_register.specs.Registered.{Registered}
 use Rattle.status_register.specs.SurveyLaws.{IsMemberOn}
@@ -72,10 +72,10 @@ abbrev SameMember : ℕ → Option Header → Option Header → Type 0
 SameMember id old new = (new ≡ old) ⊎ (((h : Header) → old ≡ Some h → h.id ≡ id → ⊥) × ((h : Header) → new ≡ Some h → h.id ≡ id → ⊥))
 
 -- the member's disk as it is on another image
-abbrev renewed : Image → a.Member → a.Member
+abbrev renewed : ImageBytes → a.Member → a.Member
 renewed image m = record m { disk = disk_of image m.slot }
 
-renewed_keeps : (image : Image) → KeepsMembers (renewed image)
+renewed_keeps : (image : ImageBytes) → KeepsMembers (renewed image)
 renewed_keeps image = record { slot = λ m. refl; header = λ m. refl }
 
 no_member : (id slot : ℕ) (d : Metadata) (o : Option Header) (others : List a.Member) → ((h : Header) → o ≡ Some h → h.id ≡ id → ⊥) → with_member id slot d o others ≡ others
@@ -86,20 +86,20 @@ both_lists : (f : a.Member → a.Member) (b : Bool) (x y : a.Member) (others res
 both_lists f true x y others rest e same = λ i. e i ∷ same i
 both_lists f false x y others rest e same = same
 
-one_renewed : (id slot : ℕ) (new : Image) (x y : Metadata) (o : Option Header) (others rest : List a.Member) → disk_of new slot ≡ y → others ≡ map (renewed new) rest
+one_renewed : (id slot : ℕ) (new : ImageBytes) (x y : Metadata) (o : Option Header) (others rest : List a.Member) → disk_of new slot ≡ y → others ≡ map (renewed new) rest
     → with_member id slot y o others ≡ map (renewed new) (with_member id slot x o rest)
 one_renewed id slot new x y None others rest is same = same
 one_renewed id slot new x y (Some h) others rest is same =
     both_lists (renewed new) (h.id == id) (record { slot = slot; header = h; disk = y }) (record { slot = slot; header = h; disk = x }) others rest
     (ap (λ (d : Metadata). record { slot = slot; header = h; disk = d }) (sym is)) same
 
-member_renewed : (id slot : ℕ) (new : Image) (x y : Metadata) (others rest : List a.Member) → SameMember id x.header y.header → disk_of new slot ≡ y → others ≡ map (renewed new) rest
+member_renewed : (id slot : ℕ) (new : ImageBytes) (x y : Metadata) (others rest : List a.Member) → SameMember id x.header y.header → disk_of new slot ≡ y → others ≡ map (renewed new) rest
     → with_member id slot y y.header others ≡ map (renewed new) (with_member id slot x x.header rest)
 member_renewed id slot new x y others rest (inl header) is same = ap (λ (o : Option Header). with_member id slot y o others) header ∙ one_renewed id slot new x y x.header others rest is same
 member_renewed id slot new x y others rest (inr none) is same =
     no_member id slot y y.header others none.1 ∙ same ∙ ap (λ (l : List a.Member). map (renewed new) l) (sym (no_member id slot x x.header rest none.0))
 
-renewed_from : (id slot : ℕ) (new : Image) (olds news : Image) → length news ≡ length olds
+renewed_from : (id slot : ℕ) (new : ImageBytes) (olds news : ImageBytes) → length news ≡ length olds
     → ((k : ℕ) → k < length olds → SameMember id (metadata (get_or olds k [])).header (metadata (get_or news k [])).header)
     → ((k n : ℕ) → n ≡ k + slot → k < length olds → get_or new n [] ≡ get_or news k [])
     → members_from id slot (map metadata news) ≡ map (renewed new) (members_from id slot (map metadata olds))
@@ -156,7 +156,7 @@ module _ (slots id : ℕ) (x y : bay.Image) (leaves : LeavesRegister slots id x 
         statuses = ap (λ (d : Metadata). d.statuses) new ∙ says.statuses ∙ ap (λ (d : Metadata). d.statuses) (sym old);
       }
 
-  pub fits_stay : (completed : Option Status) (begun : List Status) → FitsIn slots id completed begun x → FitsIn slots id completed begun y
+  pub fits_stay : (completed : Option Status) (begun : List Status) → FitsHistory slots id completed begun x → FitsHistory slots id completed begun y
   fits_stay completed begun fits = subst (λ (l : List a.Member). Fits id l completed begun) (sym members_renewed)
       (fits_raised id (renewed (disks_in slots y)) (renewed_keeps (disks_in slots y)) olds
       (λ m c among h. (c, subst (λ (cs : List (Option Claim)). IsAmong (claims_of_group id cs) c) (sym (renewed_says m among).claims) h, omega arith))
@@ -208,14 +208,14 @@ fits_with_stay slots id ms completed begun x y leaves has = record {
 -- ---- over calls
 
 pub keeps_elsewhere : {on : ℕ → Type 0} {step : bay.Image → bay.Image → Type 0} {s t : BayState} (slots : ℕ) (register : Registered) (completed : Option Status) (begun : List Status)
-    → Within step (LeavesRegister slots register.id) → Runs on step s t → Keeps slots register completed begun s → Keeps slots register completed begun t
+    → Within step (LeavesRegister slots register.id) → Runs on step s t → FitsRegister slots register completed begun s → FitsRegister slots register completed begun t
 keeps_elsewhere {on} {step} {s} {t} slots register completed begun leaves run keeps = record {
   continues = keeps.continues;
   now = now_only {P = HasHistory slots register completed begun} {Q = HasHistory slots register completed begun}
       (λ x y has there. history_stays slots register completed begun x y (leaves x y there) has) (stops run) keeps.now;
 }
 
-pub ready_elsewhere : {s t : BayState} (register : Registered) → KeepsAttached s t → IsReady register s → IsReady register t
+pub ready_elsewhere : {s t : BayState} (register : Registered) → KeepsAttached s t → IsRegisterReady register s → IsRegisterReady register t
 ready_elsewhere {s} {t} register same ready = record { slots = λ i m is. still_slots (ready.slots i m is) same; apart = ready.apart }
 
 -- ---- a disk is attached
@@ -228,7 +228,7 @@ placed_or_was (o ∷ xs) (suc i) zero x y is = inl is
 placed_or_was (o ∷ xs) (suc i) (suc j) x y is = ⊎_elim (λ was. inl was) (λ new. inr (new.0, ap suc new.1)) (placed_or_was xs i j x y is)
 
 pub attached_keeps : {s : BayState} (slots : ℕ) (register : Registered) (completed : Option Status) (begun : List Status) (m : Member) → NowOnly s (λ image. IsMemberOn slots register.id image m)
-    → Keeps slots register completed begun s → Keeps slots (with_attached register m) completed begun s
+    → FitsRegister slots register completed begun s → FitsRegister slots (with_attached register m) completed begun s
 attached_keeps {s} slots register completed begun m on keeps = record {
   continues = record { group = keeps.continues.group; counts = keeps.continues.counts; holds = keeps.continues.holds; below = keeps.continues.below };
   now = record {
@@ -243,7 +243,7 @@ attached_keeps {s} slots register completed begun m on keeps = record {
   };
 }
 
-pub attached_ready : {s : BayState} (register : Registered) (m : Member) → HasSlots s m.slot m.sector → IsApartFrom register m → IsReady register s → IsReady (with_attached register m) s
+pub attached_ready : {s : BayState} (register : Registered) (m : Member) → HasSlots s m.slot m.sector → IsApartFrom register m → IsRegisterReady register s → IsRegisterReady (with_attached register m) s
 attached_ready {s} register m has apart ready = record {
   slots = λ i n is. ⊎_elim (λ was. ready.slots i n was) (λ new. subst (λ (k : Member). HasSlots s k.slot k.sector) (sym new.0) has) (placed_or_was register.members m.number i m n is);
   apart = λ i j n k is also same.

@@ -5,9 +5,9 @@ use Rattle.bay.specs.State.{BayState, KeepsAttached, size_of}
 use Rattle.bay.specs.Moments.{Within, Joins}
 use Rattle.bay.proofs.Images.{changes-within}
 use Rattle.bay.proofs.OneCall.{Follows}
-use Rattle.gate_slot.specs.Slot.{IsUsable, PlaceOf, MayPut, HasPut}
-use Rattle.status_register.specs.Places.{place_at, HasSlots}
-use Rattle.status_register.specs.Slots.{FoundGate, MayFill, Fills, MayPutNext, PutsNext}
+use Rattle.gate_slot.specs.Slot.{IsUsablePlace, PlaceOf, MayPut, HasPut}
+use Rattle.status_register.specs.Places.{gated_block_at, HasSlots}
+use Rattle.status_register.specs.Slots.{FoundNextGate, MayFill, Fills, MayPutNext, PutsNext}
 use Rattle.status_register.proofs.Telling.{SameBytes}
 use Rattle.status_register.proofs.Shown.{same_shown}
 
@@ -18,7 +18,7 @@ block_sectors n sector is = ⊎_elim (λ (e : sector ≡ 512). subst (λ (m : �
 pub short_sector : (sector : ℕ) → (sector ≡ 512) ⊎ (sector ≡ 4096) → sector ≤ 4096
 short_sector sector is = ⊎_elim (λ (e : sector ≡ 512). omega arith) (λ (e : sector ≡ 4096). omega arith) is
 
-pub usable : {state : BayState} {slot sector : ℕ} (gate : ℕ) → HasSlots state slot sector → gate ≤ 8 → IsUsable state slot (place_at gate sector)
+pub usable : {state : BayState} {slot sector : ℕ} (gate : ℕ) → HasSlots state slot sector → gate ≤ 8 → IsUsablePlace state slot (gated_block_at gate sector)
 usable {state} {slot} {sector} gate has small =
     let short : sector ≤ 4096 = short_sector sector has.sector_size in
     let long : 40960 ≤ size_of state slot = has.long in
@@ -46,14 +46,14 @@ still_slots {old} {new} {slot} {sector} has keeps = record {
 -- ---- puts
 
 module _ (gate slot sector : ℕ) (body : List ℕ) (short : sector ≤ 4096) where
-  in_blocks : (x y : Image) → ChangesOnly (PlaceOf (place_at gate sector) slot) x y → ChangesOnly (Range slot (gate * 4096) (2 * 4096)) x y
-  in_blocks x y step = changes-within (Range slot (gate * 4096) (2 * 4096)) (PlaceOf (place_at gate sector) slot) x y
+  in_blocks : (x y : Image) → ChangesOnly (PlaceOf (gated_block_at gate sector) slot) x y → ChangesOnly (Range slot (gate * 4096) (2 * 4096)) x y
+  in_blocks x y step = changes-within (Range slot (gate * 4096) (2 * 4096)) (PlaceOf (gated_block_at gate sector) slot) x y
       (λ s k inside. ⊎_elim (λ in_gate. (in_gate.0, in_gate.1, omega (arith, in_gate.2, short))) (λ in_body. (in_body.0, omega (arith, in_body.1), omega (arith, in_body.2))) inside) step
 
-  pub may_fill : Within (MayPut (place_at gate sector) slot body) (MayFill gate slot body)
+  pub may_fill : Within (MayPut (gated_block_at gate sector) slot body) (MayFill gate slot body)
   may_fill x y step = record { shows = step.shows; elsewhere = in_blocks x y step.elsewhere }
 
-  pub fills : Within (HasPut (place_at gate sector) slot body) (Fills gate slot body)
+  pub fills : Within (HasPut (gated_block_at gate sector) slot body) (Fills gate slot body)
   fills x y step = record { shows = step.shows; elsewhere = in_blocks x y step.elsewhere }
 
 module _ (gate_of : ℕ → Image → ℕ) (slot : ℕ) (body : List ℕ) where
@@ -65,7 +65,7 @@ module _ (gate_of : ℕ → Image → ℕ) (slot : ℕ) (body : List ℕ) where
   }
 
   module _ (gate : ℕ) (depends : (x y : Image) → SameBytes slot x y → gate_of slot y ≡ gate_of slot x) where
-    gate_before : (x y : Image) → FoundGate (gate_of slot) gate x y → gate_of slot x ≡ gate
+    gate_before : (x y : Image) → FoundNextGate (gate_of slot) gate x y → gate_of slot x ≡ gate
     gate_before x y found = sym (depends x y (λ k. found.same.byte slot k)) ∙ found.gate_is
 
     from_same : (g : ℕ) (x y z : Image) → Same x y → ChangesOnly (Range slot (g * 4096) (2 * 4096)) y z → ChangesOnly (Range slot (g * 4096) (2 * 4096)) x z
@@ -77,13 +77,13 @@ module _ (gate_of : ℕ → Image → ℕ) (slot : ℕ) (body : List ℕ) where
       elsewhere = from_same gate x y z same step.elsewhere;
     }
 
-    pub may_put_next : Joins (FoundGate (gate_of slot) gate) (MayFill gate slot body) (MayPutNext gate_of slot body)
+    pub may_put_next : Joins (FoundNextGate (gate_of slot) gate) (MayFill gate slot body) (MayPutNext gate_of slot body)
     may_put_next x y z found step = subst (λ (g : ℕ). MayFill g slot body x z) (sym (gate_before x y found)) (filling x y z found.same step)
 
-    pub puts_next : Joins (FoundGate (gate_of slot) gate) (Fills gate slot body) (PutsNext gate_of slot body)
+    pub puts_next : Joins (FoundNextGate (gate_of slot) gate) (Fills gate slot body) (PutsNext gate_of slot body)
     puts_next x y z found step = subst (λ (g : ℕ). Fills g slot body x z) (sym (gate_before x y found))
         (record { shows = step.shows; elsewhere = from_same gate x y z found.same step.elsewhere })
 
     -- the gate is found, and then the slot is filled
-    pub put_follows : Follows Same (FoundGate (gate_of slot) gate) (MayFill gate slot body) (Fills gate slot body) (MayPutNext gate_of slot body) (PutsNext gate_of slot body)
+    pub put_follows : Follows Same (FoundNextGate (gate_of slot) gate) (MayFill gate slot body) (Fills gate slot body) (MayPutNext gate_of slot body) (PutsNext gate_of slot body)
     put_follows = record { starts = same_puts; goes = may_put_next; ends = puts_next }

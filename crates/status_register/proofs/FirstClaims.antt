@@ -5,7 +5,7 @@ use Rattle.bay.specs.Moments.{Runs, Ends, NowOnly, LeavesOnly}
 use Rattle.bay.proofs.Calls.{leaves_only, now_of}
 use Rattle.asm_formats.specs.Claim.{Claim, is_claim, claim_spelling}
 use Rattle.asm_formats.specs.Status.{Status}
-use Rattle.status_register.specs.History.{FitsIn}
+use Rattle.status_register.specs.History.{FitsHistory}
 use Rattle.status_register.specs.Keeping.{EpochStands, FitsWith, HasNoRecord}
 use Rattle.status_register.specs.Rows.{HaveClaim, PutsRow}
 use Rattle.status_register.specs.Slots.{claim_gate}
@@ -43,7 +43,7 @@ module _ (s t : BayState) (sound : IsSound s) (id : ℕ) (c : Claim) (allowed : 
           enough = enough;
         } in
         record {
-          fits = subst (λ (k : ℕ). FitsIn slots k None [] image) (sym of_group) has.fits;
+          fits = subst (λ (k : ℕ). FitsHistory slots k None [] image) (sym of_group) has.fits;
           members = λ m h. subst (λ (k : ℕ). IsMemberOn slots k image m) (sym of_group) (has.members m h);
           claimed = subst (λ (k : ℕ). EpochStands slots k r.epoch r image) (sym of_group) stands;
         };

@@ -12,8 +12,8 @@ use Rattle.asm_formats.specs.Sets.{has_bit, elements}
 use Rattle.asm_formats.specs.Status.{Status, Entry, entry_of}
 use Rattle.asm_formats.specs.Following.{Holder, holder_of, disks_of}
 use Rattle.status_register.specs.Holders.{is_of, holder_in, holders_below, attached_to, AreHolders, HoldSlots, SlotsDiffer}
-use Rattle.status_register.specs.Registered.{is_birth}
-use Rattle.status_register.specs.Rows.{AreApart}
+use Rattle.status_register.specs.Registered.{is_same_birth}
+use Rattle.status_register.specs.Rows.{HaveOwnSlots}
 use Rattle.status_register.specs.Tallies.{HaveSlots}
 use Rattle.status_register.specs.declared.member.Member.{Member}
 use Rattle.status_register.proofs.Tallying.{among_get}
@@ -88,7 +88,7 @@ abbrev pub Apart : List Member → Type 0
 Apart [] = Unit {0}
 Apart (m ∷ ms) = ((n : Member) → IsAmong ms n → n.slot ≢ m.slot) × Apart ms
 
-pub apart_list : (ms : List Member) → Apart ms → AreApart ms
+pub apart_list : (ms : List Member) → Apart ms → HaveOwnSlots ms
 apart_list [] apart i j d low high same = absurd (omega arith)
 apart_list (m ∷ ms) apart zero zero d low high same = refl
 apart_list (m ∷ ms) apart zero (suc j) d low high same = absurd (apart.0 (get_or ms j d) (among_get ms j d (omega arith)) (sym same))
@@ -109,7 +109,7 @@ below_apart places r (suc d) differ = apart_front r d (get_or places d None) (ho
     absurd (omega (arith, f.1, differ f.0 d n m f.2.there held.there same)))
     (below_apart places r d differ)
 
-pub holders_apart : (places : List (Option Member)) (r : Status) → SlotsDiffer places → AreApart (attached_to places r)
+pub holders_apart : (places : List (Option Member)) (r : Status) → SlotsDiffer places → HaveOwnSlots (attached_to places r)
 holders_apart places r differ = apart_list (attached_to places r) (below_apart places r 64 differ)
 
 -- ---- the disks of a set
@@ -157,7 +157,7 @@ unfolding disks_of elements
 is_disk entries set d birth small bit is = flat_map_among (λ (k : ℕ). holder_of k (entry_of entries k)) (filter (has_bit set) (range_with_len 0 64)) d (d, birth)
     (among_filtered (has_bit set) (range_with_len 0 64) d (range_has 64 0 d (omega arith) (omega arith)) bit) (of_entry d birth (entry_of entries d) is)
 
-birth_by : (o : Option ℕ) (birth : ℕ) → is_birth o birth ≡ true → o ≡ Some birth
+birth_by : (o : Option ℕ) (birth : ℕ) → is_same_birth o birth ≡ true → o ≡ Some birth
 birth_by None birth is = absurd (false≢true is)
 birth_by (Some b) birth is = ap (λ (n : ℕ). Some n) (eqb-true b birth is)
 
@@ -165,7 +165,7 @@ birth_by (Some b) birth is = ap (λ (n : ℕ). Some n) (eqb-true b birth is)
 pub entry_birth : (entries : List Entry) (m : Member) → is_of entries m ≡ true → option_map (λ (e : Entry). e.birth) (entry_of entries m.number) ≡ Some m.birth
 entry_birth entries m is = birth_by (option_map (λ (e : Entry). e.birth) (entry_of entries m.number)) m.birth is
 
-by_birth : (o : Option ℕ) (birth : ℕ) → o ≡ Some birth → is_birth o birth ≡ true
+by_birth : (o : Option ℕ) (birth : ℕ) → o ≡ Some birth → is_same_birth o birth ≡ true
 by_birth None birth is = absurd (none-some birth is)
 by_birth (Some b) birth is = eq-eqb b birth (same_Some b birth is)
 

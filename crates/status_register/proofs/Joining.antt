@@ -13,7 +13,7 @@ use Rattle.asm_formats.specs.Damage.{body_damage}
 use Rattle.asm_images.specs.Bridge.{disk_bytes}
 use Rattle.asm_images.specs.Members.{claims_of_group, of_group}
 use Rattle.asm_images.specs.Register.{greatest, greater}
-use Rattle.status_register.specs.Surveys.{disk_in, claims_on, records_on, greatest_epoch, first_damage, greater_of, Says}
+use Rattle.status_register.specs.Surveys.{disk_in, claims_on, records_on, greatest_epoch, first_damage, greater_of, DisksSay}
 use Rattle.status_register.specs.declared.member.Member.{Member}
 
 -- ---- the greatest epoch and the greatest record
@@ -71,7 +71,7 @@ damage_joins image (n ∷ ms) m = ap (λ (o : Option (ℕ × ℕ)). option_or (d
 
 -- ---- one disk more
 
-pub says_nothing : (id : ℕ) (image : Image) → Says id [] 0 None None image
+pub says_nothing : (id : ℕ) (image : Image) → DisksSay id [] 0 None None image
 unfolding claims_on records_on first_damage
 says_nothing id image = record { epoch_is = refl; status_is = refl; damage_is = refl }
 
@@ -86,10 +86,10 @@ module _ (id : ℕ) (image : Image) (ms : List Member) (m : Member) where
   records_more = flat_map-append (λ (n : Member). of_group id (disk_in image n.slot).statuses) ms (m ∷ [])
       ∙ ap (λ (rs : List Status). flat_map (λ (n : Member). of_group id (disk_in image n.slot).statuses) ms ++ rs) (append-nil (of_group id (disk_in image m.slot).statuses))
 
-  pub says_more : {epoch more_epoch : ℕ} {status more_status : Option Status} {damage : Option (ℕ × ℕ)} {block : Option ℕ} → Says id ms epoch status damage image
+  pub says_more : {epoch more_epoch : ℕ} {status more_status : Option Status} {damage : Option (ℕ × ℕ)} {block : Option ℕ} → DisksSay id ms epoch status damage image
       → greatest_epoch (claims_of_group id (disk_in image m.slot).claims) ≡ more_epoch → greatest (of_group id (disk_in image m.slot).statuses) ≡ more_status
       → body_damage (disk_bytes image m.slot) ≡ block
-      → Says id (ms ++ m ∷ []) (max epoch more_epoch) (greater_of status more_status) (option_or damage (option_map (λ b. (m.slot, b)) block)) image
+      → DisksSay id (ms ++ m ∷ []) (max epoch more_epoch) (greater_of status more_status) (option_or damage (option_map (λ b. (m.slot, b)) block)) image
   says_more {epoch} {more_epoch} {status} {more_status} {damage} {block} so_far epoch_is status_is block_is = record {
     epoch_is = ap greatest_epoch claims_more ∙ epochs_join (claims_on id image ms) (claims_of_group id (disk_in image m.slot).claims) ∙ (λ i. max (so_far.epoch_is i) (epoch_is i));
     status_is = ap greatest records_more ∙ records_join (records_on id image ms) (of_group id (disk_in image m.slot).statuses) ∙ (λ i. greater_of (so_far.status_is i) (status_is i));

@@ -12,8 +12,8 @@ use Rattle.asm_formats.specs.Sets.{has_bit}
 use Rattle.asm_formats.specs.Status.{Entry}
 use Rattle.asm_formats.specs.Following.{Holder, disks_of, sets_of}
 use Rattle.status_register.specs.Holders.{AreHolders}
-use Rattle.status_register.specs.Surveys.{AreRead, none_yet, one_read, one_failed, is_there, seen_of, shortfall}
-use Rattle.status_register.specs.Writes.{is_one_of, IsFailed, IsLost, IsLostOf, FailedAlone}
+use Rattle.status_register.specs.Surveys.{AreRead, none_yet, one_read, one_failed, is_holder_there, seen_of, shortfall}
+use Rattle.status_register.specs.Writes.{is_one_of, IsFailed, IsLostMember, IsLostOf, FailedAlone}
 use Rattle.status_register.specs.declared.member.Member.{Member}
 use Rattle.status_register.proofs.Holding.{disk_is, is_disk, entry_birth}
 use Rattle.status_register.proofs.Meeting.{any_among, found}
@@ -43,7 +43,7 @@ one_of_them ms m h = any_among (λ (n : Member). (n.slot == m.slot) && ((n.numbe
     (and_from (m.slot == m.slot) ((m.number == m.number) && (m.birth == m.birth)) (eq-eqb m.slot m.slot refl)
     (and_from (m.number == m.number) (m.birth == m.birth) (eq-eqb m.number m.number refl) (eq-eqb m.birth m.birth refl)))
 
-pub there_of : (ms : List Member) (m : Member) → is_one_of ms m ≡ true → is_there ms (m.number, m.birth) ≡ true
+pub there_of : (ms : List Member) (m : Member) → is_one_of ms m ≡ true → is_holder_there ms (m.number, m.birth) ≡ true
 there_of ms m is =
     let t = twin_of ms m is in
     any_among (λ (n : Member). (n.number == m.number) && (n.birth == m.birth)) ms t.twin t.among
@@ -112,13 +112,13 @@ module _ (ms took : List Member) (entries : List Entry) (set : ℕ) where
   -- where each of the members in a set took it, as many of the set are there
   pub all_seen : ((m : Member) → IsAmong ms m → has_bit set m.number ≡ true → is_one_of took m ≡ true) → seen_of ms (disks_of entries set) ≤ seen_of took (disks_of entries set)
   unfolding seen_of
-  all_seen all = more_among (is_there ms) (is_there took) (disks_of entries set) (λ h among there.
+  all_seen all = more_among (is_holder_there ms) (is_holder_there took) (disks_of entries set) (λ h among there.
       let f = found (λ (n : Member). (n.number == h.0) && (n.birth == h.1)) ms there in
       let parts = and_parts (f.0.number == h.0) (f.0.birth == h.1) f.2 in
       let number : f.0.number ≡ h.0 = eqb-true f.0.number h.0 parts.0 in
       let birth : f.0.birth ≡ h.1 = eqb-true f.0.birth h.1 parts.1 in
       let bit : has_bit set f.0.number ≡ true = ap (has_bit set) number ∙ (disk_is entries set h among).bit in
-      subst (λ (x : Holder). is_there took x ≡ true) (λ i. (number i, birth i)) (there_of took f.0 (all f.0 f.1 bit)))
+      subst (λ (x : Holder). is_holder_there took x ≡ true) (λ i. (number i, birth i)) (there_of took f.0 (all f.0 f.1 bit)))
 
   pub all_enough : ((m : Member) → IsAmong ms m → has_bit set m.number ≡ true → is_one_of took m ≡ true) → shortfall ms (disks_of entries set ∷ []) ≡ None → shortfall took (disks_of entries set ∷ []) ≡ None
   all_enough all enough = not_short took (disks_of entries set) (omega (arith, all_seen all, is_enough ms (disks_of entries set) enough))
@@ -188,12 +188,12 @@ lost_by entries ms took set x holders enough short (Some m) is =
 
 -- of both sets
 module _ (entries : List Entry) (ms took : List Member) (holders next : ℕ) where
-  pub lost_first : (m : Member) → IsLostOf ms took (disks_of entries holders) m → IsLost ms took (sets_of entries holders next) m
+  pub lost_first : (m : Member) → IsLostOf ms took (disks_of entries holders) m → IsLostMember ms took (sets_of entries holders next) m
   lost_first m lost = record { set = disks_of entries holders; of_record = holders_among entries holders next; lost = lost }
 
   pub lost_next : (o : Option Member) → next ≢ 0 → shortfall took (disks_of entries holders ∷ []) ≡ None
       → MatchOption o (shortfall took (disks_of entries next ∷ []) ≡ None) (λ m. IsLostOf ms took (disks_of entries next) m)
-      → MatchOption o (shortfall took (sets_of entries holders next) ≡ None) (λ m. IsLost ms took (sets_of entries holders next) m)
+      → MatchOption o (shortfall took (sets_of entries holders next) ≡ None) (λ m. IsLostMember ms took (sets_of entries holders next) m)
   lost_next None some first second = both_enough took entries holders next first second some
   lost_next (Some m) some first lost = record { set = disks_of entries next; of_record = next_among entries holders next some; lost = lost }
 

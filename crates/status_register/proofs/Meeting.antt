@@ -20,22 +20,22 @@ use Rattle.asm_images.specs.MountLaws.{HaveClaimed}
 use Rattle.asm_images.proofs.Bridges.{bytes_are_listed}
 use Rattle.asm_images.proofs.Mounts.{surveyed_epoch_is_above, claim_is_seen}
 use Rattle.status_register.specs.Rows.{HasClaim}
-use Rattle.status_register.specs.Sayings.{listed}
-use Rattle.status_register.specs.Slots.{said}
+use Rattle.status_register.specs.Sayings.{none_or_one}
+use Rattle.status_register.specs.Slots.{body_says}
 use Rattle.status_register.proofs.Surveying.{claims_said}
 use Rattle.std.specs.Option.{option_map}
 use Rattle.asm_images.proofs.Recording.{begin_history, epoch_le, status_allowed, those_append, turn_below}
 use Rattle.asm_formats.specs.Following.{Follows, Holder, sets, rank}
-use Rattle.asm_images.specs.Bridge.{disk_bytes, shown, disks_in}
+use Rattle.asm_images.specs.Bridge.{disk_bytes, shown_block, disks_in}
 use Rattle.asm_images.specs.Members as a
-use Rattle.asm_images.specs.Members.{Image, all_members, members, metadata_of, within, statuses, of_group, is_disk, has_disk, claims, claims_of_group}
+use Rattle.asm_images.specs.Members.{ImageBytes, all_members, members, metadata_of, within, statuses, of_group, is_disk, has_disk, claims, claims_of_group}
 use Rattle.asm_images.specs.Register.{base, HasEpoch, current_records, greatest, is_enough, is_majority}
 use Rattle.asm_images.proofs.Bridges.{disks_are_listed}
 use Rattle.asm_images.proofs.Members.{among_members, member_is}
 use Rattle.asm_images.proofs.Membership.{among_within}
 use Rattle.asm_images.proofs.History.{greatest_is, nothing_greatest, among_statuses, surveyed_counts}
-use Rattle.status_register.specs.History.{FitsIn}
-use Rattle.status_register.specs.Surveys.{disk_in, records_on, is_there, seen_of, shortfall, missing, claims_on, greatest_epoch}
+use Rattle.status_register.specs.History.{FitsHistory}
+use Rattle.status_register.specs.Surveys.{disk_in, records_on, is_holder_there, seen_of, shortfall, missing, claims_on, greatest_epoch}
 use Rattle.status_register.specs.SurveyLaws.{IsMemberOn, slots_of}
 use Rattle.status_register.specs.declared.member.Member.{Member}
 
@@ -143,29 +143,29 @@ module _ (slots id : ℕ) (image : bay.Image) (read : List Member) (are : (m : M
 
   -- a claim that a disk shows is one of its claims
   module _ (c : Claim) (allowed : IsTrue (is_claim c)) (group : c.id ≡ id) where
-    of_listed : (o : Option (Option Claim)) → o ≡ Some (Some c) → IsAmong (claims_of_group id (listed o)) c
-    of_listed o is = subst (λ (p : Option (Option Claim)). IsAmong (claims_of_group id (listed p)) c) (sym is)
+    of_listed : (o : Option (Option Claim)) → o ≡ Some (Some c) → IsAmong (claims_of_group id (none_or_one o)) c
+    of_listed o is = subst (λ (p : Option (Option Claim)). IsAmong (claims_of_group id (none_or_one p)) c) (sym is)
         (subst (λ (l : List Claim). IsAmong l c) (sym (cond-true (c.id == id) (c ∷ []) [] (eq-eqb c.id id group))) (inl refl))
 
-    says_claim : (slot gate : ℕ) → shown image slot gate ≡ Some (claim_spelling c) → said decoded_claim image slot gate ≡ Some (Some c)
+    says_claim : (slot gate : ℕ) → shown_block image slot gate ≡ Some (claim_spelling c) → body_says decoded_claim image slot gate ≡ Some (Some c)
     says_claim slot gate is = ap (λ (o : Option (List ℕ)). option_map decoded_claim o) is ∙ ap (λ (o : Option Claim). Some o) (claim_codec.1 c allowed)
 
     pub shows_claim : (m : Member) → IsAmong read m → HasClaim (claim_spelling c) m.slot image → IsAmong (claims_of_group id (disk_in image m.slot).claims) c
     shows_claim m h has =
-        let first = listed (said decoded_claim image m.slot 2) in
-        let second = listed (said decoded_claim image m.slot 4) in
+        let first = none_or_one (body_says decoded_claim image m.slot 2) in
+        let second = none_or_one (body_says decoded_claim image m.slot 4) in
         subst (λ (os : List (Option Claim)). IsAmong (claims_of_group id os) c) (sym (claims_said image m.slot (long_enough m h)))
         (subst (λ (l : List Claim). IsAmong l c) (sym (those_append (λ (d : Claim). d.id == id) first second))
         (⊎_elim
-        (λ one. among_left (claims_of_group id first) (claims_of_group id second) c (of_listed (said decoded_claim image m.slot 2) (says_claim m.slot 2 one)))
-        (λ two. among_right (claims_of_group id first) (claims_of_group id second) c (of_listed (said decoded_claim image m.slot 4) (says_claim m.slot 4 two))) has))
+        (λ one. among_left (claims_of_group id first) (claims_of_group id second) c (of_listed (body_says decoded_claim image m.slot 2) (says_claim m.slot 2 one)))
+        (λ two. among_right (claims_of_group id first) (claims_of_group id second) c (of_listed (body_says decoded_claim image m.slot 4) (says_claim m.slot 4 two))) has))
 
     have_claimed : ((m : Member) → IsAmong read m → HasClaim (claim_spelling c) m.slot image) → HaveClaimed id chosen c.epoch
     have_claimed show n h =
         let m = read_of n h in
         (c, subst (λ (d : Metadata). IsAmong (claims_of_group id d.claims) c) (sym m.2) (shows_claim m.0 m.1 (show m.0 m.1)), omega arith)
 
-  has_there : (h : Holder) → is_there read h ≡ true → has_disk chosen h.0 h.1 ≡ true
+  has_there : (h : Holder) → is_holder_there read h ≡ true → has_disk chosen h.0 h.1 ≡ true
   has_there h e =
       let m = found (λ (k : Member). (k.number == h.0) && (k.birth == h.1)) read e in
       let parts = and_parts (m.0.number == h.0) (m.0.birth == h.1) m.2 in
@@ -177,7 +177,7 @@ module _ (slots id : ℕ) (image : bay.Image) (read : List Member) (are : (m : M
   unfolding seen_of
   majority_there set e =
       lt-ltb (length set) (2 * length (filter (λ (h : Holder). has_disk chosen h.0 h.1) set))
-      (omega (arith, ltb-true (length set) (2 * length (filter (is_there read) set)) e, more_pass (is_there read) (λ (h : Holder). has_disk chosen h.0 h.1) set has_there))
+      (omega (arith, ltb-true (length set) (2 * length (filter (is_holder_there read) set)) e, more_pass (is_holder_there read) (λ (h : Holder). has_disk chosen h.0 h.1) set has_there))
 
   all_there : (all_sets : List (List Holder)) → shortfall read all_sets ≡ None → list_all (is_majority chosen) all_sets ≡ true
   all_there [] none = refl
@@ -191,7 +191,7 @@ module _ (slots id : ℕ) (image : bay.Image) (read : List Member) (are : (m : M
   enough_there r none = all_there (sets r) none
 
   -- the members that were read hold the same greatest record
-  module _ (completed : Option Status) (begun : List Status) (r : Status) (fits : FitsIn slots id completed begun image) (is : greatest (records_on id image read) ≡ Some r) where
+  module _ (completed : Option Status) (begun : List Status) (r : Status) (fits : FitsHistory slots id completed begun image) (is : greatest (records_on id image read) ≡ Some r) where
     same_greatest : greatest (statuses id chosen) ≡ Some r
     same_greatest = by (greatest (statuses id chosen)) refl
       where
@@ -217,18 +217,18 @@ module _ (slots id : ℕ) (image : bay.Image) (read : List Member) (are : (m : M
     above epoch none claims_lt record_lt s h = surveyed_epoch_is_above id (disks_in slots image) completed begun (slots_of read) r epoch fits same_greatest (enough_there r none)
         (λ c among. omega (arith, claims_lt, epoch_most (claims_on id image read) c (claims_from_image c among))) (record_below epoch record_lt) s h
 
-pub surveyed_record_counts : (slots id : ℕ) (completed : Option Status) (begun : List Status) (image : bay.Image) (read : List Member) (r : Status) → FitsIn slots id completed begun image
+pub surveyed_record_counts : (slots id : ℕ) (completed : Option Status) (begun : List Status) (image : bay.Image) (read : List Member) (r : Status) → FitsHistory slots id completed begun image
     → ((m : Member) → IsAmong read m → IsMemberOn slots id image m)
     → greatest (records_on id image read) ≡ Some r → missing read (Some r) ≡ None → IsAmong (current_records completed begun) r
 surveyed_record_counts slots id completed begun image read r fits are is none = counts slots id image read are completed begun r fits is none
 
-pub surveyed_epoch_above : (slots id : ℕ) (completed : Option Status) (begun : List Status) (image : bay.Image) (read : List Member) (r : Status) (epoch : ℕ) → FitsIn slots id completed begun image
+pub surveyed_epoch_above : (slots id : ℕ) (completed : Option Status) (begun : List Status) (image : bay.Image) (read : List Member) (r : Status) (epoch : ℕ) → FitsHistory slots id completed begun image
     → ((m : Member) → IsAmong read m → IsMemberOn slots id image m) → greatest (records_on id image read) ≡ Some r → missing read (Some r) ≡ None
     → greatest_epoch (claims_on id image read) < epoch → r.epoch < epoch → (s : Status) → IsAmong (current_records completed begun) s → s.epoch < epoch
 surveyed_epoch_above slots id completed begun image read r epoch fits are is none claims_lt record_lt s h = above slots id image read are completed begun r fits is epoch none claims_lt record_lt s h
 
 -- a claim that a majority of each set shows is seen by every set that is enough
-pub shown_claim_is_seen : (slots id : ℕ) (completed : Option Status) (begun : List Status) (image : bay.Image) (took : List Member) (g r : Status) → FitsIn slots id completed begun image
+pub shown_claim_is_seen : (slots id : ℕ) (completed : Option Status) (begun : List Status) (image : bay.Image) (took : List Member) (g r : Status) → FitsHistory slots id completed begun image
     → ((m : Member) → IsAmong took m → IsMemberOn slots id image m) → IsTrue (is_claim (record { id = id; epoch = r.epoch }))
     → ((m : Member) → IsAmong took m → HasClaim (claim_spelling (record { id = id; epoch = r.epoch })) m.slot image)
     → IsAmong (current_records completed begun) g → missing took (Some g) ≡ None → ((v : Status) → base completed begun ≡ Some v → Follows v r)
@@ -238,10 +238,10 @@ shown_claim_is_seen slots id completed begun image took g r fits are allowed sho
     claim_is_seen id (disks_in slots image) completed begun fits g r (slots_of took) counted (enough_there slots id image took are g none)
     (have_claimed slots id image took are (record { id = id; epoch = r.epoch }) allowed refl show) follows P s among enough
 
-pub claimed_record_begins : (slots id : ℕ) (completed : Option Status) (begun : List Status) (image : bay.Image) (took : List Member) (g r : Status) → FitsIn slots id completed begun image
+pub claimed_record_begins : (slots id : ℕ) (completed : Option Status) (begun : List Status) (image : bay.Image) (took : List Member) (g r : Status) → FitsHistory slots id completed begun image
     → ((m : Member) → IsAmong took m → IsMemberOn slots id image m) → IsTrue (is_claim (record { id = id; epoch = r.epoch }))
     → ((m : Member) → IsAmong took m → HasClaim (claim_spelling (record { id = id; epoch = r.epoch })) m.slot image)
     → IsAmong (current_records completed begun) g → missing took (Some g) ≡ None → ((v : Status) → base completed begun ≡ Some v → Follows v r)
-    → IsTrue (is_status r) → ((s : Status) → IsAmong (current_records completed begun) s → rank s < rank r) → FitsIn slots id completed (begun ++ (r ∷ [])) image
+    → IsTrue (is_status r) → ((s : Status) → IsAmong (current_records completed begun) s → rank s < rank r) → FitsHistory slots id completed (begun ++ (r ∷ [])) image
 claimed_record_begins slots id completed begun image took g r fits are claim show counted none follows allowed above_all =
     begin_history id (disks_in slots image) completed begun fits r allowed above_all follows (shown_claim_is_seen slots id completed begun image took g r fits are claim show counted none follows)

@@ -10,12 +10,12 @@ use Rattle.bay.proofs.Calls.{both_done, done_less, goes_on, stops, widened}
 use Rattle.bay.proofs.Images.{same-refl, same-trans}
 use Rattle.bay.proofs.OneCall.{cheaper, wider}
 use Rattle.asm_formats.specs.Among.{IsAmong}
-use Rattle.asm_images.specs.Bridge.{shown}
+use Rattle.asm_images.specs.Bridge.{shown_block}
 use Rattle.asm_formats.specs.Status.{Status}
 use Rattle.status_register.specs.Holders.{SlotsDiffer, holder_in, holders_below, attached_to}
 use Rattle.status_register.specs.OrderLaws.{Descend}
-use Rattle.status_register.specs.Rows.{CallsInOrder, HasStatus, IsTried, cost_of_puts, PutsInOrder, PutsRow, RunsInOrder, Takes, no_put, one_put}
-use Rattle.status_register.specs.Slots.{FoundGate, MayFill, Fills, MayPutNext, PutsNext, status_gate}
+use Rattle.status_register.specs.Rows.{CallsInOrder, HasStatus, IsTried, cost_of_puts, PutsInOrder, PutsRow, RunsInOrder, TakesMember, no_put, one_put}
+use Rattle.status_register.specs.Slots.{FoundNextGate, MayFill, Fills, MayPutNext, PutsNext, status_gate}
 use Rattle.status_register.specs.Tallies.{IsSlotOf}
 use Rattle.status_register.specs.declared.member.Member.{Member}
 use Rattle.status_register.proofs.Filling.{same_puts, may_put_next, puts_next}
@@ -56,7 +56,7 @@ module _ (gate_of : ℕ → Image → ℕ) (body : List ℕ) where
     order_longer (n ∷ ms) x y (inr past) = inr (past.0, past.1, order_longer ms past.0 y past.2)
 
     module _ (depends : (x y : Image) → SameBytes m.slot x y → gate_of m.slot y ≡ gate_of m.slot x) where
-      found_same : (x y : Image) → Same x y → FoundGate (gate_of m.slot) (gate_of m.slot y) x y
+      found_same : (x y : Image) → Same x y → FoundNextGate (gate_of m.slot) (gate_of m.slot y) x y
       found_same x y same = record { gate_is = refl; same = same }
 
       may_then : (x y z : Image) → Same x y → MayPutNext gate_of m.slot body y z → MayPutNext gate_of m.slot body x z
@@ -78,7 +78,7 @@ module _ (gate_of : ℕ → Image → ℕ) (body : List ℕ) where
 
   fill_then : (g slot : ℕ) (x y z : Image) → MayFill g slot body x y → Same y z → MayFill g slot body x z
   fill_then g slot x y z step same =
-      let shows : shown z slot g ≡ shown y slot g = same_shown slot g y z (λ k. same.byte slot k) in
+      let shows : shown_block z slot g ≡ shown_block y slot g = same_shown slot g y z (λ k. same.byte slot k) in
       record {
         shows = ⊎_elim (λ kept. inl (shows ∙ kept)) (λ other. inr (⊎_elim (λ none. inl (shows ∙ none)) (λ new. inr (shows ∙ new)) other)) step.shows;
         elsewhere = record { size = λ s. same.size s ∙ step.elsewhere.size s; byte = λ s k outside. same.byte s k ∙ step.elsewhere.byte s k outside };
@@ -128,14 +128,14 @@ rose_still : {slots : ℕ → Type 0} {step : Image → Image → Type 0} (s t u
 rose_still s t u next slot rose = omega (arith, rose, next.faults slot)
 
 module _ (gate_of : ℕ → Image → ℕ) (depends : (slot : ℕ) (x y : Image) → SameBytes slot x y → gate_of slot y ≡ gate_of slot x) (body : List ℕ) (s t u : BayState) {on late : ℕ → Type 0} where
-  tried_now : {step : Image → Image → Type 0} → Runs on step s t → (m : Member) (old new : List Member) → Takes gate_of m body old new t u → Runs late (MayPutNext gate_of m.slot body) t u
+  tried_now : {step : Image → Image → Type 0} → Runs on step s t → (m : Member) (old new : List Member) → TakesMember gate_of m body old new t u → Runs late (MayPutNext gate_of m.slot body) t u
       → Ends (IsTried gate_of body (RoseAt s u) m) t u
   tried_now first m old new takes next = ⊎_elim
       (λ failed. done_less (λ x y part. inr (omega (arith, failed.0, first.faults m.slot), part)) (stops next))
       (λ took. done_less (λ x y puts. inl puts) took.0)
       takes
 
-  pub tried_on : {step : Image → Image → Type 0} → Runs on step s t → (m : Member) → Runs late (MayPutNext gate_of m.slot body) t u → (old new : List Member) → Takes gate_of m body old new t u
+  pub tried_on : {step : Image → Image → Type 0} → Runs on step s t → (m : Member) → Runs late (MayPutNext gate_of m.slot body) t u → (old new : List Member) → TakesMember gate_of m body old new t u
       → (ms : List Member) → Ends (AreTried gate_of body (RoseAt s t) ms) s t → Ends (AreTried gate_of body (RoseAt s u) (ms ++ m ∷ [])) s u
   tried_on first m next old new takes ms before = both_done (all_next gate_of body (RoseAt s u) m (depends m.slot) ms)
       (done_less (all_still gate_of body (RoseAt s t) (RoseAt s u) (rose_still s t u next) ms) before) (tried_now first m old new takes next)
@@ -186,8 +186,8 @@ module _ (id : ℕ) (body : List ℕ) (failed : ℕ → Type 0) where
 
   put_shows : (m : Member) (x y : Image) → PutsNext (status_gate id) m.slot body x y → HasStatus body m.slot y
   put_shows m x y puts = ⊎_elim
-      (λ is. inl (subst (λ (g : ℕ). shown y m.slot g ≡ Some body) is puts.shows))
-      (λ is. inr (subst (λ (g : ℕ). shown y m.slot g ≡ Some body) is puts.shows))
+      (λ is. inl (subst (λ (g : ℕ). shown_block y m.slot g ≡ Some body) is puts.shows))
+      (λ is. inr (subst (λ (g : ℕ). shown_block y m.slot g ≡ Some body) is puts.shows))
       (status_gate_either id m.slot x)
 
   abbrev HasIt : Member → Image → Type 0

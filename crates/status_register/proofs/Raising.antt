@@ -8,7 +8,7 @@ use Rattle.asm_formats.specs.Status.{Status}
 use Rattle.asm_formats.specs.Metadata.{Metadata, metadata}
 use Rattle.asm_formats.specs.Slots.{IsPut}
 use Rattle.asm_images.specs.Bridge.{disk_bytes, disks_in}
-use Rattle.asm_images.specs.Members.{Image, Member, all_members, written, disk_of, claims_of_group}
+use Rattle.asm_images.specs.Members.{ImageBytes, Member, all_members, written, disk_of, claims_of_group}
 use Rattle.asm_images.specs.Register.{Fits}
 use Rattle.asm_images.specs.Steps.{RaisesClaims}
 use Rattle.asm_images.proofs.Bridges.{shown_is_put, range_change, disks_are_listed}
@@ -16,11 +16,11 @@ use Rattle.asm_images.proofs.Claiming.{fits_raised, at_change}
 use Rattle.asm_images.proofs.Putting.{put_raises_claims}
 use Rattle.asm_images.proofs.Replacing.{replaced, replaced_keeps, members_replaced}
 use Rattle.status_register.specs.Slots.{MayPutNext, claim_gate}
-use Rattle.status_register.specs.History.{FitsIn}
+use Rattle.status_register.specs.History.{FitsHistory}
 use Rattle.status_register.proofs.Choosing.{claim_gate_next}
 
 -- on the disks as lists
-pub raised_fits : (id : ℕ) (old : Image) (completed : Option Status) (begun : List Status) → Fits id (all_members id old) completed begun → (slot : ℕ) (bytes : List ℕ) → slot < length old
+pub raised_fits : (id : ℕ) (old : ImageBytes) (completed : Option Status) (begun : List Status) → Fits id (all_members id old) completed begun → (slot : ℕ) (bytes : List ℕ) → slot < length old
     → RaisesClaims id (disk_of old slot) (metadata bytes) → Fits id (all_members id (written old slot bytes)) completed begun
 raised_fits id old completed begun fits slot bytes inside raises =
     let ms = all_members id old in
@@ -45,10 +45,10 @@ module _ (slots id slot : ℕ) (c : Claim) (allowed : IsTrue (is_claim c)) (insi
       put_raises_claims id (disk_bytes x slot) (disk_bytes y slot) gate next.other c next.pair allowed next.rule put
 
   -- on the bay's images
-  pub claim_fits : (completed : Option Status) (begun : List Status) → FitsIn slots id completed begun x → FitsIn slots id completed begun y
+  pub claim_fits : (completed : Option Status) (begun : List Status) → FitsHistory slots id completed begun x → FitsHistory slots id completed begun y
   claim_fits completed begun fits =
       let listed = disks_are_listed slots slot x inside in
       let change = (range_change slots slot (claim_gate id slot x * 4096) (2 * 4096) x y step.elsewhere).0 in
-      subst (λ (i : Image). Fits id (all_members id i) completed begun) (sym change)
+      subst (λ (i : ImageBytes). Fits id (all_members id i) completed begun) (sym change)
       (raised_fits id (disks_in slots x) completed begun fits slot (disk_bytes y slot) (omega (arith, inside, listed.0))
       (subst (λ (bytes : List ℕ). RaisesClaims id (metadata bytes) (metadata (disk_bytes y slot))) (sym listed.1) raises))

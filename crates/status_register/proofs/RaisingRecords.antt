@@ -7,7 +7,7 @@ use Rattle.asm_formats.specs.Following.{rank}
 use Rattle.asm_formats.specs.Metadata.{Metadata, metadata}
 use Rattle.asm_formats.specs.Slots.{IsPut}
 use Rattle.asm_images.specs.Bridge.{disk_bytes, disks_in}
-use Rattle.asm_images.specs.Members.{Image, Member, all_members, written, disk_of, of_group, statuses}
+use Rattle.asm_images.specs.Members.{ImageBytes, Member, all_members, written, disk_of, of_group, statuses}
 use Rattle.asm_images.specs.Register.{Fits}
 use Rattle.asm_images.specs.Steps.{RaisesRecords, IsLast}
 use Rattle.asm_images.proofs.Bridges.{shown_is_put, range_change, disks_are_listed, same_is_same}
@@ -16,13 +16,13 @@ use Rattle.asm_images.proofs.Recording.{fits_then, turn_below, status_allowed}
 use Rattle.asm_images.proofs.Putting.{put_raises_records}
 use Rattle.asm_images.proofs.Replacing.{replaced, replaced_keeps, members_replaced}
 use Rattle.status_register.specs.Slots.{MayPutNext, status_gate}
-use Rattle.status_register.specs.History.{FitsIn}
+use Rattle.status_register.specs.History.{FitsHistory}
 use Rattle.status_register.specs.Rows.{PutsRow, no_put, one_put}
 use Rattle.status_register.specs.declared.member.Member.{Member as Disk}
 use Rattle.status_register.proofs.Choosing.{status_gate_next}
 use Rattle.status_register.proofs.RowFits.{row_sizes}
 
-pub raised_records_fit : (id : ℕ) (old : Image) (completed : Option Status) (begun : List Status) → Fits id (all_members id old) completed begun → (r : Status) → IsLast completed begun r → (slot : ℕ) (bytes : List ℕ) → slot < length old
+pub raised_records_fit : (id : ℕ) (old : ImageBytes) (completed : Option Status) (begun : List Status) → Fits id (all_members id old) completed begun → (r : Status) → IsLast completed begun r → (slot : ℕ) (bytes : List ℕ) → slot < length old
     → RaisesRecords id (disk_of old slot) (metadata bytes) r → Fits id (all_members id (written old slot bytes)) completed begun
 raised_records_fit id old completed begun fits r last slot bytes inside raises =
     let ms = all_members id old in
@@ -51,21 +51,21 @@ module _ (slots id slot : ℕ) (r : Status) (allowed : IsTrue (is_status r)) (in
       let put : IsPut (disk_bytes x slot) (disk_bytes y slot) gate (status_spelling r) = shown_is_put x y slot gate (status_spelling r) room step.elsewhere step.shows in
       put_raises_records id (disk_bytes x slot) (disk_bytes y slot) gate next.other r next.pair allowed next.rule put
 
-  pub record_fits : (completed : Option Status) (begun : List Status) → IsLast completed begun r → FitsIn slots id completed begun x → FitsIn slots id completed begun y
+  pub record_fits : (completed : Option Status) (begun : List Status) → IsLast completed begun r → FitsHistory slots id completed begun x → FitsHistory slots id completed begun y
   record_fits completed begun last fits =
       let listed = disks_are_listed slots slot x inside in
       let change = (range_change slots slot (status_gate id slot x * 4096) (2 * 4096) x y step.elsewhere).0 in
-      subst (λ (i : Image). Fits id (all_members id i) completed begun) (sym change)
+      subst (λ (i : ImageBytes). Fits id (all_members id i) completed begun) (sym change)
       (raised_records_fit id (disks_in slots x) completed begun fits r last slot (disk_bytes y slot) (omega (arith, inside, listed.0))
       (subst (λ (bytes : List ℕ). RaisesRecords id (metadata bytes) (metadata (disk_bytes y slot)) r) (sym listed.1) raises))
 
 module _ (slots id : ℕ) (completed : Option Status) (begun : List Status) (r : Status) (last : IsLast completed begun r) (allowed : IsTrue (is_status r)) (ms : List Disk) (inside : (m : Disk) → IsAmong ms m → m.slot < slots) where
-  row_of_records : (x y : bay.Image) → ((m : Disk) → IsAmong ms m → 40960 ≤ x.size m.slot) → PutsRow (status_gate id) ms (status_spelling r) x y → FitsIn slots id completed begun x → FitsIn slots id completed begun y
-  row_of_records x y long (no_put a b same) fits = subst (λ (i : Image). Fits id (all_members id i) completed begun) (sym (same_is_same slots a b same)) fits
+  row_of_records : (x y : bay.Image) → ((m : Disk) → IsAmong ms m → 40960 ≤ x.size m.slot) → PutsRow (status_gate id) ms (status_spelling r) x y → FitsHistory slots id completed begun x → FitsHistory slots id completed begun y
+  row_of_records x y long (no_put a b same) fits = subst (λ (i : ImageBytes). Fits id (all_members id i) completed begun) (sym (same_is_same slots a b same)) fits
   row_of_records x z long (one_put a y b m among row step) fits =
       record_fits slots id m.slot r allowed (inside m among) y b (omega (arith, long m among, row_sizes (status_gate id) ms (status_spelling r) a y row m.slot)) step completed begun last (row_of_records a y long row fits)
 
 pub stored_records_fit : (slots id : ℕ) (completed : Option Status) (begun : List Status) (r : Status) (ms : List Disk) (x y : bay.Image) → IsLast completed begun r → IsTrue (is_status r)
     → ((m : Disk) → IsAmong ms m → m.slot < slots) → ((m : Disk) → IsAmong ms m → 40960 ≤ x.size m.slot)
-    → PutsRow (status_gate id) ms (status_spelling r) x y → FitsIn slots id completed begun x → FitsIn slots id completed begun y
+    → PutsRow (status_gate id) ms (status_spelling r) x y → FitsHistory slots id completed begun x → FitsHistory slots id completed begun y
 stored_records_fit slots id completed begun r ms x y last allowed inside long row fits = row_of_records slots id completed begun r last allowed ms inside x y long row fits

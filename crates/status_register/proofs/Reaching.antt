@@ -14,7 +14,7 @@ use Rattle.status_register.specs.Holders.{is_of, attached_to, numbered}
 use Rattle.status_register.specs.Reaching.{Reaches}
 use Rattle.status_register.specs.Registered.{AreNumbered, IsClaimAnswer, Registered, all_placed}
 use Rattle.status_register.specs.Answers.{Surveyed}
-use Rattle.status_register.specs.Surveys.{is_there, seen_of, shortfall, missing}
+use Rattle.status_register.specs.Surveys.{is_holder_there, seen_of, shortfall, missing}
 use Rattle.status_register.specs.declared.member.Member.{Member}
 use Rattle.status_register.specs.declared.error.SurveyError.{SurveyError}
 use Rattle.status_register.proofs.Holding.{among_below, held_below, disk_is, entry_birth, has_birth, same_attached}
@@ -26,11 +26,11 @@ use Rattle.status_register.proofs.Tallying.{RoseAt}
 
 -- ---- majorities
 
-more_seen : (some more : List Member) (all : List Holder) → ((h : Holder) → IsAmong all h → is_there some h ≡ true → is_there more h ≡ true) → seen_of some all ≤ seen_of more all
+more_seen : (some more : List Member) (all : List Holder) → ((h : Holder) → IsAmong all h → is_holder_there some h ≡ true → is_holder_there more h ≡ true) → seen_of some all ≤ seen_of more all
 unfolding seen_of
-more_seen some more all also = more_among (is_there some) (is_there more) all also
+more_seen some more all also = more_among (is_holder_there some) (is_holder_there more) all also
 
-none_short : (some more : List Member) (all : List (List Holder)) → ((one : List Holder) (h : Holder) → IsAmong all one → IsAmong one h → is_there some h ≡ true → is_there more h ≡ true)
+none_short : (some more : List Member) (all : List (List Holder)) → ((one : List Holder) (h : Holder) → IsAmong all one → IsAmong one h → is_holder_there some h ≡ true → is_holder_there more h ≡ true)
     → shortfall some all ≡ None → shortfall more all ≡ None
 none_short some more [] also none = refl
 none_short some more (one ∷ others) also none = cond_both (nat_lt (length one) (2 * seen_of some one)) (shortfall some others) (Some (seen_of some one, length one / 2 + 1))
@@ -68,7 +68,7 @@ is_in_sets r one h (inr later) among = cond_both (r.next_holders == 0) [] (disks
 
 -- The member in the place of the disk's number is the disk of its entry: the disk is attached.
 there_at : (places : List (Option Member)) (r : Status) (h : Holder) (m : Member) → IsInSets r h → get_or places h.0 None ≡ Some m → m.number ≡ h.0 → is_of r.entries m ≡ true
-    → is_there (attached_to places r) h ≡ true
+    → is_holder_there (attached_to places r) h ≡ true
 there_at places r h m disk there number entry =
     let birth : m.birth ≡ h.1 = same_Some m.birth h.1 (sym (entry_birth r.entries m entry) ∙ ap (λ (d : ℕ). option_map (λ (e : Entry). e.birth) (entry_of r.entries d)) number ∙ disk.birth) in
     any_among (λ (n : Member). (n.number == h.0) && (n.birth == h.1)) (attached_to places r) m
@@ -82,7 +82,7 @@ record IsSeen (ms : List Member) (h : Holder) : Type 0 where
   number : member.number ≡ h.0
   birth : member.birth ≡ h.1
 
-seen : (ms : List Member) (h : Holder) → is_there ms h ≡ true → IsSeen ms h
+seen : (ms : List Member) (h : Holder) → is_holder_there ms h ≡ true → IsSeen ms h
 seen ms h is =
     let f = found (λ (n : Member). (n.number == h.0) && (n.birth == h.1)) ms is in
     let parts = and_parts (f.0.number == h.0) (f.0.birth == h.1) f.2 in

@@ -9,12 +9,12 @@ use Rattle.bay.proofs.Calls.{leaves_only}
 use Rattle.asm_formats.specs.Among.{IsAmong}
 use Rattle.asm_formats.specs.Claim.{Claim, is_claim, claim_spelling}
 use Rattle.asm_formats.specs.Status.{Status}
-use Rattle.asm_images.specs.Members.{Image, all_members}
+use Rattle.asm_images.specs.Members.{ImageBytes, all_members}
 use Rattle.asm_images.specs.Register.{Fits}
 use Rattle.asm_images.proofs.Bridges.{same_is_same}
 use Rattle.status_register.specs.Slots.{claim_gate}
 use Rattle.status_register.specs.Rows.{PutsRow, no_put, one_put}
-use Rattle.status_register.specs.History.{FitsIn}
+use Rattle.status_register.specs.History.{FitsHistory}
 use Rattle.status_register.specs.Registered.{next_epoch}
 use Rattle.status_register.specs.Tallies.{HaveSlots}
 use Rattle.status_register.specs.declared.member.Member.{Member}
@@ -30,15 +30,15 @@ abbrev pub AreLong : List Member → bay.Image → Type 0
 AreLong ms image = (m : Member) → IsAmong ms m → 40960 ≤ image.size m.slot
 
 module _ (slots id : ℕ) (c : Claim) (allowed : IsTrue (is_claim c)) (ms : List Member) (inside : (m : Member) → IsAmong ms m → m.slot < slots) (completed : Option Status) (begun : List Status) where
-  pub row_fits : (x y : bay.Image) → AreLong ms x → PutsRow (claim_gate id) ms (claim_spelling c) x y → FitsIn slots id completed begun x → FitsIn slots id completed begun y
-  row_fits x y long (no_put a b same) fits = subst (λ (i : Image). Fits id (all_members id i) completed begun) (sym (same_is_same slots a b same)) fits
+  pub row_fits : (x y : bay.Image) → AreLong ms x → PutsRow (claim_gate id) ms (claim_spelling c) x y → FitsHistory slots id completed begun x → FitsHistory slots id completed begun y
+  row_fits x y long (no_put a b same) fits = subst (λ (i : ImageBytes). Fits id (all_members id i) completed begun) (sym (same_is_same slots a b same)) fits
   row_fits x z long (one_put a y b m among row step) fits =
       claim_fits slots id m.slot c allowed (inside m among) y b (omega (arith, long m among, row_sizes (claim_gate id) ms (claim_spelling c) a y row m.slot)) step completed begun (row_fits a y long row fits)
 
   pub row_leaves : {s t : BayState} {on : ℕ → Type 0} → IsSound s → HaveSlots s ms → Runs on (PutsRow (claim_gate id) ms (claim_spelling c)) s t
-      → NowOnly s (FitsIn slots id completed begun) → LeavesOnly s t (FitsIn slots id completed begun)
+      → NowOnly s (FitsHistory slots id completed begun) → LeavesOnly s t (FitsHistory slots id completed begun)
   row_leaves {s} {t} {on} sound have run before = leaves_only
-      {P = λ image. FitsIn slots id completed begun image × AreLong ms image} {Q = FitsIn slots id completed begun}
+      {P = λ image. FitsHistory slots id completed begun image × AreLong ms image} {Q = FitsHistory slots id completed begun}
       (λ x y p step. row_fits x y p.1 step p.0) run
       (record { now = λ image left. (before.now image left, λ m among. slots_long m.slot m.sector sound (have m among) image left) })
 

@@ -11,7 +11,7 @@ use Rattle.asm_formats.specs.Claim.{Claim, is_claim, claim_spelling}
 use Rattle.asm_formats.specs.Metadata.{Metadata, metadata}
 use Rattle.asm_formats.specs.Status.{Status, is_status, status_spelling, decoded_status}
 use Rattle.asm_formats.proofs.Bodies.{status_codec}
-use Rattle.asm_images.specs.Bridge.{disks_in, shown}
+use Rattle.asm_images.specs.Bridge.{disks_in, shown_block}
 use Rattle.asm_images.specs.Laws.{ShareASet}
 use Rattle.asm_images.specs.Members as a
 use Rattle.asm_images.specs.Members.{all_members, within, statuses, claims, of_group, claims_of_group, AreDistinct}
@@ -25,8 +25,8 @@ use Rattle.asm_images.proofs.Recording.{status_allowed, turn_below, epoch_le, th
 use Rattle.asm_images.proofs.Sharing.{enough_meet}
 use Rattle.status_register.specs.Keeping.{ShowsEpoch, EpochStands}
 use Rattle.status_register.specs.Rows.{HasStatus, PutsRow, no_put, one_put}
-use Rattle.status_register.specs.Sayings.{listed}
-use Rattle.status_register.specs.Slots.{MayPutNext, said, claim_gate, status_gate}
+use Rattle.status_register.specs.Sayings.{none_or_one}
+use Rattle.status_register.specs.Slots.{MayPutNext, body_says, claim_gate, status_gate}
 use Rattle.status_register.specs.SurveyLaws.{IsMemberOn, slots_of}
 use Rattle.status_register.specs.Surveys.{disk_in, records_on, missing}
 use Rattle.status_register.specs.declared.member.Member.{Member}
@@ -97,19 +97,19 @@ record_allowed slots id image m on r h =
 pub shows_record : (slots id : ℕ) (image : bay.Image) (m : Member) → IsMemberOn slots id image m → (r : Status) → IsTrue (is_status r) → r.id ≡ id → HasStatus (status_spelling r) m.slot image
     → IsAmong (of_group id (disk_in image m.slot).statuses) r
 shows_record slots id image m on r allowed group has =
-    let first = listed (said decoded_status image m.slot 6) in
-    let second = listed (said decoded_status image m.slot 8) in
+    let first = none_or_one (body_says decoded_status image m.slot 6) in
+    let second = none_or_one (body_says decoded_status image m.slot 8) in
     subst (λ (os : List (Option Status)). IsAmong (of_group id os) r) (sym (statuses_said image m.slot (long_enough slots id image (m ∷ []) (only slots id image m on) m (inl refl))))
     (subst (λ (l : List Status). IsAmong l r) (sym (those_append (λ (s : Status). s.id == id) first second))
     (⊎_elim
-    (λ one. among_left (of_group id first) (of_group id second) r (of_listed (said decoded_status image m.slot 6) (says m.slot 6 one)))
-    (λ two. among_right (of_group id first) (of_group id second) r (of_listed (said decoded_status image m.slot 8) (says m.slot 8 two))) has))
+    (λ one. among_left (of_group id first) (of_group id second) r (of_listed (body_says decoded_status image m.slot 6) (says m.slot 6 one)))
+    (λ two. among_right (of_group id first) (of_group id second) r (of_listed (body_says decoded_status image m.slot 8) (says m.slot 8 two))) has))
   where
-    of_listed : (o : Option (Option Status)) → o ≡ Some (Some r) → IsAmong (of_group id (listed o)) r
-    of_listed o is = subst (λ (p : Option (Option Status)). IsAmong (of_group id (listed p)) r) (sym is)
+    of_listed : (o : Option (Option Status)) → o ≡ Some (Some r) → IsAmong (of_group id (none_or_one o)) r
+    of_listed o is = subst (λ (p : Option (Option Status)). IsAmong (of_group id (none_or_one p)) r) (sym is)
         (subst (λ (l : List Status). IsAmong l r) (sym (cond-true (r.id == id) (r ∷ []) [] (eq-eqb r.id id group))) (inl refl))
 
-    says : (slot gate : ℕ) → shown image slot gate ≡ Some (status_spelling r) → said decoded_status image slot gate ≡ Some (Some r)
+    says : (slot gate : ℕ) → shown_block image slot gate ≡ Some (status_spelling r) → body_says decoded_status image slot gate ≡ Some (Some r)
     says slot gate is = ap (λ (o : Option (List ℕ)). option_map decoded_status o) is ∙ ap (λ (o : Option Status). Some o) (status_codec.again r allowed)
 
 -- ---- what stays

@@ -9,8 +9,8 @@ use Rattle.bay.specs.State.{BayState}
 use Rattle.bay.specs.Moments.{Runs}
 use Rattle.bay.proofs.Images.{window-same}
 use Rattle.gate_slot.specs.Slot.{is_open_in}
-use Rattle.asm_images.specs.Bridge.{shown}
-use Rattle.status_register.specs.Places.{place_at}
+use Rattle.asm_images.specs.Bridge.{shown_block}
+use Rattle.status_register.specs.Places.{gated_block_at}
 use Rattle.bay.specs.Told.{Told}
 use Rattle.status_register.specs.Slots.{ShowBoth, claim_gate, first_gate, gate_by, next_gate, number_in, other_gate, second_gate, status_gate}
 use Rattle.status_register.specs.declared.places.SlotPair.{SlotPair}
@@ -18,29 +18,29 @@ use Rattle.status_register.specs.declared.places.SlotPair.TheVariants.{Claims, R
 use Rattle.status_register.proofs.Telling.{SameBytes}
 
 -- disks with the same bytes show the same
-pub same_shown : (slot gate : ℕ) (x y : Image) → SameBytes slot x y → shown y slot gate ≡ shown x slot gate
+pub same_shown : (slot gate : ℕ) (x y : Image) → SameBytes slot x y → shown_block y slot gate ≡ shown_block x slot gate
 same_shown slot gate x y same = λ i. if same (gate * 4096) i == 165 then Some (body i) else None
   where
     body : window (y.byte slot) ((gate + 1) * 4096) 4096 ≡ window (x.byte slot) ((gate + 1) * 4096) 4096
     body = window-same (x.byte slot) (y.byte slot) ((gate + 1) * 4096) 4096 (λ k low high. same k)
 
 module _ (slot gate sector : ℕ) where
-  pub shut_body : (s t : BayState) → ForSome s.holds (λ image. false ≡ is_open_in (place_at gate sector) slot image) → Told s t (λ image. None ≡ shown image slot gate)
+  pub shut_body : (s t : BayState) → ForSome s.holds (λ image. false ≡ is_open_in (gated_block_at gate sector) slot image) → Told s t (λ image. None ≡ shown_block image slot gate)
   shut_body s t shut = λ now holds image was. sym (cond-false (image.byte slot (gate * 4096) == 165) (Some (window (image.byte slot) ((gate + 1) * 4096) 4096)) None (sym (shut image was)))
 
-  pub open_body : (s m t : BayState) {early later : ℕ → Type 0} (bytes : List ℕ) (n : ℕ) → n ≡ 4096 → ForSome s.holds (λ image. true ≡ is_open_in (place_at gate sector) slot image)
+  pub open_body : (s m t : BayState) {early later : ℕ → Type 0} (bytes : List ℕ) (n : ℕ) → n ≡ 4096 → ForSome s.holds (λ image. true ≡ is_open_in (gated_block_at gate sector) slot image)
       → Runs early Same s m → Runs later Same m t → ForSome m.holds (λ image. bytes ≡ window (image.byte slot) ((gate + 1) * 4096) n)
-      → Told s t (λ image. Some bytes ≡ shown image slot gate)
+      → Told s t (λ image. Some bytes ≡ shown_block image slot gate)
   open_body s m t bytes n len is_open first next read = λ now holds image was.
       let mid = next.held now holds in
       let start = first.held mid.0 mid.1 in
       let is : start.0 ≡ image = same_Some start.0 image (sym start.1 ∙ was) in
       let body : window (mid.0.byte slot) ((gate + 1) * 4096) 4096 ≡ window (start.0.byte slot) ((gate + 1) * 4096) 4096 =
       window-same (start.0.byte slot) (mid.0.byte slot) ((gate + 1) * 4096) 4096 (λ k low high. start.2.byte slot k) in
-      let there : Some bytes ≡ shown start.0 slot gate =
+      let there : Some bytes ≡ shown_block start.0 slot gate =
       ap (λ (l : List ℕ). Some l) (read mid.0 mid.1 ∙ (ap (λ (k : ℕ). window (mid.0.byte slot) ((gate + 1) * 4096) k) len ∙ body))
       ∙ sym (cond-true (start.0.byte slot (gate * 4096) == 165) (Some (window (start.0.byte slot) ((gate + 1) * 4096) 4096)) None (sym (is_open start.0 start.1))) in
-      subst (λ (i : Image). Some bytes ≡ shown i slot gate) is there
+      subst (λ (i : Image). Some bytes ≡ shown_block i slot gate) is there
 
 -- ---- the next gates
 

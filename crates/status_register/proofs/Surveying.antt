@@ -12,16 +12,16 @@ use Rattle.asm_images.specs.Bridge.{disk_bytes}
 use Rattle.asm_images.proofs.Bridges.{bytes_are_listed}
 use Rattle.asm_images.specs.Members.{claims_of_group, of_group}
 use Rattle.asm_images.specs.Register.{greatest}
-use Rattle.status_register.specs.Slots.{ShowBoth, said}
+use Rattle.status_register.specs.Slots.{ShowBoth, body_says}
 use Rattle.status_register.specs.Surveys.{disk_in, greatest_epoch}
 use Rattle.status_register.specs.Tallies.{SlotsSay}
 use Rattle.status_register.specs.declared.places.SlotPair.TheVariants.{Claims, Records}
-use Rattle.status_register.specs.Sayings.{damage_in, listed, spoiled}
+use Rattle.status_register.specs.Sayings.{damage_in, none_or_one, spoiled}
 
 -- ---- one slot
 
 module _ {A : Type 0} (decoded : List ℕ → Option A) where
-  listed_by : (b : Bool) (w : List ℕ) → (if b then decoded w ∷ [] else []) ≡ listed (option_map decoded (if b then Some w else None))
+  listed_by : (b : Bool) (w : List ℕ) → (if b then decoded w ∷ [] else []) ≡ none_or_one (option_map decoded (if b then Some w else None))
   listed_by true w = refl
   listed_by false w = refl
 
@@ -40,20 +40,20 @@ module _ {A : Type 0} (decoded : List ℕ → Option A) where
     body_is : block (disk_bytes image slot) (k + 1) ≡ window (image.byte slot) ((k + 1) * 4096) 4096
     body_is = (bytes_are_listed image slot).2 ((k + 1) * 4096) 4096 (omega (arith, long))
 
-    pub slot_says : in_slot decoded (disk_bytes image slot) k ≡ listed (said decoded image slot k)
+    pub slot_says : in_slot decoded (disk_bytes image slot) k ≡ none_or_one (body_says decoded image slot k)
     slot_says = (λ i. if gate_is i then decoded (body_is i) ∷ [] else []) ∙ listed_by (image.byte slot (k * 4096) == 165) (window (image.byte slot) ((k + 1) * 4096) 4096)
 
-    pub slot_spoiled : is_spoiled decoded (disk_bytes image slot) k ≡ spoiled (said decoded image slot k)
+    pub slot_spoiled : is_spoiled decoded (disk_bytes image slot) k ≡ spoiled (body_says decoded image slot k)
     slot_spoiled = (λ i. gate_is i && not (is_some (decoded (body_is i)))) ∙ spoiled_by (image.byte slot (k * 4096) == 165) (window (image.byte slot) ((k + 1) * 4096) 4096)
 
 -- ---- one disk
 
 module _ (image : Image) (slot : ℕ) (long : 40960 ≤ image.size slot) where
-  pub claims_said : (disk_in image slot).claims ≡ listed (said decoded_claim image slot 2) ++ listed (said decoded_claim image slot 4)
+  pub claims_said : (disk_in image slot).claims ≡ none_or_one (body_says decoded_claim image slot 2) ++ none_or_one (body_says decoded_claim image slot 4)
   unfolding metadata
   claims_said = λ i. slot_says decoded_claim image slot 2 (omega (arith, long)) i ++ slot_says decoded_claim image slot 4 (omega (arith, long)) i
 
-  pub statuses_said : (disk_in image slot).statuses ≡ listed (said decoded_status image slot 6) ++ listed (said decoded_status image slot 8)
+  pub statuses_said : (disk_in image slot).statuses ≡ none_or_one (body_says decoded_status image slot 6) ++ none_or_one (body_says decoded_status image slot 8)
   unfolding metadata
   statuses_said = λ i. slot_says decoded_status image slot 6 (omega (arith, long)) i ++ slot_says decoded_status image slot 8 (omega (arith, long)) i
 
@@ -66,21 +66,21 @@ module _ (image : Image) (slot : ℕ) (long : 40960 ≤ image.size slot) where
   damage_by false false false false = refl
 
   pub damage_said : body_damage (disk_bytes image slot)
-      ≡ option_or (damage_in Claims (said decoded_claim image slot 2) (said decoded_claim image slot 4)) (damage_in Records (said decoded_status image slot 6) (said decoded_status image slot 8))
+      ≡ option_or (damage_in Claims (body_says decoded_claim image slot 2) (body_says decoded_claim image slot 4)) (damage_in Records (body_says decoded_status image slot 6) (body_says decoded_status image slot 8))
   unfolding body_damage
   damage_said =
       (λ i. option_map (λ k. k + 1) (option_or
       (if slot_spoiled decoded_claim image slot 2 (omega (arith, long)) i then Some 2 else (if slot_spoiled decoded_claim image slot 4 (omega (arith, long)) i then Some 4 else None))
       (if slot_spoiled decoded_status image slot 6 (omega (arith, long)) i then Some 6 else (if slot_spoiled decoded_status image slot 8 (omega (arith, long)) i then Some 8 else None))))
-      ∙ damage_by (spoiled (said decoded_claim image slot 2)) (spoiled (said decoded_claim image slot 4)) (spoiled (said decoded_status image slot 6)) (spoiled (said decoded_status image slot 8))
+      ∙ damage_by (spoiled (body_says decoded_claim image slot 2)) (spoiled (body_says decoded_claim image slot 4)) (spoiled (body_says decoded_status image slot 6)) (spoiled (body_says decoded_status image slot 8))
 
   -- what the bodies in the slots say
   module _ (c d : Option (List ℕ)) (claims : ShowBoth Claims slot c d image) (r q : Option (List ℕ)) (records : ShowBoth Records slot r q image) (id : ℕ) where
-    claims_are : (disk_in image slot).claims ≡ listed (option_map decoded_claim c) ++ listed (option_map decoded_claim d)
-    claims_are = claims_said ∙ sym (λ i. listed (option_map decoded_claim (claims.first i)) ++ listed (option_map decoded_claim (claims.second i)))
+    claims_are : (disk_in image slot).claims ≡ none_or_one (option_map decoded_claim c) ++ none_or_one (option_map decoded_claim d)
+    claims_are = claims_said ∙ sym (λ i. none_or_one (option_map decoded_claim (claims.first i)) ++ none_or_one (option_map decoded_claim (claims.second i)))
 
-    statuses_are : (disk_in image slot).statuses ≡ listed (option_map decoded_status r) ++ listed (option_map decoded_status q)
-    statuses_are = statuses_said ∙ sym (λ i. listed (option_map decoded_status (records.first i)) ++ listed (option_map decoded_status (records.second i)))
+    statuses_are : (disk_in image slot).statuses ≡ none_or_one (option_map decoded_status r) ++ none_or_one (option_map decoded_status q)
+    statuses_are = statuses_said ∙ sym (λ i. none_or_one (option_map decoded_status (records.first i)) ++ none_or_one (option_map decoded_status (records.second i)))
 
     damage_is : body_damage (disk_bytes image slot)
         ≡ option_or (damage_in Claims (option_map decoded_claim c) (option_map decoded_claim d)) (damage_in Records (option_map decoded_status r) (option_map decoded_status q))
@@ -90,10 +90,10 @@ module _ (image : Image) (slot : ℕ) (long : 40960 ≤ image.size slot) where
 
     pub slots_say : (c_says d_says : Option (Option Claim)) (r_says q_says : Option (Option Status)) → c_says ≡ option_map decoded_claim c → d_says ≡ option_map decoded_claim d
         → r_says ≡ option_map decoded_status r → q_says ≡ option_map decoded_status q → (epoch : ℕ) (status : Option Status) (block : Option ℕ)
-        → epoch ≡ greatest_epoch (claims_of_group id (listed c_says ++ listed d_says)) → status ≡ greatest (of_group id (listed r_says ++ listed q_says))
+        → epoch ≡ greatest_epoch (claims_of_group id (none_or_one c_says ++ none_or_one d_says)) → status ≡ greatest (of_group id (none_or_one r_says ++ none_or_one q_says))
         → block ≡ option_or (damage_in Claims c_says d_says) (damage_in Records r_says q_says) → SlotsSay id slot epoch status block image
     slots_say c_says d_says r_says q_says c_is d_is r_is q_is epoch status block epoch_is status_is block_is = record {
-      epoch_is = ap (λ (cs : List (Option Claim)). greatest_epoch (claims_of_group id cs)) (claims_are ∙ sym (λ i. listed (c_is i) ++ listed (d_is i))) ∙ sym epoch_is;
-      status_is = ap (λ (rs : List (Option Status)). greatest (of_group id rs)) (statuses_are ∙ sym (λ i. listed (r_is i) ++ listed (q_is i))) ∙ sym status_is;
+      epoch_is = ap (λ (cs : List (Option Claim)). greatest_epoch (claims_of_group id cs)) (claims_are ∙ sym (λ i. none_or_one (c_is i) ++ none_or_one (d_is i))) ∙ sym epoch_is;
+      status_is = ap (λ (rs : List (Option Status)). greatest (of_group id rs)) (statuses_are ∙ sym (λ i. none_or_one (r_is i) ++ none_or_one (q_is i))) ∙ sym status_is;
       damage_is = damage_is ∙ (sym (λ i. option_or (damage_in Claims (c_is i) (d_is i)) (damage_in Records (r_is i) (q_is i))) ∙ sym block_is);
     }

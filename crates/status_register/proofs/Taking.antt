@@ -8,9 +8,9 @@ use Rattle.bay.specs.State.{BayState}
 use Rattle.bay.specs.Moments.{Runs, Ends, Joins}
 use Rattle.bay.proofs.Calls.{stops, both_done}
 use Rattle.asm_formats.specs.Among.{IsAmong}
-use Rattle.asm_images.specs.Bridge.{shown}
+use Rattle.asm_images.specs.Bridge.{shown_block}
 use Rattle.status_register.specs.Slots.{MayPutNext, PutsNext, first_gate, next_gate, number_in, other_gate, second_gate, status_gate}
-use Rattle.status_register.specs.Rows.{HasBody, HaveBody, Takes, AreApart}
+use Rattle.status_register.specs.Rows.{HasBody, HaveBody, TakesMember, HaveOwnSlots}
 use Rattle.status_register.specs.Surveys.{AreRead, none_yet, one_read, one_failed}
 use Rattle.status_register.specs.declared.member.Member.{Member}
 use Rattle.status_register.specs.declared.places.SlotPair.{SlotPair}
@@ -49,7 +49,7 @@ place_of [] (suc i) n d h = absurd h
 place_of (m ∷ ms) (suc i) n d (inl same) = (0, omega arith, omega arith, same)
 place_of (m ∷ ms) (suc i) n d (inr h) = let p = place_of ms i n d h in (suc p.0, omega (arith, p.1), omega (arith, p.2), p.3)
 
-pub earlier_slot : (ms : List Member) (i : ℕ) (d n : Member) → AreApart ms → i < length ms → IsAmong (take i ms) n → n.slot ≢ (get_or ms i d).slot
+pub earlier_slot : (ms : List Member) (i : ℕ) (d n : Member) → HaveOwnSlots ms → i < length ms → IsAmong (take i ms) n → n.slot ≢ (get_or ms i d).slot
 earlier_slot ms i d n apart lt h same =
     let p = place_of ms i n d h in
     absurd (omega (arith, p.1, apart p.0 i d p.2 lt (sym (ap (λ (k : Member). k.slot) p.3) ∙ same)))
@@ -65,7 +65,7 @@ pub next_gate_either : (pair : SlotPair) (id slot : ℕ) (image : Image) → (ne
 next_gate_either pair id slot image = ⊎_elim
     (λ is. inl (next_gate_by pair id slot image ∙ is))
     (λ is. inr (next_gate_by pair id slot image ∙ is))
-    (either_gate (first_gate pair) (second_gate pair) (number_in pair id (shown image slot (first_gate pair))) (number_in pair id (shown image slot (second_gate pair))))
+    (either_gate (first_gate pair) (second_gate pair) (number_in pair id (shown_block image slot (first_gate pair))) (number_in pair id (shown_block image slot (second_gate pair))))
 
 pub status_gate_either : (id slot : ℕ) (image : Image) → (status_gate id slot image ≡ 6) ⊎ (status_gate id slot image ≡ 8)
 status_gate_either id = next_gate_either Records id
@@ -73,7 +73,7 @@ status_gate_either id = next_gate_either Records id
 -- ---- one more
 
 module _ (gate_of : ℕ → Image → ℕ) (first second : ℕ) (either : (slot : ℕ) (image : Image) → (gate_of slot image ≡ first) ⊎ (gate_of slot image ≡ second)) (body : List ℕ) (m : Member) where
-  other_shown : (slot gate k : ℕ) (y z : Image) → slot ≢ m.slot → ChangesOnly (Range m.slot (k * 4096) (2 * 4096)) y z → shown z slot gate ≡ shown y slot gate
+  other_shown : (slot gate k : ℕ) (y z : Image) → slot ≢ m.slot → ChangesOnly (Range m.slot (k * 4096) (2 * 4096)) y z → shown_block z slot gate ≡ shown_block y slot gate
   other_shown slot gate k y z differ step = same_shown slot gate y z (λ j. step.byte slot j (λ inside. differ inside.0))
 
   still_has : (slot k : ℕ) (y z : Image) → slot ≢ m.slot → ChangesOnly (Range m.slot (k * 4096) (2 * 4096)) y z → HasBody first second body slot y → HasBody first second body slot z
@@ -88,10 +88,10 @@ module _ (gate_of : ℕ → Image → ℕ) (first second : ℕ) (either : (slot 
     one_more x y z have step n h = ⊎_elim
         (λ before. still_has n.slot (gate_of m.slot y) y z (apart n before) step.elsewhere (have n before))
         (λ same. subst (λ (k : Member). HasBody first second body k.slot z) (sym same)
-        (⊎_elim (λ is. inl (subst (λ (g : ℕ). shown z m.slot g ≡ Some body) is step.shows)) (λ is. inr (subst (λ (g : ℕ). shown z m.slot g ≡ Some body) is step.shows)) (either m.slot y)))
+        (⊎_elim (λ is. inl (subst (λ (g : ℕ). shown_block z m.slot g ≡ Some body) is step.shows)) (λ is. inr (subst (λ (g : ℕ). shown_block z m.slot g ≡ Some body) is step.shows)) (either m.slot y)))
         (last_or_before took m n h)
 
-    pub takes_more : {s t u : BayState} {slots : ℕ → Type 0} (new : List Member) → Takes gate_of m body took new t u → Runs slots (MayPutNext gate_of m.slot body) t u
+    pub takes_more : {s t u : BayState} {slots : ℕ → Type 0} (new : List Member) → TakesMember gate_of m body took new t u → Runs slots (MayPutNext gate_of m.slot body) t u
         → Ends (HaveBody first second body took) s t → Ends (HaveBody first second body new) s u
     takes_more {s} {t} {u} new takes run before = ⊎_elim
         (λ failed. subst (λ (l : List Member). Ends (HaveBody first second body l) s u) (sym failed.1) (both_done kept_all before (stops run)))
@@ -99,7 +99,7 @@ module _ (gate_of : ℕ → Image → ℕ) (first second : ℕ) (either : (slot 
         takes
 
 module _ (s t u : BayState) {early later : ℕ → Type 0} {step more : Image → Image → Type 0} (first : Runs early step s t) (next : Runs later more t u) (gate_of : ℕ → Image → ℕ) (m : Member) (body : List ℕ) (took new : List Member)
-    (takes : Takes gate_of m body took new t u) where
+    (takes : TakesMember gate_of m body took new t u) where
   rose_on : (slot : ℕ) → RoseAt s t slot → RoseAt s u slot
   rose_on slot rose = omega (arith, rose, next.faults slot)
 
@@ -118,7 +118,7 @@ module _ (s t u : BayState) {early later : ℕ → Type 0} {step more : Image �
 pub none_have : (s : BayState) (first second : ℕ) (body : List ℕ) → Ends (HaveBody first second body []) s s
 none_have s first second body = record { held = λ image holds. (image, holds, λ n h. absurd h); now = λ image left. (image, left, λ n h. absurd h) }
 
-pub takes_few : (t u : BayState) (gate_of : ℕ → Image → ℕ) (m : Member) (body : List ℕ) (old new : List Member) → Takes gate_of m body old new t u → length new ≤ length old + 1
+pub takes_few : (t u : BayState) (gate_of : ℕ → Image → ℕ) (m : Member) (body : List ℕ) (old new : List Member) → TakesMember gate_of m body old new t u → length new ≤ length old + 1
 takes_few t u gate_of m body old new takes = ⊎_elim
     (λ failed. omega (arith, ap length failed.1))
     (λ took_it. omega (arith, ap length took_it.1, length-append old (m ∷ [])))

@@ -14,8 +14,8 @@ use Rattle.asm_images.specs.Bridge.{disk_bytes}
 use Rattle.asm_images.specs.Members.{claims_of_group, of_group}
 use Rattle.asm_images.specs.Register.{greatest}
 use Rattle.bay.specs.Told.{Told}
-use Rattle.status_register.specs.Surveys.{AreRead, none_yet, one_read, one_failed, Says, greatest_epoch}
-use Rattle.status_register.specs.Tallies.{Adds, HaveSlots, SlotsSay}
+use Rattle.status_register.specs.Surveys.{AreRead, none_yet, one_read, one_failed, DisksSay, greatest_epoch}
+use Rattle.status_register.specs.Tallies.{TalliesMember, HaveSlots, SlotsSay}
 use Rattle.status_register.specs.Places.{HasSlots}
 use Rattle.status_register.specs.declared.member.Member.{Member}
 use Rattle.status_register.specs.declared.tally.Tally.{Tally}
@@ -45,7 +45,7 @@ same_says id slot epoch status block x y same says =
       damage_is = ap body_damage bytes ∙ says.damage_is;
     }
 
-module _ (s m t : BayState) {early later : ℕ → Type 0} (first : Runs early Same s m) (next : Runs later Same m t) (id : ℕ) (member : Member) (old new : Tally) (adds : Adds id member m t old new) where
+module _ (s m t : BayState) {early later : ℕ → Type 0} (first : Runs early Same s m) (next : Runs later Same m t) (id : ℕ) (member : Member) (old new : Tally) (adds : TalliesMember id member m t old new) where
   rose_on : (slot : ℕ) → RoseAt s m slot → RoseAt s t slot
   rose_on slot rose = omega (arith, rose, next.faults slot)
 
@@ -66,14 +66,14 @@ module _ (s m t : BayState) {early later : ℕ → Type 0} (first : Runs early S
       (λ found. subst (λ (y : Tally). length y.read ≤ length old.read + 1) (sym found.4) (omega (arith, length-append old.read (member ∷ []))))
       adds
 
-  pub adds_says : Told s m (Says id old.read old.epoch old.status old.damage) → Told s t (Says id new.read new.epoch new.status new.damage)
+  pub adds_says : Told s m (DisksSay id old.read old.epoch old.status old.damage) → Told s t (DisksSay id new.read new.epoch new.status new.damage)
   adds_says told =
-      let before = told_later s m t (Says id old.read old.epoch old.status old.damage) next told in
+      let before = told_later s m t (DisksSay id old.read old.epoch old.status old.damage) next told in
       ⊎_elim
-      (λ failed. subst (λ (y : Tally). Told s t (Says id y.read y.epoch y.status y.damage)) (sym failed.1) before)
+      (λ failed. subst (λ (y : Tally). Told s t (DisksSay id y.read y.epoch y.status y.damage)) (sym failed.1) before)
       (λ found.
       let says = told_before s m t (SlotsSay id member.slot found.0 found.1 found.2) first next (same_says id member.slot found.0 found.1 found.2) found.3 in
-      subst (λ (y : Tally). Told s t (Says id y.read y.epoch y.status y.damage)) (sym found.4)
+      subst (λ (y : Tally). Told s t (DisksSay id y.read y.epoch y.status y.damage)) (sym found.4)
       (λ now holds image was. let so = says now holds image was in says_more id image old.read member (before now holds image was) so.epoch_is so.status_is so.damage_is))
       adds
 

@@ -12,7 +12,7 @@ use Rattle.bay.proofs.Images.{same-trans}
 use Rattle.bay.proofs.OneCall.{joined}
 use Rattle.status_register.specs.Places.{HasSlots}
 use Rattle.bay.specs.Told.{Told}
-use Rattle.status_register.specs.Slots.{FoundGate}
+use Rattle.status_register.specs.Slots.{FoundNextGate}
 
 module _ (s m t : BayState) (P : Image → Type 0) {slots : ℕ → Type 0} {step : Image → Image → Type 0} where
   -- what was told is told later
@@ -55,7 +55,7 @@ module _ (m t : BayState) {slot : ℕ} {later : ℕ → Type 0} (gate_of : Image
   held_gate : (image : Image) → t.holds ≡ Some image → gate_of image ≡ gate
   held_gate image holds = let mid = next.held image holds in depends mid.0 image (λ k. mid.2.byte slot k) ∙ told image holds mid.0 mid.1
 
-  pub gate_found : {s : BayState} {slots : ℕ → Type 0} → IsSound t → Durable slot m → Runs slots Same s t → Ends (FoundGate gate_of gate) s t
+  pub gate_found : {s : BayState} {slots : ℕ → Type 0} → IsSound t → Durable slot m → Runs slots Same s t → Ends (FoundNextGate gate_of gate) s t
   gate_found {s} sound durable whole =
       let settled : Durable slot t = still_durable (λ x y k same. same.byte slot k) next durable in
       record {

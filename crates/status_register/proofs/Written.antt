@@ -20,12 +20,12 @@ use Rattle.asm_images.specs.Register.{Fits, current_records, base}
 use Rattle.asm_images.specs.Steps.{IsLast}
 use Rattle.asm_images.proofs.Recording.{begin_history, current_split}
 use Rattle.asm_images.proofs.Sharing.{current_share, follower_shares, follows_itself, has_base, shares_itself}
-use Rattle.status_register.specs.History.{FitsIn}
+use Rattle.status_register.specs.History.{FitsHistory}
 use Rattle.status_register.specs.Holders.{attached_to, numbered, HoldSlots}
-use Rattle.status_register.specs.Keeping.{EpochStands, HasHistory, HasNoRecord, Keeps, KeepsOn, IsSurveyOf, FitsWith, KeepsFromClaim, IsReady}
+use Rattle.status_register.specs.Keeping.{EpochStands, HasHistory, HasNoRecord, FitsRegister, KeepsOn, IsSurveyOf, FitsWith, KeepsFromClaim, IsRegisterReady}
 use Rattle.status_register.specs.Registered.{Registered, AreNumbered, IsClaimAnswer, claim_of, registered}
 use Rattle.status_register.specs.Answers.{Surveyed}
-use Rattle.status_register.specs.Rows.{HaveClaim, HaveStatus, PutsRow, AreApart}
+use Rattle.status_register.specs.Rows.{HaveClaim, HaveStatus, PutsRow, HaveOwnSlots}
 use Rattle.status_register.specs.Slots.{claim_gate, status_gate}
 use Rattle.status_register.specs.SurveyLaws.{IsMemberOn}
 use Rattle.status_register.specs.Surveys.{missing}
@@ -84,7 +84,7 @@ value_shares id ms completed begun fits g r counts follows s (inr here) = curren
 
 -- The record is the last that was begun, and the epoch stands on enough members for another one.
 pub record IsBegun (slots id epoch : ℕ) (r g : Status) (ms : List Member) (others : Member → Type 0) (completed : Option Status) (begun : List Status) (image : bay.Image) : Type 0 where
-  pub fits : FitsIn slots id completed begun image
+  pub fits : FitsHistory slots id completed begun image
   pub last : IsLast completed begun r
   pub inside : (m : Member) → IsAmong ms m → m.slot < slots
   pub members : (m : Member) → others m → IsMemberOn slots id image m
@@ -108,7 +108,7 @@ begun_leaves {on} slots id epoch r g ms others completed begun s t allowed sound
 module _ (s t : BayState) (sound : IsSound s) (old : Registered) (next : Status) (allowed : IsTrue (is_status (numbered old next))) (group : next.id ≡ old.value.id) (follows : Follows old.value next)
     (fresh : old.is_fresh ≡ true → sets next ≡ sets old.value) (hold : HoldSlots s old.members) {on : ℕ → Type 0}
     (run : Runs on (PutsRow (status_gate old.id) (attached_to old.members next) (status_spelling (numbered old next))) s t)
-    (slots : ℕ) (completed : Option Status) (begun : List Status) (room : old.turn + 1 < 2 ^ 64) (keeps : Keeps slots old completed begun s) where
+    (slots : ℕ) (completed : Option Status) (begun : List Status) (room : old.turn + 1 < 2 ^ 64) (keeps : FitsRegister slots old completed begun s) where
   abbrev r : Status
   r = numbered old next
 
@@ -127,7 +127,7 @@ module _ (s t : BayState) (sound : IsSound s) (old : Registered) (next : Status)
   above : (x : Status) → IsAmong (current_records completed begun) x → rank x < rank r
   above x h = omega (arith, keeps.continues.below x h, room)
 
-  follows_base : (image : bay.Image) → FitsIn slots old.id completed begun image → (v : Status) → base completed begun ≡ Some v → Follows v r
+  follows_base : (image : bay.Image) → FitsHistory slots old.id completed begun image → (v : Status) → base completed begun ≡ Some v → Follows v r
   follows_base image fits v is = ⊎_elim
       (λ (yes_fresh : old.is_fresh ≡ true). same_follows old.id (all_members old.id (disks_in slots image)) completed begun fits v old.value r is keeps.continues.counts (fresh yes_fresh))
       (λ (written : old.is_fresh ≡ false). subst (λ (u : Status). Follows u r) (same_Some old.value v (sym (ap (λ (o : Option Status). base o begun) (keeps.continues.holds written)) ∙ is)) follows)
@@ -151,7 +151,7 @@ module _ (s t : BayState) (sound : IsSound s) (old : Registered) (next : Status)
   moments : LeavesOnly s t (HasHistory slots old completed later)
   moments = leaves_less (λ image b. record { fits = b.fits; members = λ i m is. b.members m (i, is); claimed = b.stands }) moments_begun
 
-  after_dead : (dead : Dead) → Keeps slots (after_write old next (Err dead)) completed later t
+  after_dead : (dead : Dead) → FitsRegister slots (after_write old next (Err dead)) completed later t
   after_dead dead = record {
     continues = record {
       group = keeps.continues.group;
@@ -166,7 +166,7 @@ module _ (s t : BayState) (sound : IsSound s) (old : Registered) (next : Status)
   group_is = group ∙ keeps.continues.group
 
   after_ok : (failed : ℕ) (took : List Member) → ((m : Member) → IsAmong took m → IsAmong ms m) → Ends (HaveStatus (status_spelling r) took) s t → missing took (Some r) ≡ None
-      → Keeps slots (after_write old next (Ok failed)) (Some r) [] t
+      → FitsRegister slots (after_write old next (Ok failed)) (Some r) [] t
   after_ok failed took kept done enough = record {
     continues = record { group = group_is; counts = inl refl; holds = λ is. refl; below = λ x h. ⊎_elim (λ (same : x ≡ r). omega (arith, ap rank same)) (λ none. absurd none) h };
     now = record {
@@ -209,10 +209,10 @@ module _ (s t : BayState) (sound : IsSound s) (r : Status) (allowed : IsTrue (is
   first_moments = begun_leaves slots r.id r.epoch r r (first_holders r ms) (IsAmong ms) None (r ∷ []) s t allowed sound (λ m h. have m (first_among r ms small m h)) run
       (record { now = λ image left. first_begins image (before.now image left) })
 
-  pub first_fits : LeavesOnly s t (FitsIn slots r.id None (r ∷ []))
+  pub first_fits : LeavesOnly s t (FitsHistory slots r.id None (r ∷ []))
   first_fits = leaves_less (λ image b. b.fits) first_moments
 
-  pub first_completed : Ends (HaveStatus (status_spelling r) (first_holders r ms)) s t → missing (first_holders r ms) (Some r) ≡ None → Keeps slots (first_register r ms) (Some r) [] t
+  pub first_completed : Ends (HaveStatus (status_spelling r) (first_holders r ms)) s t → missing (first_holders r ms) (Some r) ≡ None → FitsRegister slots (first_register r ms) (Some r) [] t
   first_completed done enough = record {
     continues = record { group = refl; counts = inl refl; holds = λ is. refl; below = λ x h. ⊎_elim (λ (same : x ≡ r). omega (arith, ap rank same)) (λ none. absurd none) h };
     now = record {
@@ -237,7 +237,7 @@ module _ (s t : BayState) (sound : IsSound s) (survey : Surveyed) (allowed : IsT
 
   claim_keeps : (slots : ℕ) (completed : Option Status) (begun : List Status) → IsSurveyOf slots survey completed begun → NowOnly s (FitsWith slots survey.id survey.members completed begun)
       → (took : List Member) → ((m : Member) → IsAmong took m → IsAmong survey.members m) → Ends (HaveClaim (claim_spelling (claim_of survey)) took) s t → missing took (Some survey.value) ≡ None
-      → Keeps slots (registered survey) completed begun t
+      → FitsRegister slots (registered survey) completed begun t
   claim_keeps slots completed begun is before took kept done enough = record {
     continues = record { group = is.group; counts = is.counts; holds = λ written. absurd (false≢true (sym written)); below = λ x h. let low = is.below x h in omega (arith, low.0, low.1) };
     now = record {
@@ -260,9 +260,9 @@ module _ (s t : BayState) (sound : IsSound s) (survey : Surveyed) (allowed : IsT
 
   pub kept_claim : (answer : Result Registered SurveyError) → IsClaimAnswer survey answer s t → KeepsFromClaim survey answer s t
   kept_claim (Err refusal) answered slots completed begun is before = tt
-  kept_claim (Ok register) answered slots completed begun is before = subst (λ (r : Registered). Keeps slots r completed begun t) (sym answered.3.1)
+  kept_claim (Ok register) answered slots completed begun is before = subst (λ (r : Registered). FitsRegister slots r completed begun t) (sym answered.3.1)
       (claim_keeps slots completed begun is before answered.0 (kept_among (RoseAt s t) survey.members answered.0 answered.1) answered.2 answered.3.0)
 
-  pub ready_claim : AreApart survey.members → KeepsAttached s t → (answer : Result Registered SurveyError) → IsClaimAnswer survey answer s t → IfOk answer (λ register. IsReady register t)
+  pub ready_claim : HaveOwnSlots survey.members → KeepsAttached s t → (answer : Result Registered SurveyError) → IsClaimAnswer survey answer s t → IfOk answer (λ register. IsRegisterReady register t)
   ready_claim apart keeps (Err refusal) answered = tt
   ready_claim apart keeps (Ok register) answered = places_ready survey.value.entries survey.members small s t register (ap (λ (r : Registered). r.members) answered.3.1) have apart keeps

@@ -21,9 +21,9 @@ pub record Surveyed : Type 0 where
   pub epoch : ℕ
 
 -- a refusal, by what a set falls short of, by the record that is to hold and by the first damage: a majority is asked for first
-abbrev pub IsRefusal : SurveyError → Option (ℕ × ℕ) → Option Status → Option (ℕ × ℕ) → Type 0
-IsRefusal (NoMajority seen need) lacking status damage = lacking ≡ Some (seen, need)
-IsRefusal (Damaged slot block gone) lacking status damage = (lacking ≡ None) × (damage ≡ Some (slot, block)) × (option_map (λ (r : Status). r.gone) status ≡ Some gone)
+abbrev pub IsSurveyRefusal : SurveyError → Option (ℕ × ℕ) → Option Status → Option (ℕ × ℕ) → Type 0
+IsSurveyRefusal (NoMajority seen need) lacking status damage = lacking ≡ Some (seen, need)
+IsSurveyRefusal (Damaged slot block gone) lacking status damage = (lacking ≡ None) × (damage ≡ Some (slot, block)) × (option_map (λ (r : Status). r.gone) status ≡ Some gone)
 
 -- The members that were read make the answer: the greatest record they hold, where they are a majority of each of its sets and all that must decode does.
 pub record IsValue (id : ℕ) (ms read : List Member) (epoch : ℕ) (status : Option Status) (damage : Option (ℕ × ℕ)) (survey : Surveyed) : Type 0 where
@@ -38,7 +38,7 @@ pub record IsValue (id : ℕ) (ms read : List Member) (epoch : ℕ) (status : Op
 abbrev pub IsAnswer : ℕ → List Member → List Member → ℕ → Option Status → Option (ℕ × ℕ) → Result Surveyed SurveyError → Type 0
 IsAnswer id ms read epoch status damage answer = MatchResult answer
     (λ survey. IsValue id ms read epoch status damage survey)
-    (λ refusal. IsRefusal refusal (missing read status) status damage)
+    (λ refusal. IsSurveyRefusal refusal (missing read status) status damage)
 
 -- the answer by a tally
 abbrev pub Judges : ℕ → List Member → Tally → Result Surveyed SurveyError → Type 0

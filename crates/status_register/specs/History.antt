@@ -7,5 +7,5 @@ use Rattle.asm_images.specs.Members.{all_members}
 use Rattle.asm_images.specs.Register.{Fits}
 
 -- The disks of the first slots fit the history: the record that was last completed, and those begun after it.
-abbrev pub FitsIn : ℕ → ℕ → Option Status → List Status → Image → Type 0
-FitsIn slots id completed begun image = Fits id (all_members id (disks_in slots image)) completed begun
+abbrev pub FitsHistory : ℕ → ℕ → Option Status → List Status → Image → Type 0
+FitsHistory slots id completed begun image = Fits id (all_members id (disks_in slots image)) completed begun

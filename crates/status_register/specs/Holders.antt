@@ -6,12 +6,12 @@ use Rattle.asm_formats.specs.Among.{IsAmong}
 use Rattle.asm_formats.specs.Sets.{has_bit}
 use Rattle.asm_formats.specs.Status.{Status, Entry, entry_of}
 use Rattle.status_register.specs.Places.{HasSlots}
-use Rattle.status_register.specs.Registered.{Registered, is_birth}
+use Rattle.status_register.specs.Registered.{Registered, is_same_birth}
 use Rattle.status_register.specs.declared.member.Member.{Member}
 
 -- the member is the disk of its number's entry
 abbrev pub is_of : List Entry → Member → Bool
-is_of entries m = is_birth (option_map (λ (e : Entry). e.birth) (entry_of entries m.number)) m.birth
+is_of entries m = is_same_birth (option_map (λ (e : Entry). e.birth) (entry_of entries m.number)) m.birth
 
 -- the member in the place of a number, where it is one of the disks of the record's sets
 abbrev pub holder_in : Status → ℕ → Option Member → List Member

@@ -11,7 +11,7 @@ use Rattle.asm_formats.specs.Following.{rank}
 use Rattle.asm_images.specs.Members.{claims_of_group, of_group}
 use Rattle.asm_images.specs.Register.{current_records}
 use Rattle.status_register.specs.Answers.{Surveyed}
-use Rattle.status_register.specs.History.{FitsIn}
+use Rattle.status_register.specs.History.{FitsHistory}
 use Rattle.status_register.specs.Holders.{numbered, HoldSlots, SlotsDiffer}
 use Rattle.status_register.specs.Registered.{Registered, next_epoch}
 use Rattle.status_register.specs.SurveyLaws.{IsMemberOn}
@@ -42,34 +42,34 @@ pub record Continues (register : Registered) (completed : Option Status) (begun 
 
 -- The image fits the history: the attached disks are members, and the epoch of the register stands.
 pub record HasHistory (slots : ℕ) (register : Registered) (completed : Option Status) (begun : List Status) (image : Image) : Type 0 where
-  pub fits : FitsIn slots register.id completed begun image
+  pub fits : FitsHistory slots register.id completed begun image
   pub members : (i : ℕ) (m : Member) → get_or register.members i None ≡ Some m → IsMemberOn slots register.id image m
   pub claimed : EpochStands slots register.id register.epoch register.value image
 
 -- each image that a stop now may leave fits the history, as the register keeps it
-pub record Keeps (slots : ℕ) (register : Registered) (completed : Option Status) (begun : List Status) (state : BayState) : Type 0 where
+pub record FitsRegister (slots : ℕ) (register : Registered) (completed : Option Status) (begun : List Status) (state : BayState) : Type 0 where
   pub continues : Continues register completed begun
   pub now : NowOnly state (HasHistory slots register completed begun)
 
 -- Over a write each image of each moment fits the history in which the record is begun. Once a set was given, the record is completed.
 pub record KeepsOn (old : Registered) (next : Status) (answer : Result ℕ Dead) (new : Registered) (s t : BayState) (slots : ℕ) (completed : Option Status) (begun : List Status) : Type 0 where
   pub moments : LeavesOnly s t (HasHistory slots old completed (begun ++ numbered old next ∷ []))
-  pub after : MatchResult answer (λ failed. Keeps slots new (Some new.value) [] t) (λ dead. Keeps slots new completed (begun ++ numbered old next ∷ []) t)
+  pub after : MatchResult answer (λ failed. FitsRegister slots new (Some new.value) [] t) (λ dead. FitsRegister slots new completed (begun ++ numbered old next ∷ []) t)
 
 abbrev pub KeepsWritten : Registered → Status → Result ℕ Dead → Registered → BayState → BayState → Type 0
 KeepsWritten old next answer new s t =
-    (slots : ℕ) (completed : Option Status) (begun : List Status) → old.turn + 1 < 2 ^ 64 → Keeps slots old completed begun s → KeepsOn old next answer new s t slots completed begun
+    (slots : ℕ) (completed : Option Status) (begun : List Status) → old.turn + 1 < 2 ^ 64 → FitsRegister slots old completed begun s → KeepsOn old next answer new s t slots completed begun
 
 -- ---- how a history begins
 
 -- the image fits the history, and these disks are members
 pub record FitsWith (slots id : ℕ) (ms : List Member) (completed : Option Status) (begun : List Status) (image : Image) : Type 0 where
-  pub fits : FitsIn slots id completed begun image
+  pub fits : FitsHistory slots id completed begun image
   pub members : (m : Member) → IsAmong ms m → IsMemberOn slots id image m
 
 -- before the first record: no record of the group is there, and its epoch stands
 pub record HasNoRecord (slots : ℕ) (r : Status) (ms : List Member) (image : Image) : Type 0 where
-  pub fits : FitsIn slots r.id None [] image
+  pub fits : FitsHistory slots r.id None [] image
   pub members : (m : Member) → IsAmong ms m → IsMemberOn slots r.id image m
   pub claimed : EpochStands slots r.id r.epoch r image
 
@@ -84,8 +84,8 @@ MayBeFirst id epoch ms s t =
 
 -- Over the first record each image of each moment fits the history in which it is begun. In the end it is completed.
 pub record KeepsFirst (r : Status) (answer : Result Registered Dead) (s t : BayState) (slots : ℕ) : Type 0 where
-  pub moments : LeavesOnly s t (FitsIn slots r.id None (r ∷ []))
-  pub after : IfOk answer (λ register. Keeps slots register (Some r) [] t)
+  pub moments : LeavesOnly s t (FitsHistory slots r.id None (r ∷ []))
+  pub after : IfOk answer (λ register. FitsRegister slots register (Some r) [] t)
 
 abbrev pub KeepsFromFirst : Status → List Member → Result Registered Dead → BayState → BayState → Type 0
 KeepsFromFirst r ms answer s t =
@@ -94,7 +94,7 @@ KeepsFromFirst r ms answer s t =
 -- Where each image fits the history in which the register's record is complete, the register keeps it.
 abbrev pub KeepsStanding : Registered → BayState → Type 0
 KeepsStanding register s =
-    (slots : ℕ) → NowOnly s (HasHistory slots register (Some register.value) []) → Keeps slots register (Some register.value) [] s
+    (slots : ℕ) → NowOnly s (HasHistory slots register (Some register.value) []) → FitsRegister slots register (Some register.value) [] s
 
 -- before a claim: the surveyed record counts, and the next epoch is above all that count
 pub record IsSurveyOf (slots : ℕ) (survey : Surveyed) (completed : Option Status) (begun : List Status) : Type 0 where
@@ -106,9 +106,9 @@ pub record IsSurveyOf (slots : ℕ) (survey : Surveyed) (completed : Option Stat
 abbrev pub KeepsFromClaim : Surveyed → Result Registered SurveyError → BayState → BayState → Type 0
 KeepsFromClaim survey answer s t =
     (slots : ℕ) (completed : Option Status) (begun : List Status) → IsSurveyOf slots survey completed begun → NowOnly s (FitsWith slots survey.id survey.members completed begun)
-    → IfOk answer (λ register. Keeps slots register completed begun t)
+    → IfOk answer (λ register. FitsRegister slots register completed begun t)
 
 -- the register may be written: its members have slots of their own
-pub record IsReady (register : Registered) (state : BayState) : Type 0 where
+pub record IsRegisterReady (register : Registered) (state : BayState) : Type 0 where
   pub slots : HoldSlots state register.members
   pub apart : SlotsDiffer register.members

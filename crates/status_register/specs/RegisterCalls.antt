@@ -9,7 +9,7 @@ use Rattle.asm_formats.specs.Claim.{claim_spelling}
 use Rattle.asm_formats.specs.Status.{Status, is_status, status_spelling}
 use Rattle.status_register.specs.Answers.{IsSurveyed, Surveyed}
 use Rattle.status_register.specs.Holders.{attached_to, numbered}
-use Rattle.status_register.specs.Keeping.{IsReady, KeepsFromClaim, KeepsFromFirst, KeepsNoRecord, KeepsStanding, KeepsWritten, MayBeFirst}
+use Rattle.status_register.specs.Keeping.{IsRegisterReady, KeepsFromClaim, KeepsFromFirst, KeepsNoRecord, KeepsStanding, KeepsWritten, MayBeFirst}
 use Rattle.status_register.specs.Reaching.{Reaches}
 use Rattle.status_register.specs.Registered.{IsClaimAnswer, KeepsHistory, Registered, claim_of}
 use Rattle.status_register.specs.Rows.{CallsInOrder, HaveClaim, PutsRow, cost_of_puts}
@@ -66,7 +66,7 @@ pub record ClaimsNext (survey : Surveyed) (result : Result Registered SurveyErro
   -- at each moment the disks fit the history that they did
   pub history : KeepsHistory survey s t
   -- the register may be written
-  pub ready : IfOk result (λ register. IsReady register t)
+  pub ready : IfOk result (λ register. IsRegisterReady register t)
   -- the attached disks are enough for its record
   pub reaches : IfOk result (λ register. Reaches register.members register.value)
   -- it keeps the history that the disks fit
@@ -92,11 +92,11 @@ pub record HasSurveyed (id : ℕ) (ms : List Member) (result : Result Surveyed S
 -- ---- records
 
 -- The register is that of a record that stands on members.
-pub record IsStanding (r : Status) (ms : List Member) (new : Registered) (s : BayState) : Type 0 where
+pub record IsStandingRegister (r : Status) (ms : List Member) (new : Registered) (s : BayState) : Type 0 where
   -- those of the members that are disks of the record's entries are attached
   pub register : new ≡ first_register r ms
   -- it may be written
-  pub ready : IsReady new s
+  pub ready : IsRegisterReady new s
   -- where the members are enough for the record, the attached ones are
   pub reaches : missing ms (Some r) ≡ None → Reaches new.members new.value
   -- where each image that a stop may leave fits the history in which the record is complete, the
@@ -109,7 +109,7 @@ pub record WritesFirst (r : Status) (ms : List Member) (result : Result Register
   -- those of the members that are disks of the record's entries are attached
   pub register : IfOk result (λ new. new ≡ first_register r ms)
   -- the register may be written
-  pub ready : IfOk result (λ new. IsReady new t)
+  pub ready : IfOk result (λ new. IsRegisterReady new t)
   -- where the members are enough for the record, the attached ones are
   pub reaches : IfOk result (λ new. missing ms (Some r) ≡ None → Reaches new.members new.value)
   -- at Ok each holder of the record shows it

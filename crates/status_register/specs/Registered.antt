@@ -7,8 +7,8 @@ use Rattle.bay.specs.Moments.{Ends, NowOnly, LeavesOnly}
 use Rattle.asm_formats.specs.Among.{IsAmong}
 use Rattle.asm_formats.specs.Claim.{Claim, claim_spelling}
 use Rattle.asm_formats.specs.Status.{Status, Entry, entry_of}
-use Rattle.status_register.specs.Answers.{Surveyed, IsRefusal}
-use Rattle.status_register.specs.History.{FitsIn}
+use Rattle.status_register.specs.Answers.{Surveyed, IsSurveyRefusal}
+use Rattle.status_register.specs.History.{FitsHistory}
 use Rattle.status_register.specs.Rows.{HaveClaim}
 use Rattle.status_register.specs.Surveys.{AreRead, missing}
 use Rattle.status_register.specs.declared.member.Member.{Member}
@@ -24,17 +24,17 @@ pub record Registered : Type 0 where
   pub turn : ℕ
   pub is_fresh : Bool
 
-abbrev pub is_birth : Option ℕ → ℕ → Bool
-is_birth None birth = false
-is_birth (Some b) birth = b == birth
+abbrev pub is_same_birth : Option ℕ → ℕ → Bool
+is_same_birth None birth = false
+is_same_birth (Some b) birth = b == birth
 
 -- a member takes its number's place, if it is the disk of the entry
-abbrev pub placed : List Entry → List (Option Member) → Member → List (Option Member)
-placed entries places m = if is_birth (option_map (λ (e : Entry). e.birth) (entry_of entries m.number)) m.birth then set places m.number (Some m) else places
+abbrev pub with_member_in_place : List Entry → List (Option Member) → Member → List (Option Member)
+with_member_in_place entries places m = if is_same_birth (option_map (λ (e : Entry). e.birth) (entry_of entries m.number)) m.birth then set places m.number (Some m) else places
 
 abbrev pub all_placed : List Entry → List (Option Member) → List Member → List (Option Member)
 all_placed entries places [] = places
-all_placed entries places (m ∷ ms) = all_placed entries (placed entries places m) ms
+all_placed entries places (m ∷ ms) = all_placed entries (with_member_in_place entries places m) ms
 
 -- the number of each of the members is one of a disk
 abbrev pub AreNumbered : List Member → Type 0
@@ -65,7 +65,7 @@ IsClaimAnswer survey answer s t =
     × Ends (HaveClaim (claim_spelling (claim_of survey)) took) s t
     × MatchResult answer
     (λ register. (missing took (Some survey.value) ≡ None) × (register ≡ registered survey))
-    (λ refusal. IsRefusal refusal (missing took (Some survey.value)) (Some survey.value) None)
+    (λ refusal. IsSurveyRefusal refusal (missing took (Some survey.value)) (Some survey.value) None)
 
 -- each of the members is in one of the first slots
 abbrev pub AreBelow : ℕ → List Member → Type 0
@@ -74,5 +74,5 @@ AreBelow slots ms = (m : Member) → IsAmong ms m → m.slot < slots
 -- Where each image that a stop may leave fits a history, so does each image of each moment of the call.
 abbrev pub KeepsHistory : Surveyed → BayState → BayState → Type 0
 KeepsHistory survey s t =
-    (slots : ℕ) (completed : Option Status) (begun : List Status) → AreBelow slots survey.members → NowOnly s (FitsIn slots survey.id completed begun)
-    → LeavesOnly s t (FitsIn slots survey.id completed begun)
+    (slots : ℕ) (completed : Option Status) (begun : List Status) → AreBelow slots survey.members → NowOnly s (FitsHistory slots survey.id completed begun)
+    → LeavesOnly s t (FitsHistory slots survey.id completed begun)

@@ -6,7 +6,7 @@ use Rattle.bay.specs.Counts.{Rose}
 use Rattle.bay.specs.Moments.{Ends, Runs}
 use Rattle.bay.specs.Calls.{Cost, cost, Calls}
 use Rattle.asm_formats.specs.Among.{IsAmong}
-use Rattle.asm_images.specs.Bridge.{shown}
+use Rattle.asm_images.specs.Bridge.{shown_block}
 use Rattle.status_register.specs.Slots.{MayPutNext, PutsNext, first_gate, next_gate, second_gate}
 use Rattle.status_register.specs.Surveys.{AreRead}
 use Rattle.status_register.specs.Tallies.{IsSlotOf}
@@ -44,7 +44,7 @@ CallsInOrder gate_of ms body s t =
 
 -- one of the two slots of a disk shows the body
 abbrev pub HasBody : ℕ → ℕ → List ℕ → ℕ → Image → Type 0
-HasBody first second body slot image = (shown image slot first ≡ Some body) ⊎ (shown image slot second ≡ Some body)
+HasBody first second body slot image = (shown_block image slot first ≡ Some body) ⊎ (shown_block image slot second ≡ Some body)
 
 -- each of these disks shows the body, whatever it showed before
 abbrev pub HaveBody : ℕ → ℕ → List ℕ → List Member → Image → Image → Type 0
@@ -77,9 +77,9 @@ abbrev pub HaveStatus : List ℕ → List Member → Image → Image → Type 0
 HaveStatus body took old new = HaveBody (first_gate Records) (second_gate Records) body took old new
 
 -- one member more: left out where its slot failed, and else its disk shows the body
-abbrev pub Takes : (ℕ → Image → ℕ) → Member → List ℕ → List Member → List Member → BayState → BayState → Type 0
-Takes gate_of m body old new s t = (Rose (s.faults m.slot) (t.faults m.slot) × (new ≡ old)) ⊎ (Ends (PutsNext gate_of m.slot body) s t × (new ≡ old ++ m ∷ []))
+abbrev pub TakesMember : (ℕ → Image → ℕ) → Member → List ℕ → List Member → List Member → BayState → BayState → Type 0
+TakesMember gate_of m body old new s t = (Rose (s.faults m.slot) (t.faults m.slot) × (new ≡ old)) ⊎ (Ends (PutsNext gate_of m.slot body) s t × (new ≡ old ++ m ∷ []))
 
 -- no two of the members have one slot
-abbrev pub AreApart : List Member → Type 0
-AreApart ms = (i j : ℕ) (d : Member) → i < length ms → j < length ms → (get_or ms i d).slot ≡ (get_or ms j d).slot → i ≡ j
+abbrev pub HaveOwnSlots : List Member → Type 0
+HaveOwnSlots ms = (i j : ℕ) (d : Member) → i < length ms → j < length ms → (get_or ms i d).slot ≡ (get_or ms j d).slot → i ≡ j

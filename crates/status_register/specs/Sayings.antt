@@ -5,19 +5,19 @@ use Rattle.status_register.specs.Slots.{first_gate, second_gate}
 use Rattle.status_register.specs.declared.places.SlotPair.{SlotPair}
 
 -- what there is
-abbrev pub listed : {A : Type 0} → Option A → List A
-listed None = []
-listed (Some x) = x ∷ []
+abbrev pub none_or_one : {A : Type 0} → Option A → List A
+none_or_one None = []
+none_or_one (Some x) = x ∷ []
 
 -- a record of the formats, where there is one
-abbrev pub IsAllowed : Option Status → Type 0
-IsAllowed None = ⊤
-IsAllowed (Some r) = IsTrue (is_status r)
+abbrev pub IsAllowedStatus : Option Status → Type 0
+IsAllowedStatus None = ⊤
+IsAllowedStatus (Some r) = IsTrue (is_status r)
 
 -- the same of what stands behind a gate, where it is open
 abbrev pub ShowsAllowed : Option (Option Status) → Type 0
 ShowsAllowed None = ⊤
-ShowsAllowed (Some o) = IsAllowed o
+ShowsAllowed (Some o) = IsAllowedStatus o
 
 -- a record of the group, where there is one, is one of the formats
 abbrev pub IsOwnRecord : ℕ → Option Status → Type 0

@@ -14,7 +14,7 @@ use Rattle.status_register.specs.Slots.{claim_gate, status_gate}
 use Rattle.asm_images.specs.Bridge.{disk_bytes, disks_in}
 use Rattle.asm_images.specs.Members.{all_members, within}
 use Rattle.asm_images.specs.Register.{base, is_enough, HasEpoch, current_records, greatest}
-use Rattle.status_register.specs.History.{FitsIn}
+use Rattle.status_register.specs.History.{FitsHistory}
 use Rattle.status_register.specs.Rows.{HasClaim, HasStatus, PutsRow}
 use Rattle.status_register.specs.Surveys.{records_on, missing, claims_on, greatest_epoch}
 use Rattle.status_register.specs.declared.member.Member.{Member}
@@ -36,14 +36,14 @@ slots_of ms slot = list_any (λ (m : Member). m.slot == slot) ms
 -- it is the record that was last completed, or one begun after it.
 abbrev pub SurveyedRecordCounts : Type 0
 SurveyedRecordCounts =
-    (slots id : ℕ) (completed : Option Status) (begun : List Status) (image : Image) (read : List Member) (r : Status) → FitsIn slots id completed begun image
+    (slots id : ℕ) (completed : Option Status) (begun : List Status) (image : Image) (read : List Member) (r : Status) → FitsHistory slots id completed begun image
     → ((m : Member) → IsAmong read m → IsMemberOn slots id image m)
     → greatest (records_on id image read) ≡ Some r → missing read (Some r) ≡ None → IsAmong (current_records completed begun) r
 
 -- An epoch above all that a survey read, of claims and of its greatest record, is above that of every record that counts.
-abbrev pub SurveyedEpochIsAbove : Type 0
-SurveyedEpochIsAbove =
-    (slots id : ℕ) (completed : Option Status) (begun : List Status) (image : Image) (read : List Member) (r : Status) (epoch : ℕ) → FitsIn slots id completed begun image
+abbrev pub EpochPassesCurrentRecords : Type 0
+EpochPassesCurrentRecords =
+    (slots id : ℕ) (completed : Option Status) (begun : List Status) (image : Image) (read : List Member) (r : Status) (epoch : ℕ) → FitsHistory slots id completed begun image
     → ((m : Member) → IsAmong read m → IsMemberOn slots id image m)
     → greatest (records_on id image read) ≡ Some r → missing read (Some r) ≡ None → greatest_epoch (claims_on id image read) < epoch → r.epoch < epoch
     → (s : Status) → IsAmong (current_records completed begun) s → s.epoch < epoch
@@ -52,7 +52,7 @@ SurveyedEpochIsAbove =
 -- one of the claimed epoch that follows, sees the epoch: such a record may be begun.
 abbrev pub ShownClaimIsSeen : Type 0
 ShownClaimIsSeen =
-    (slots id : ℕ) (completed : Option Status) (begun : List Status) (image : Image) (took : List Member) (g r : Status) → FitsIn slots id completed begun image
+    (slots id : ℕ) (completed : Option Status) (begun : List Status) (image : Image) (took : List Member) (g r : Status) → FitsHistory slots id completed begun image
     → ((m : Member) → IsAmong took m → IsMemberOn slots id image m) → IsTrue (is_claim (record { id = id; epoch = r.epoch }))
     → ((m : Member) → IsAmong took m → HasClaim (claim_spelling (record { id = id; epoch = r.epoch })) m.slot image)
     → IsAmong (current_records completed begun) g → missing took (Some g) ≡ None → ((v : Status) → base completed begun ≡ Some v → Follows v r)
@@ -64,14 +64,14 @@ abbrev pub StoredRecordsFit : Type 0
 StoredRecordsFit =
     (slots id : ℕ) (completed : Option Status) (begun : List Status) (r : Status) (ms : List Member) (x y : Image) → IsLast completed begun r → IsTrue (is_status r)
     → ((m : Member) → IsAmong ms m → m.slot < slots) → ((m : Member) → IsAmong ms m → least_size ≤ x.size m.slot)
-    → PutsRow (status_gate id) ms (status_spelling r) x y → FitsIn slots id completed begun x → FitsIn slots id completed begun y
+    → PutsRow (status_gate id) ms (status_spelling r) x y → FitsHistory slots id completed begun x → FitsHistory slots id completed begun y
 
 -- While a claim is put on members, the image fits the history.
 abbrev pub StoredClaimsFit : Type 0
 StoredClaimsFit =
     (slots id : ℕ) (completed : Option Status) (begun : List Status) (c : Claim) (ms : List Member) (x y : Image) → IsTrue (is_claim c)
     → ((m : Member) → IsAmong ms m → m.slot < slots) → ((m : Member) → IsAmong ms m → least_size ≤ x.size m.slot)
-    → PutsRow (claim_gate id) ms (claim_spelling c) x y → FitsIn slots id completed begun x → FitsIn slots id completed begun y
+    → PutsRow (claim_gate id) ms (claim_spelling c) x y → FitsHistory slots id completed begun x → FitsHistory slots id completed begun y
 
 -- Disks that are members stay so while a claim, or a record, is put on some.
 abbrev pub ClaimsKeepMembers : Type 0
@@ -89,15 +89,15 @@ RecordsKeepMembers =
 -- A record of a claimed epoch is begun: where a majority of each set of a record that counts shows its claim, it follows and its number is above all that count.
 abbrev pub ClaimedRecordBegins : Type 0
 ClaimedRecordBegins =
-    (slots id : ℕ) (completed : Option Status) (begun : List Status) (image : Image) (took : List Member) (g r : Status) → FitsIn slots id completed begun image
+    (slots id : ℕ) (completed : Option Status) (begun : List Status) (image : Image) (took : List Member) (g r : Status) → FitsHistory slots id completed begun image
     → ((m : Member) → IsAmong took m → IsMemberOn slots id image m) → IsTrue (is_claim (record { id = id; epoch = r.epoch }))
     → ((m : Member) → IsAmong took m → HasClaim (claim_spelling (record { id = id; epoch = r.epoch })) m.slot image)
     → IsAmong (current_records completed begun) g → missing took (Some g) ≡ None → ((v : Status) → base completed begun ≡ Some v → Follows v r)
-    → IsTrue (is_status r) → ((s : Status) → IsAmong (current_records completed begun) s → rank s < rank r) → FitsIn slots id completed (begun ++ r ∷ []) image
+    → IsTrue (is_status r) → ((s : Status) → IsAmong (current_records completed begun) s → rank s < rank r) → FitsHistory slots id completed (begun ++ r ∷ []) image
 
 -- Once the last record stands on members that are enough for it, it is the one that was last completed, and no other counts.
 abbrev pub StoredRecordCompletes : Type 0
 StoredRecordCompletes =
-    (slots id : ℕ) (completed : Option Status) (begun : List Status) (image : Image) (took : List Member) (r : Status) → FitsIn slots id completed begun image → IsLast completed begun r
+    (slots id : ℕ) (completed : Option Status) (begun : List Status) (image : Image) (took : List Member) (r : Status) → FitsHistory slots id completed begun image → IsLast completed begun r
     → IsTrue (is_status r) → r.id ≡ id → ((m : Member) → IsAmong took m → IsMemberOn slots id image m)
-    → ((m : Member) → IsAmong took m → HasStatus (status_spelling r) m.slot image) → missing took (Some r) ≡ None → FitsIn slots id (Some r) [] image
+    → ((m : Member) → IsAmong took m → HasStatus (status_spelling r) m.slot image) → missing took (Some r) ≡ None → FitsHistory slots id (Some r) [] image

@@ -43,12 +43,12 @@ pub data AreRead (failed : ℕ → Type 0) : List Member → List Member → Typ
 -- ---- majorities
 
 -- the disk is one of these
-abbrev pub is_there : List Member → Holder → Bool
-is_there ms h = list_any (λ (m : Member). (m.number == h.0) && (m.birth == h.1)) ms
+abbrev pub is_holder_there : List Member → Holder → Bool
+is_holder_there ms h = list_any (λ (m : Member). (m.number == h.0) && (m.birth == h.1)) ms
 
 -- how many disks of a set are among these
 unfoldable pub seen_of : List Member → List Holder → ℕ
-seen_of ms set = length (filter (is_there ms) set)
+seen_of ms set = length (filter (is_holder_there ms) set)
 
 -- of the first set without a majority among these how many are there, and how many are needed
 abbrev pub shortfall : List Member → List (List Holder) → Option (ℕ × ℕ)
@@ -68,7 +68,7 @@ greater_of None other = other
 greater_of (Some r) other = greater r other
 
 -- the slots of these disks say this
-pub record Says (id : ℕ) (ms : List Member) (epoch : ℕ) (status : Option Status) (damage : Option (ℕ × ℕ)) (image : Image) : Type 0 where
+pub record DisksSay (id : ℕ) (ms : List Member) (epoch : ℕ) (status : Option Status) (damage : Option (ℕ × ℕ)) (image : Image) : Type 0 where
   pub epoch_is : greatest_epoch (claims_on id image ms) ≡ epoch
   pub status_is : greatest (records_on id image ms) ≡ status
   pub damage_is : first_damage image ms ≡ damage

@@ -14,7 +14,7 @@ use Rattle.asm_images.specs.Register.{greatest}
 use Rattle.status_register.specs.Places.{HasSlots}
 use Rattle.bay.specs.Told.{Told}
 use Rattle.status_register.specs.Sayings.{IsOwnRecord}
-use Rattle.status_register.specs.Surveys.{AreRead, Says, disk_in, greatest_epoch, greater_of}
+use Rattle.status_register.specs.Surveys.{AreRead, DisksSay, disk_in, greatest_epoch, greater_of}
 use Rattle.status_register.specs.declared.member.Member.{Member}
 use Rattle.status_register.specs.declared.tally.Tally.{Tally}
 
@@ -33,8 +33,8 @@ pub record SlotsSay (id slot epoch : ℕ) (status : Option Status) (block : Opti
   pub damage_is : body_damage (disk_bytes image slot) ≡ block
 
 -- the tally after one member more: unchanged where its slot failed
-abbrev pub Adds : ℕ → Member → BayState → BayState → Tally → Tally → Type 0
-Adds id m s t old new =
+abbrev pub TalliesMember : ℕ → Member → BayState → BayState → Tally → Tally → Type 0
+TalliesMember id m s t old new =
     (Rose (s.faults m.slot) (t.faults m.slot) × (new ≡ old))
     ⊎ ((epoch : ℕ) × (status : Option Status) × (block : Option ℕ) × Told s t (SlotsSay id m.slot epoch status block)
     × (new ≡ record { read = old.read ++ m ∷ []; epoch = max old.epoch epoch; status = greater_of old.status status; damage = option_or old.damage (option_map (λ b. (m.slot, b)) block) }))
@@ -46,6 +46,6 @@ pub record ReadsMembers (id : ℕ) (ms : List Member) (result : Tally) (s t : Ba
   -- the record is one of the formats and of the group, whatever the disks hold
   pub own : IsOwnRecord id result.status
   -- the tally is what those that were read say
-  pub says : Told s t (Says id result.read result.epoch result.status result.damage)
+  pub says : Told s t (DisksSay id result.read result.epoch result.status result.damage)
   -- nothing is written
   pub calls : Calls (IsSlotOf ms) Same (cost (8 * length ms) 0) s t

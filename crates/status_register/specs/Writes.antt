@@ -34,7 +34,7 @@ pub record IsLostOf (ms took : List Member) (set : List Holder) (disk : Member) 
   pub not_taken : is_one_of took disk ≡ false
 
 -- the member is lost to one of a record's sets
-pub record IsLost (ms took : List Member) (all : List (List Holder)) (disk : Member) : Type 0 where
+pub record IsLostMember (ms took : List Member) (all : List (List Holder)) (disk : Member) : Type 0 where
   pub set : List Holder
   pub of_record : IsAmong all set
   pub lost : IsLostOf ms took set disk
@@ -46,7 +46,7 @@ IsWriteAnswer ms r answer s t =
     × Ends (HaveStatus (status_spelling r) took) s t
     × MatchResult answer
     (λ failed. (missing took (Some r) ≡ None) × IsFailed ms took failed)
-    (λ dead. (disk : Member) × IsLost ms took (sets r) disk × (dead.slot ≡ disk.slot) × Rose (s.faults dead.slot) (t.faults dead.slot))
+    (λ dead. (disk : Member) × IsLostMember ms took (sets r) disk × (dead.slot ≡ disk.slot) × Rose (s.faults dead.slot) (t.faults dead.slot))
 
 -- each of these disks that isn't in the set shows the record
 abbrev pub ShowBut : List Member → ℕ → Status → Image → Image → Type 0

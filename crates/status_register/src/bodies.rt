@@ -3,7 +3,7 @@ ghost use Rattle.std.specs.Prelude.{◌≡◌, ◌≤◌};
 ghost use Rattle.std.specs.Option.{option_map};
 ghost use Rattle.asm_formats.specs.Claim.{decoded_claim};
 ghost use Rattle.asm_formats.specs.Status.{decoded_status};
-ghost use Rattle.asm_images.specs.Bridge.{shown};
+ghost use Rattle.asm_images.specs.Bridge.{shown_block};
 ghost use Rattle.bay.specs.Image.{Same};
 ghost use Rattle.bay.specs.Calls.{Call, cost};
 ghost use Rattle.status_register.specs.Places.{HasSlots};
@@ -21,7 +21,7 @@ fn read_body<B: Bay>(bay: &mut B, slot: u32, gate: u64, sector: u32) -> Result<O
     requires slots { HasSlots (B.state bay.old) slot sector }
     requires gate { gate ≤ 8 }
     ensures { Call result slot Same
-        (λ body s t. Told s t (λ image. option_map (λ b. b.bytes) body ≡ shown image slot gate))
+        (λ body s t. Told s t (λ image. option_map (λ b. b.bytes) body ≡ shown_block image slot gate))
         (cost 2 0) (B.state bay.old) (B.state bay.new) }
 {
     if !is_open(bay, slot, place_at(gate, sector))? {

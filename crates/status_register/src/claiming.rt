@@ -1,7 +1,7 @@
 // The claim of a group's first epoch is put on its members.
 ghost use Rattle.std.specs.Prelude.{◌≤◌, length};
 ghost use Rattle.status_register.specs.RegisterCalls.{ClaimsFirst};
-ghost use Rattle.status_register.specs.Rows.{AreApart};
+ghost use Rattle.status_register.specs.Rows.{HaveOwnSlots};
 ghost use Rattle.status_register.specs.Tallies.{HaveSlots};
 
 use crate::losses::first_failed;
@@ -17,7 +17,7 @@ use status_table::{Block, Claim, encode_claim};
 pub fn claim_first<B: Bay>(bay: &mut B, id: u64, epoch: u64, members: &[Member]) -> Result<(), Dead>
     requires slots { HaveSlots (B.state bay.old) members.now }
     requires few { length members.now ≤ 512 }
-    requires apart { AreApart members.now }
+    requires apart { HaveOwnSlots members.now }
     ensures { ClaimsFirst id epoch members.now result (B.state bay.old) (B.state bay.new) }
 {
     let mut body = Block::zeros();

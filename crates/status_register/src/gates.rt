@@ -6,7 +6,7 @@ ghost use Rattle.bay.specs.Calls.{Call, cost};
 ghost use Rattle.bay.specs.Image.{Same};
 ghost use Rattle.bay.specs.Moments.{Ends};
 ghost use Rattle.status_register.specs.Places.{HasSlots};
-ghost use Rattle.status_register.specs.Slots.{FoundGate, claim_number, next_gate, number_in, other_gate, record_number};
+ghost use Rattle.status_register.specs.Slots.{FoundNextGate, claim_number, next_gate, number_in, other_gate, record_number};
 
 use crate::bodies::{claim_in, read_both, record_in};
 use crate::places::SlotPair;
@@ -89,7 +89,7 @@ pub fn next_gate<B: Bay>(
 ) -> Result<u64, Fault>
     requires slots { HasSlots (B.state bay.old) slot sector }
     ensures small { IfOk result (λ gate. gate ≤ 8) }
-    ensures call { Call result slot Same (λ gate. Ends (FoundGate (next_gate pair id slot) gate))
+    ensures call { Call result slot Same (λ gate. Ends (FoundNextGate (next_gate pair id slot) gate))
         (cost 5 0) (B.state bay.old) (B.state bay.new) }
 {
     bay.sync(slot)?;

@@ -6,7 +6,7 @@ ghost use Rattle.bay.specs.Moments.{NowOnly, Runs, Within};
 ghost use Rattle.asm_formats.specs.Status.{Status};
 ghost use Rattle.status_register.specs.Elsewhere.{FitsStay, HistoryStays, IsApartFrom, LeavesRegister, NoRecordsFit, with_attached};
 ghost use Rattle.status_register.specs.Holders.{is_of};
-ghost use Rattle.status_register.specs.Keeping.{IsReady, Keeps};
+ghost use Rattle.status_register.specs.Keeping.{IsRegisterReady, FitsRegister};
 ghost use Rattle.status_register.specs.Places.{HasSlots};
 ghost use Rattle.status_register.specs.Reaching.{Reaches, SameSetsReach};
 ghost use Rattle.status_register.specs.Registered.{Registered};
@@ -40,9 +40,9 @@ pub fn same_sets_reach()
 pub fn register_keeps_elsewhere<B: Bay, T: Slots, S: Step>(start: &B, end: &B)
     ensures keeps { (slots : ℕ) (register : Registered) (completed : Option Status) (begun : List Status) → Within S.leads (LeavesRegister slots register.id)
         → Runs T.among S.leads (B.state start.now) (B.state end.now)
-        → Keeps slots register completed begun (B.state start.now) → Keeps slots register completed begun (B.state end.now) }
+        → FitsRegister slots register completed begun (B.state start.now) → FitsRegister slots register completed begun (B.state end.now) }
     ensures ready { (register : Registered) → KeepsAttached (B.state start.now) (B.state end.now)
-        → IsReady register (B.state start.now) → IsReady register (B.state end.now) }
+        → IsRegisterReady register (B.state start.now) → IsRegisterReady register (B.state end.now) }
 {}
 
 /// A register keeps its history with a disk more that is a member in each image that a stop may leave now. It may be written
@@ -50,9 +50,9 @@ pub fn register_keeps_elsewhere<B: Bay, T: Slots, S: Step>(start: &B, end: &B)
 pub fn attached_keeps<B: Bay>(bay: &B)
     ensures keeps { (slots : ℕ) (register : Registered) (completed : Option Status) (begun : List Status) (m : Member)
         → NowOnly (B.state bay.now) (λ image. IsMemberOn slots register.id image m)
-        → Keeps slots register completed begun (B.state bay.now) → Keeps slots (with_attached register m) completed begun (B.state bay.now) }
+        → FitsRegister slots register completed begun (B.state bay.now) → FitsRegister slots (with_attached register m) completed begun (B.state bay.now) }
     ensures ready { (register : Registered) (m : Member) → HasSlots (B.state bay.now) m.slot m.sector → IsApartFrom register m
-        → IsReady register (B.state bay.now) → IsReady (with_attached register m) (B.state bay.now) }
+        → IsRegisterReady register (B.state bay.now) → IsRegisterReady (with_attached register m) (B.state bay.now) }
     ensures reaches { (register : Registered) (m : Member) → is_of register.value.entries m ≡ true
         → Reaches register.members register.value → Reaches (with_attached register m).members register.value }
 {}

@@ -1,6 +1,6 @@
 // What a survey finds, in the words of the members of an image. Each function has an empty body: its contract is the law.
 ghost use Rattle.status_register.specs.OrderLaws.{AttachedDisksDescend, GreaterNumbersFirst, OrderedPutsAreARow};
-ghost use Rattle.status_register.specs.SurveyLaws.{ClaimedRecordBegins, ClaimsKeepMembers, RecordsKeepMembers, ShownClaimIsSeen, StoredClaimsFit, StoredRecordCompletes, StoredRecordsFit, SurveyedEpochIsAbove, SurveyedRecordCounts};
+ghost use Rattle.status_register.specs.SurveyLaws.{ClaimedRecordBegins, ClaimsKeepMembers, RecordsKeepMembers, ShownClaimIsSeen, StoredClaimsFit, StoredRecordCompletes, StoredRecordsFit, EpochPassesCurrentRecords, SurveyedRecordCounts};
 
 /// The record that a survey gives is the one that was last completed, or one begun after it.
 pub fn surveyed_record_counts()
@@ -9,7 +9,7 @@ pub fn surveyed_record_counts()
 
 /// The epoch after a survey is above those of all records that count.
 pub fn surveyed_epoch_is_above()
-    ensures { SurveyedEpochIsAbove }
+    ensures { EpochPassesCurrentRecords }
 {}
 
 /// A claim that a majority of each set shows is seen by every set that is enough, so that a record of its epoch may be begun.

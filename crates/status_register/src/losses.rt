@@ -5,7 +5,7 @@ ghost use Rattle.asm_formats.specs.Sets.{has_bit};
 ghost use Rattle.asm_formats.specs.Following.{disks_of, sets, sets_of};
 ghost use Rattle.status_register.specs.Holders.{AreHolders};
 ghost use Rattle.status_register.specs.Surveys.{missing, shortfall};
-ghost use Rattle.status_register.specs.Writes.{IsFailed, IsLost, IsLostOf, is_one_of};
+ghost use Rattle.status_register.specs.Writes.{IsFailed, IsLostMember, IsLostOf, is_one_of};
 
 use crate::Member;
 use crate::majorities::lacking;
@@ -85,7 +85,7 @@ fn lost(
 ) -> Option<Member>
     requires holders { AreHolders entries.now members.now }
     requires majority { shortfall members.now (sets_of entries.now holders next_holders) ≡ None }
-    ensures { MatchOption result (shortfall took.now (sets_of entries.now holders next_holders) ≡ None) (λ m. IsLost members.now took.now (sets_of entries.now holders next_holders) m) }
+    ensures { MatchOption result (shortfall took.now (sets_of entries.now holders next_holders) ≡ None) (λ m. IsLostMember members.now took.now (sets_of entries.now holders next_holders) m) }
 {
     match lost_of(members, took, entries, holders) {
         Some(member) => Some(member),
@@ -103,7 +103,7 @@ fn lost(
 pub fn lost_disk(members: &[Member], took: &[Member], status: &PstRecord) -> Option<Member>
     requires holders { AreHolders status.now.entries members.now }
     requires majority { missing members.now (Some status.now) ≡ None }
-    ensures { MatchOption result (missing took.now (Some status.now) ≡ None) (λ m. IsLost members.now took.now (sets status.now) m) }
+    ensures { MatchOption result (missing took.now (Some status.now) ≡ None) (λ m. IsLostMember members.now took.now (sets status.now) m) }
 {
     lost(
         members,

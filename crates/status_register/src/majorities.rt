@@ -3,7 +3,7 @@ ghost use Rattle.std.specs.Prelude.{◌≡◌, ◌≤◌, ◌<◌, ◌+◌, ◌�
 ghost use Rattle.std.specs.Option.{option_map};
 ghost use Rattle.asm_formats.specs.Status.{entry_of};
 ghost use Rattle.asm_formats.specs.Following.{disks_of, sets_of};
-ghost use Rattle.status_register.specs.Surveys.{is_there, missing, seen_of, shortfall};
+ghost use Rattle.status_register.specs.Surveys.{is_holder_there, missing, seen_of, shortfall};
 ghost use Rattle.status_register.specs.Counting.{of_disk};
 
 use crate::Member;
@@ -31,7 +31,7 @@ pub fn birth_of(entries: &[PstEntry], disk: u8) -> Option<u64>
 
 /// Whether the disk of this number and birth is one of the members.
 fn is_there(members: &[Member], number: u8, birth: u64) -> bool
-    ensures { result ≡ is_there members.now (number, birth) }
+    ensures { result ≡ is_holder_there members.now (number, birth) }
 {
     members
         .iter()

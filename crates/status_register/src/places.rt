@@ -1,6 +1,6 @@
 // The claim and status slots of a disk.
 ghost use Rattle.std.specs.Prelude.{◌≡◌, ◌≤◌};
-ghost use Rattle.status_register.specs.Places.{place_at};
+ghost use Rattle.status_register.specs.Places.{gated_block_at};
 ghost use Rattle.status_register.specs.Slots.{first_gate, second_gate};
 
 use gate_slot::Place;
@@ -40,7 +40,7 @@ impl SlotPair {
 /// The slot whose gate is in a block, with its body in the block behind it.
 pub fn place_at(gate: u64, sector: u32) -> Place
     requires { gate ≤ 8 }
-    ensures { result ≡ place_at gate sector }
+    ensures { result ≡ gated_block_at gate sector }
 {
     Place {
         gate: gate * BLOCK,

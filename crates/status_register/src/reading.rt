@@ -5,7 +5,7 @@ ghost use Rattle.asm_images.specs.Register.{greatest};
 ghost use Rattle.bay.specs.Calls.{Call, cost};
 ghost use Rattle.bay.specs.Image.{Same};
 ghost use Rattle.status_register.specs.Places.{HasSlots};
-ghost use Rattle.status_register.specs.Sayings.{IsOwnRecord, damage_in, listed, spoiled};
+ghost use Rattle.status_register.specs.Sayings.{IsOwnRecord, damage_in, none_or_one, spoiled};
 ghost use Rattle.status_register.specs.Surveys.{greater_of, greatest_epoch};
 ghost use Rattle.status_register.specs.Tallies.{SlotsSay};
 ghost use Rattle.bay.specs.Told.{Told};
@@ -27,7 +27,7 @@ pub struct Findings {
 
 /// The epoch of the group's claim in a slot, or 0.
 fn epoch_of(id: u64, said: &Option<Option<Claim>>) -> u64
-    ensures { result ≡ greatest_epoch (claims_of_group id (listed said.now)) }
+    ensures { result ≡ greatest_epoch (claims_of_group id (none_or_one said.now)) }
 {
     match said {
         Some(Some(claim)) => { if claim.id == id { claim.epoch } else { 0 } }
@@ -38,14 +38,14 @@ fn epoch_of(id: u64, said: &Option<Option<Claim>>) -> u64
 
 /// The greatest epoch of the group's claims in both slots, or 0.
 fn epoch_in_both(id: u64, first: &Option<Option<Claim>>, second: &Option<Option<Claim>>) -> u64
-    ensures { result ≡ greatest_epoch (claims_of_group id (listed first.now ++ listed second.now)) }
+    ensures { result ≡ greatest_epoch (claims_of_group id (none_or_one first.now ++ none_or_one second.now)) }
 {
     epoch_of(id, first).max(epoch_of(id, second))
 }
 
 /// The group's record in a slot.
 fn record_of(id: u64, said: Option<Option<PstRecord>>) -> Option<PstRecord>
-    ensures { result ≡ greatest (of_group id (listed said)) }
+    ensures { result ≡ greatest (of_group id (none_or_one said)) }
 {
     match said {
         Some(Some(status)) => { if status.id == id { Some(status) } else { None } }
@@ -79,7 +79,7 @@ fn record_in_both(
     first: Option<Option<PstRecord>>,
     second: Option<Option<PstRecord>>,
 ) -> Option<PstRecord>
-    ensures { result ≡ greatest (of_group id (listed first ++ listed second)) }
+    ensures { result ≡ greatest (of_group id (none_or_one first ++ none_or_one second)) }
 {
     greater_of(record_of(id, first), record_of(id, second))
 }

@@ -7,10 +7,10 @@ ghost use Rattle.asm_formats.specs.Status.{is_status};
 ghost use Rattle.status_register.specs.Elsewhere.{with_attached, without_attached};
 ghost use Rattle.status_register.specs.Holders.{HoldSlots, SlotsDiffer};
 ghost use Rattle.status_register.specs.Reaching.{Reaches};
-ghost use Rattle.status_register.specs.RegisterCalls.{ClaimsEpoch, HasWritten, IsStanding, WritesFirst};
+ghost use Rattle.status_register.specs.RegisterCalls.{ClaimsEpoch, HasWritten, IsStandingRegister, WritesFirst};
 ghost use Rattle.status_register.specs.Registered.{AreNumbered, all_placed};
-ghost use Rattle.status_register.specs.Rows.{AreApart};
-ghost use Rattle.status_register.specs.Surveys.{is_there};
+ghost use Rattle.status_register.specs.Rows.{HaveOwnSlots};
+ghost use Rattle.status_register.specs.Surveys.{is_holder_there};
 ghost use Rattle.status_register.specs.Tallies.{HaveSlots};
 
 use crate::holders::{attached_to, is_of_entry};
@@ -52,9 +52,9 @@ impl Register {
     pub fn standing<B: Bay>(bay: &B, value: &PstRecord, members: &[Member]) -> Register
         requires status { IsTrue (is_status value.now) }
         requires slots { HaveSlots (B.state bay.now) members.now }
-        requires apart { AreApart members.now }
+        requires apart { HaveOwnSlots members.now }
         requires numbers { AreNumbered members.now }
-        ensures { IsStanding value.now members.now result (B.state bay.now) }
+        ensures { IsStandingRegister value.now members.now result (B.state bay.now) }
     {
         let _bay = bay;
         Register {
@@ -121,9 +121,9 @@ impl Register {
     ) -> Result<Register, Dead>
         requires status { IsTrue (is_status value.now) }
         requires slots { HaveSlots (B.state bay.old) members.now }
-        requires apart { AreApart members.now }
+        requires apart { HaveOwnSlots members.now }
         requires numbers { AreNumbered members.now }
-        requires holders { (h : Holder) → IsAmong (disks_of value.now.entries value.now.holders) h → IsTrue (is_there members.now h) }
+        requires holders { (h : Holder) → IsAmong (disks_of value.now.entries value.now.holders) h → IsTrue (is_holder_there members.now h) }
         ensures { WritesFirst value.now members.now result (B.state bay.old) (B.state bay.new) }
     {
         let places = by_number(members, value.entries());
@@ -193,7 +193,7 @@ pub fn claim_epoch<B: Bay>(
     epoch: u64,
 ) -> Result<Register, SurveyError>
     requires slots { HaveSlots (B.state bay.old) members }
-    requires apart { AreApart members }
+    requires apart { HaveOwnSlots members }
     requires numbers { AreNumbered members }
     ensures { ClaimsEpoch (record { id = id; members = members; read = []; value = value; epoch = epoch })
         result (B.state bay.old) (B.state bay.new) }

@@ -1,9 +1,9 @@
 // A claim or a record is put on one disk, and on the members one after another.
 ghost use Rattle.std.specs.Prelude.{◌<◌, ◌≤◌, ◌+◌, ◌*◌, length};
 ghost use Rattle.bay.specs.State.{IsSlot};
-ghost use Rattle.bay.specs.Calls.{Call, Calls, Done, cost};
+ghost use Rattle.bay.specs.Calls.{Call, Calls, ChangesEachImage, cost};
 ghost use Rattle.status_register.specs.Places.{HasSlots};
-ghost use Rattle.status_register.specs.Rows.{AreApart, PutsOnAll, Takes};
+ghost use Rattle.status_register.specs.Rows.{HaveOwnSlots, PutsOnAll, TakesMember};
 ghost use Rattle.status_register.specs.Slots.{MayFill, Fills, MayPutNext, PutsNext, next_gate};
 ghost use Rattle.status_register.specs.Tallies.{HaveSlots};
 
@@ -25,7 +25,7 @@ fn fill_slot<B: Bay>(
 ) -> Result<(), Fault>
     requires slots { HasSlots (B.state bay.old) slot sector }
     requires gate { gate ≤ 8 }
-    ensures { Call result slot (MayFill gate slot body.now.bytes) (Done (Fills gate slot body.now.bytes))
+    ensures { Call result slot (MayFill gate slot body.now.bytes) (ChangesEachImage (Fills gate slot body.now.bytes))
         (cost 8 (2 * sector + 4096)) (B.state bay.old) (B.state bay.new) }
 {
     put(bay, slot, place_at(gate, sector), &body.bytes[..])
@@ -42,7 +42,7 @@ fn put_next<B: Bay>(
 ) -> Result<(), Fault>
     requires slots { HasSlots (B.state bay.old) slot sector }
     ensures { Call result slot (MayPutNext (next_gate pair id) slot body.now.bytes)
-        (Done (PutsNext (next_gate pair id) slot body.now.bytes))
+        (ChangesEachImage (PutsNext (next_gate pair id) slot body.now.bytes))
         (cost 13 (2 * sector + 4096)) (B.state bay.old) (B.state bay.new) }
 {
     let gate = next_gate(bay, pair, id, slot, sector)?;
@@ -60,7 +60,7 @@ fn put_on<B: Bay>(
 ) -> MemberList
     requires slots { HasSlots (B.state bay.old) member.slot member.sector }
     requires room { length took < 512 }
-    ensures takes { Takes (next_gate pair id) member body.now.bytes took result (B.state bay.old) (B.state bay.new) }
+    ensures takes { TakesMember (next_gate pair id) member body.now.bytes took result (B.state bay.old) (B.state bay.new) }
     ensures calls { Calls (IsSlot member.slot) (MayPutNext (next_gate pair id) member.slot body.now.bytes)
         (cost 13 (2 * member.sector + 4096)) (B.state bay.old) (B.state bay.new) }
 {
@@ -80,7 +80,7 @@ pub fn put_on_all<B: Bay>(
 ) -> MemberList
     requires slots { HaveSlots (B.state bay.old) members.now }
     requires few { length members.now ≤ 512 }
-    requires apart { AreApart members.now }
+    requires apart { HaveOwnSlots members.now }
     ensures { PutsOnAll pair id members.now body.now.bytes result (B.state bay.old) (B.state bay.new) }
 {
     let mut took = MemberList::empty();

@@ -4,7 +4,7 @@ ghost use Rattle.std.specs.Prelude.{◌≡◌, ◌≤◌, length};
 ghost use Rattle.status_register.specs.Answers.{Judges};
 ghost use Rattle.status_register.specs.RegisterCalls.{ClaimsNext, HasSurveyed};
 ghost use Rattle.status_register.specs.Registered.{AreNumbered};
-ghost use Rattle.status_register.specs.Rows.{AreApart};
+ghost use Rattle.status_register.specs.Rows.{HaveOwnSlots};
 ghost use Rattle.status_register.specs.Tallies.{HaveSlots};
 
 use crate::majorities::missing;
@@ -49,7 +49,7 @@ impl Survey {
     /// it. At each moment the disks fit the history that they did.
     pub fn claim<B: Bay>(self, bay: &mut B) -> Result<Register, SurveyError>
         requires slots { HaveSlots (B.state bay.old) self.members }
-        requires apart { AreApart self.members }
+        requires apart { HaveOwnSlots self.members }
         requires numbers { AreNumbered self.members }
         ensures { ClaimsNext self result (B.state bay.old) (B.state bay.new) }
     {

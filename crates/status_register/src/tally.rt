@@ -6,7 +6,7 @@ ghost use Rattle.bay.specs.State.{IsSlot};
 ghost use Rattle.bay.specs.Calls.{Calls, cost};
 ghost use Rattle.status_register.specs.Places.{HasSlots};
 ghost use Rattle.status_register.specs.Sayings.{IsOwnRecord};
-ghost use Rattle.status_register.specs.Tallies.{Adds, HaveSlots, ReadsMembers};
+ghost use Rattle.status_register.specs.Tallies.{TalliesMember, HaveSlots, ReadsMembers};
 
 use crate::Member;
 use crate::members::MemberList;
@@ -42,7 +42,7 @@ fn read_one<B: Bay>(bay: &mut B, id: u64, member: Member, tally: Tally) -> Tally
     requires slots { HasSlots (B.state bay.old) member.slot member.sector }
     requires room { length tally.read < 512 }
     ensures own { IsOwnRecord id tally.status → IsOwnRecord id result.status }
-    ensures adds { Adds id member (B.state bay.old) (B.state bay.new) tally result }
+    ensures adds { TalliesMember id member (B.state bay.old) (B.state bay.new) tally result }
     ensures calls { Calls (IsSlot member.slot) Same (cost 8 0) (B.state bay.old) (B.state bay.new) }
 {
     match read_slots(bay, id, member.slot, member.sector) {

@@ -2,7 +2,7 @@
 ghost use Rattle.std.specs.Prelude.{◌≡◌, ◌≤◌, length, IsTrue, None, Some};
 ghost use Rattle.asm_formats.specs.Status.{is_status, status_spelling};
 ghost use Rattle.status_register.specs.Holders.{AreHolders, HoldSlots, SlotsDiffer, attached_to};
-ghost use Rattle.status_register.specs.Rows.{AreApart, CallsInOrder};
+ghost use Rattle.status_register.specs.Rows.{HaveOwnSlots, CallsInOrder};
 ghost use Rattle.status_register.specs.Slots.{status_gate};
 ghost use Rattle.status_register.specs.Surveys.{missing};
 ghost use Rattle.status_register.specs.Tallies.{HaveSlots};
@@ -49,7 +49,7 @@ pub fn write_on_majorities<B: Bay>(
     requires status { IsTrue (is_status status.now) }
     requires slots { HaveSlots (B.state bay.old) holders.now }
     requires few { length holders.now ≤ 512 }
-    requires apart { AreApart holders.now }
+    requires apart { HaveOwnSlots holders.now }
     requires holders { AreHolders status.now.entries holders.now }
     requires majority { missing holders.now (Some status.now) ≡ None }
     ensures answer { IsWriteAnswer holders.now status.now result (B.state bay.old) (B.state bay.new) }
@@ -73,7 +73,7 @@ pub fn write_on_all<B: Bay>(
     requires status { IsTrue (is_status status.now) }
     requires slots { HaveSlots (B.state bay.old) holders.now }
     requires few { length holders.now ≤ 512 }
-    requires apart { AreApart holders.now }
+    requires apart { HaveOwnSlots holders.now }
     ensures { WritesOnAll id holders.now status.now result (B.state bay.old) (B.state bay.new) }
 {
     let body = body_of(status);

@@ -5,7 +5,7 @@ use Rattle.std.specs.List.{list_all, list_any, range_with_len, AllByRecursion}
 use Rattle.std.proofs.lemmas.Bool.{and_parts, leb-true, le-leb, ltb-true, lt-ltb}
 use Rattle.asm_formats.specs.Sets.{has_bit, elements}
 use Rattle.asm_formats.specs.Status.{Entry, Status, is_entry, ascends_from, entry_of, has_entry, have_entries, is_status}
-use Rattle.status_table.specs.Rules.{number_of, passes}
+use Rattle.status_table.specs.Rules.{number_of_entry, passes}
 
 -- ---- an entry
 
@@ -44,11 +44,11 @@ entry_is e f =
 -- ---- the entries
 
 -- entries that ascend below 64 are few
-pub few : (es : List Entry) (least : ℕ) → least ≤ 64 → list_all is_entry es ≡ true → ascends_from least (map number_of es) ≡ true → least + length es ≤ 64
+pub few : (es : List Entry) (least : ℕ) → least ≤ 64 → list_all is_entry es ≡ true → ascends_from least (map number_of_entry es) ≡ true → least + length es ≤ 64
 few [] least le all up = omega arith
 few (e ∷ es) least le all up =
     let a = and_parts (is_entry e) (list_all is_entry es) all in
-    let u = and_parts (leb least e.number) (ascends_from (e.number + 1) (map number_of es)) up in
+    let u = and_parts (leb least e.number) (ascends_from (e.number + 1) (map number_of_entry es)) up in
     let low = leb-true least e.number u.0 in
     let high = (entry_fits e a.0).number in
     let rest = few es (e.number + 1) (omega arith) a.1 u.1 in
@@ -100,14 +100,14 @@ pub record Parts (r : Status) : Type 0 where
   pub next_holders : r.next_holders < 2 ^ 64
   pub directories : r.directories < 2 ^ 64
   pub all : list_all is_entry r.entries ≡ true
-  pub up : ascends_from 0 (map number_of r.entries) ≡ true
+  pub up : ascends_from 0 (map number_of_entry r.entries) ≡ true
   pub of_holders : have_entries r.entries r.holders ≡ true
   pub of_next : have_entries r.entries r.next_holders ≡ true
   pub of_directories : have_entries r.entries r.directories ≡ true
 
 abbrev pub tests_of : Status → Bool
 tests_of r =
-    list_all is_entry r.entries && (ascends_from 0 (map number_of r.entries) && (have_entries r.entries r.holders && (have_entries r.entries r.next_holders && have_entries r.entries r.directories)))
+    list_all is_entry r.entries && (ascends_from 0 (map number_of_entry r.entries) && (have_entries r.entries r.holders && (have_entries r.entries r.next_holders && have_entries r.entries r.directories)))
 
 -- the numbers of a record are those of its types
 pub record InRange (r : Status) : Type 0 where
@@ -129,7 +129,7 @@ unfolding is_status
 parts_of r e =
     let b11 = have_entries r.entries r.next_holders && have_entries r.entries r.directories in
     let b10 = have_entries r.entries r.holders && b11 in
-    let b9 = ascends_from 0 (map number_of r.entries) && b10 in
+    let b9 = ascends_from 0 (map number_of_entry r.entries) && b10 in
     let b8 = list_all is_entry r.entries && b9 in
     let b7 = ltb r.directories (2 ^ 64) && b8 in
     let b6 = ltb r.next_holders (2 ^ 64) && b7 in
@@ -145,7 +145,7 @@ parts_of r e =
     let p6 = and_parts (ltb r.next_holders (2 ^ 64)) b7 p5.1 in
     let p7 = and_parts (ltb r.directories (2 ^ 64)) b8 p6.1 in
     let p8 = and_parts (list_all is_entry r.entries) b9 p7.1 in
-    let p9 = and_parts (ascends_from 0 (map number_of r.entries)) b10 p8.1 in
+    let p9 = and_parts (ascends_from 0 (map number_of_entry r.entries)) b10 p8.1 in
     let p10 = and_parts (have_entries r.entries r.holders) b11 p9.1 in
     let p11 = and_parts (have_entries r.entries r.next_holders) (have_entries r.entries r.directories) p10.1 in
     record {

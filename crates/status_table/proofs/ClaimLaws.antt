@@ -3,10 +3,10 @@ use Rattle.std.proofs.Common.{◌≡◌, ℕ, zero, suc, ◌^◌, ◌<◌, true,
 use Rattle.std.specs.Prelude.{codes}
 use Rattle.std.specs.Int.{w64}
 use Rattle.std.proofs.lemmas.Bool.{and_parts, ltb-true, lt-ltb}
-use Rattle.asm_formats.specs.Bytes.{number, whole_block}
+use Rattle.asm_formats.specs.Bytes.{number_bytes, whole_block}
 use Rattle.asm_formats.specs.Claim.{Claim, claim_spelling, is_claim, decoded_claim}
 use Rattle.asm_formats.proofs.Bodies.{claim_codec}
-use Rattle.asm_base.specs.Readings.{whole}
+use Rattle.asm_base.specs.Readings.{whole_reading}
 use Rattle.asm_base.proofs.Exact.{IsBytes, IsExact, both_exact, as_exact, fits_exact}
 use Rattle.asm_base.proofs.Numbers.{number_exact}
 use Rattle.asm_base.proofs.FieldLaws.{fixed_exact}
@@ -14,7 +14,7 @@ use Rattle.asm_base.proofs.Decoding.{plain_is_decoded}
 use Rattle.status_table.specs.Readings.{ClaimParts, to_claim, claim_reading}
 
 claim_fields : Claim → List ℕ
-claim_fields c = codes "ASMC" ++ (number w64 c.id ++ number w64 c.epoch)
+claim_fields c = codes "ASMC" ++ (number_bytes w64 c.id ++ number_bytes w64 c.epoch)
 
 record FitsClaim (c : Claim) : Type 0 where
   id : c.id < 2 ^ 64
@@ -48,5 +48,5 @@ fits : (c : Claim) → is_claim c ≡ true → FitsClaim c
 unfolding is_claim
 fits c e = let p = and_parts (ltb c.id (2 ^ 64)) (ltb c.epoch (2 ^ 64)) e in record { id = ltb-true _ _ p.0; epoch = ltb-true _ _ p.1 }
 
-pub claim_is_read : (bytes : List ℕ) → length bytes ≡ 4096 → IsBytes bytes → whole claim_reading bytes ≡ decoded_claim bytes
+pub claim_is_read : (bytes : List ℕ) → length bytes ≡ 4096 → IsBytes bytes → whole_reading claim_reading bytes ≡ decoded_claim bytes
 claim_is_read bytes len are = plain_is_decoded claim_exact claim_codec spelling_is allowed fits bytes len are

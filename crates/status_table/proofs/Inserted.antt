@@ -6,9 +6,9 @@ use Rattle.std.proofs.lemmas.Bool.{and_parts, and_from, cond_both, cond-true, co
 use Rattle.std.proofs.lemmas.List.{take_more_set, take_more}
 use Rattle.asm_formats.specs.Sets.{elements, has_bit}
 use Rattle.asm_formats.specs.Status.{Entry, Status, is_entry, is_status, entry_of, has_entry, have_entries, ascends_from}
-use Rattle.status_table.specs.Rules.{number_of}
-use Rattle.status_table.specs.Changes.{IsNamed, has_failgroup, free_from, inserted, least_free_failgroup, status_with_entry, status_without_entry}
-use Rattle.status_table.specs.EntryChanges.{in_order}
+use Rattle.status_table.specs.Rules.{number_of_entry}
+use Rattle.status_table.specs.Changes.{IsInSomeSet, has_failgroup, free_from, inserted, least_free_failgroup, status_with_entry, status_without_entry}
+use Rattle.status_table.specs.EntryChanges.{lower_number_first}
 use Rattle.status_table.proofs.Allowed.{parts_of, parts_are}
 
 -- ---- entries by number
@@ -30,17 +30,17 @@ none_of e es d none =
     let two = or_less (eqb e.number d) (has_entry es d) (sym (has_first e es d) ∙ none) in
     ((λ same. false≢true (sym two.0 ∙ eq-eqb e.number d same)), two.1)
 
-weaker : (es : List Entry) (low high : ℕ) → low ≤ high → ascends_from high (map number_of es) ≡ true → ascends_from low (map number_of es) ≡ true
+weaker : (es : List Entry) (low high : ℕ) → low ≤ high → ascends_from high (map number_of_entry es) ≡ true → ascends_from low (map number_of_entry es) ≡ true
 weaker [] low high le up = refl
 weaker (e ∷ es) low high le up =
-    let u = and_parts (leb high e.number) (ascends_from (e.number + 1) (map number_of es)) up in
-    and_from (leb low e.number) (ascends_from (e.number + 1) (map number_of es)) (le-leb low e.number (omega (arith, le, leb-true high e.number u.0))) u.1
+    let u = and_parts (leb high e.number) (ascends_from (e.number + 1) (map number_of_entry es)) up in
+    and_from (leb low e.number) (ascends_from (e.number + 1) (map number_of_entry es)) (le-leb low e.number (omega (arith, le, leb-true high e.number u.0))) u.1
 
-none_below : (es : List Entry) (least d : ℕ) → d < least → ascends_from least (map number_of es) ≡ true → has_entry es d ≡ false
+none_below : (es : List Entry) (least d : ℕ) → d < least → ascends_from least (map number_of_entry es) ≡ true → has_entry es d ≡ false
 unfolding entry_of
 none_below [] least d lt up = refl
 none_below (e ∷ es) least d lt up =
-    let u = and_parts (leb least e.number) (ascends_from (e.number + 1) (map number_of es)) up in
+    let u = and_parts (leb least e.number) (ascends_from (e.number + 1) (map number_of_entry es)) up in
     let low = leb-true least e.number u.0 in
     has_first e es d ∙ (λ i. ne_eqb e.number d (λ same. omega (arith, lt, low, same)) i || none_below es (e.number + 1) d (omega (arith, lt, low)) u.1 i)
 
@@ -66,18 +66,18 @@ inserted_fit e (x ∷ xs) ok all =
     (λ less. and_from (is_entry e) (list_all is_entry (inserted x xs)) ok (inserted_fit x xs a.0 a.1))
     (λ more. and_from (is_entry x) (list_all is_entry (inserted e xs)) a.0 (inserted_fit e xs ok a.1))
 
-inserted_ascend : (e : Entry) (es : List Entry) (least : ℕ) → least ≤ e.number → has_entry es e.number ≡ false → ascends_from least (map number_of es) ≡ true
-    → ascends_from least (map number_of (inserted e es)) ≡ true
+inserted_ascend : (e : Entry) (es : List Entry) (least : ℕ) → least ≤ e.number → has_entry es e.number ≡ false → ascends_from least (map number_of_entry es) ≡ true
+    → ascends_from least (map number_of_entry (inserted e es)) ≡ true
 inserted_ascend e [] least low none up = and_from (leb least e.number) true (le-leb least e.number low) refl
 inserted_ascend e (x ∷ xs) least low none up =
-    let u = and_parts (leb least x.number) (ascends_from (x.number + 1) (map number_of xs)) up in
+    let u = and_parts (leb least x.number) (ascends_from (x.number + 1) (map number_of_entry xs)) up in
     let other = none_of x xs e.number none in
-    cond_both (ltb e.number x.number) (e ∷ inserted x xs) (x ∷ inserted e xs) (λ (l : List Entry). ascends_from least (map number_of l) ≡ true)
+    cond_both (ltb e.number x.number) (e ∷ inserted x xs) (x ∷ inserted e xs) (λ (l : List Entry). ascends_from least (map number_of_entry l) ≡ true)
     (λ less. let lt = ltb-true e.number x.number less in
-    and_from (leb least e.number) (ascends_from (e.number + 1) (map number_of (inserted x xs))) (le-leb least e.number low)
+    and_from (leb least e.number) (ascends_from (e.number + 1) (map number_of_entry (inserted x xs))) (le-leb least e.number low)
     (inserted_ascend x xs (e.number + 1) (omega (arith, lt)) (none_below xs (x.number + 1) x.number (omega arith) u.1) (weaker xs (e.number + 1) (x.number + 1) (omega (arith, lt)) u.1)))
     (λ more. let le = ltb-false e.number x.number more in
-    and_from (leb least x.number) (ascends_from (x.number + 1) (map number_of (inserted e xs))) u.0
+    and_from (leb least x.number) (ascends_from (x.number + 1) (map number_of_entry (inserted e xs))) u.0
     (inserted_ascend e xs (x.number + 1) (⊎_elim (λ (lt : x.number < e.number). omega (arith, lt)) (λ (ge : e.number ≤ x.number). absurd (other.0 (omega (arith, le, ge)))) (cases_lt x.number e.number)) other.1 u.1))
 
 all_gives : {A : Type 0} (p q : A → Bool) (xs : List A) → ((x : A) → p x ≡ true → q x ≡ true) → list_all p xs ≡ true → list_all q xs ≡ true
@@ -112,7 +112,7 @@ entry_keeps r e fit none ok =
 -- ---- the loop that puts it in
 
 pub insert_more : (added : Entry) (entries made : List Entry) (i : ℕ) (left entry first second : Entry) → i < length entries → i < length made
-    → take i made ++ inserted left (drop i entries) ≡ inserted added entries → entry ≡ get_or entries i entry → (first, second) ≡ in_order left entry
+    → take i made ++ inserted left (drop i entries) ≡ inserted added entries → entry ≡ get_or entries i entry → (first, second) ≡ lower_number_first left entry
     → take (i + 1) (set made i first) ++ inserted second (drop (i + 1) entries) ≡ inserted added entries
 insert_more added entries made i left entry first second within room so_far read is =
     let rest = inserted second (drop (i + 1) entries) in
@@ -169,13 +169,13 @@ others_fit disk (e ∷ es) all =
     cond_both (not (eqb e.number disk)) (e ∷ others disk es) (others disk es) (λ (l : List Entry). list_all is_entry l ≡ true)
     (λ stays. and_from (is_entry e) (list_all is_entry (others disk es)) a.0 (others_fit disk es a.1)) (λ goes. others_fit disk es a.1)
 
-others_ascend : (disk : ℕ) (es : List Entry) (least : ℕ) → ascends_from least (map number_of es) ≡ true → ascends_from least (map number_of (others disk es)) ≡ true
+others_ascend : (disk : ℕ) (es : List Entry) (least : ℕ) → ascends_from least (map number_of_entry es) ≡ true → ascends_from least (map number_of_entry (others disk es)) ≡ true
 others_ascend disk [] least up = refl
 others_ascend disk (e ∷ es) least up =
-    let u = and_parts (leb least e.number) (ascends_from (e.number + 1) (map number_of es)) up in
+    let u = and_parts (leb least e.number) (ascends_from (e.number + 1) (map number_of_entry es)) up in
     let low = leb-true least e.number u.0 in
-    cond_both (not (eqb e.number disk)) (e ∷ others disk es) (others disk es) (λ (l : List Entry). ascends_from least (map number_of l) ≡ true)
-    (λ stays. and_from (leb least e.number) (ascends_from (e.number + 1) (map number_of (others disk es))) u.0 (others_ascend disk es (e.number + 1) u.1))
+    cond_both (not (eqb e.number disk)) (e ∷ others disk es) (others disk es) (λ (l : List Entry). ascends_from least (map number_of_entry l) ≡ true)
+    (λ stays. and_from (leb least e.number) (ascends_from (e.number + 1) (map number_of_entry (others disk es))) u.0 (others_ascend disk es (e.number + 1) u.1))
     (λ goes. weaker (others disk es) least (e.number + 1) (omega (arith, low)) (others_ascend disk es (e.number + 1) u.1))
 
 all_chosen : (p q r : ℕ → Bool) (xs : List ℕ) → ((x : ℕ) → p x ≡ true → q x ≡ true → r x ≡ true) → list_all q (filter p xs) ≡ true → list_all r (filter p xs) ≡ true
@@ -190,7 +190,7 @@ unfolding elements
 others_have disk es ds out all = all_chosen (has_bit ds) (has_entry es) (has_entry (others disk es)) (range_with_len 0 64)
     (λ d bit has. others_has disk es d (λ same. out (ap (has_bit ds) (sym same) ∙ bit)) ∙ has) all
 
-pub without_keeps : (r : Status) (disk : ℕ) → (IsNamed r disk → ⊥) → is_status r ≡ true → is_status (status_without_entry r disk) ≡ true
+pub without_keeps : (r : Status) (disk : ℕ) → (IsInSomeSet r disk → ⊥) → is_status r ≡ true → is_status (status_without_entry r disk) ≡ true
 without_keeps r disk out ok =
     let p = parts_of r ok in
     parts_are (status_without_entry r disk) (record {

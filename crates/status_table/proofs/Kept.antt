@@ -8,9 +8,9 @@ use Rattle.asm_formats.specs.asm_group.declared.Mode.TheVariants.{Offline}
 use Rattle.asm_formats.specs.Sets.{elements, has_bit}
 use Rattle.asm_formats.specs.Status.{Entry, Status, is_entry, is_status, entry_of, has_entry, have_entries, ascends_from}
 use Rattle.asm_formats.specs.Following.{sets_of, disks_of, sets, Holder, Follows, FollowsSets}
-use Rattle.status_table.specs.Rules.{number_of}
+use Rattle.status_table.specs.Rules.{number_of_entry}
 use Rattle.status_table.specs.Changes.{entries_with_partners, status_with_mode, status_with_offline, status_with_partners, status_with_repair, status_with_units}
-use Rattle.status_table.specs.EntryChanges.{changed, entry_with}
+use Rattle.status_table.specs.EntryChanges.{entry_after_change, entry_with}
 use Rattle.status_table.specs.declared.entries.EntryChange.{EntryChange}
 use Rattle.status_table.specs.declared.entries.EntryChange.TheVariants.{InMode, OfflineFor, WithUnits, WithRepair}
 use Rattle.status_table.proofs.Allowed.{parts_of, parts_are, entry_fits, entry_is}
@@ -27,21 +27,21 @@ found_same x y es fs d same rest = by (eqb y.number d) refl where
   by true here = rw (same, here) refl
   by false other = rw (same, other) rest
 
-same_has : (es fs : List Entry) (d : ℕ) → map number_of es ≡ map number_of fs → has_entry es d ≡ has_entry fs d
+same_has : (es fs : List Entry) (d : ℕ) → map number_of_entry es ≡ map number_of_entry fs → has_entry es d ≡ has_entry fs d
 unfolding entry_of
 same_has [] [] d e = refl
 same_has [] (f ∷ fs) d e = absurd cc
 same_has (x ∷ es) [] d e = absurd cc
 same_has (x ∷ es) (f ∷ fs) d e =
-    let both = heads x.number (map number_of es) f.number (map number_of fs) e in
+    let both = heads x.number (map number_of_entry es) f.number (map number_of_entry fs) e in
     found_same x f es fs d both.0 (same_has es fs d both.1)
 
-same_have : (es fs : List Entry) (ds : List ℕ) → map number_of es ≡ map number_of fs → list_all (has_entry es) ds ≡ list_all (has_entry fs) ds
+same_have : (es fs : List Entry) (ds : List ℕ) → map number_of_entry es ≡ map number_of_entry fs → list_all (has_entry es) ds ≡ list_all (has_entry fs) ds
 same_have es fs [] e = refl
 same_have es fs (d ∷ ds) e = rw (same_has es fs d e, same_have es fs ds e) refl
 
 -- a record with other entries of the same numbers
-with_entries_kept : (r : Status) (es : List Entry) → map number_of es ≡ map number_of r.entries → list_all is_entry es ≡ true → is_status r ≡ true → is_status (record r { entries = es }) ≡ true
+with_entries_kept : (r : Status) (es : List Entry) → map number_of_entry es ≡ map number_of_entry r.entries → list_all is_entry es ≡ true → is_status r ≡ true → is_status (record r { entries = es }) ≡ true
 with_entries_kept r es same all ok =
     let p = parts_of r ok in
     parts_are (record r { entries = es }) (record {
@@ -62,16 +62,16 @@ with_entries_kept r es same all ok =
 -- ---- one disk's entry changed
 
 -- a change of one disk's entry that leaves its number and the format
-module _ (disk : ℕ) (change : EntryChange) (number : (e : Entry) → (changed change e).number ≡ e.number) (fits : (e : Entry) → is_entry e ≡ true → is_entry (changed change e) ≡ true) where
+module _ (disk : ℕ) (change : EntryChange) (number : (e : Entry) → (entry_after_change change e).number ≡ e.number) (fits : (e : Entry) → is_entry e ≡ true → is_entry (entry_after_change change e) ≡ true) where
   change_number : (e : Entry) → (entry_with disk change e).number ≡ e.number
-  change_number e = cond_both (eqb e.number disk) (changed change e) e (λ (x : Entry). x.number ≡ e.number) (λ same. number e) (λ other. refl)
+  change_number e = cond_both (eqb e.number disk) (entry_after_change change e) e (λ (x : Entry). x.number ≡ e.number) (λ same. number e) (λ other. refl)
 
-  change_numbers : (es : List Entry) → map number_of (map (entry_with disk change) es) ≡ map number_of es
+  change_numbers : (es : List Entry) → map number_of_entry (map (entry_with disk change) es) ≡ map number_of_entry es
   change_numbers [] = refl
   change_numbers (e ∷ es) = λ i. change_number e i ∷ change_numbers es i
 
   change_entry : (e : Entry) → is_entry e ≡ true → is_entry (entry_with disk change e) ≡ true
-  change_entry e ok = cond_both (eqb e.number disk) (changed change e) e (λ (x : Entry). is_entry x ≡ true) (λ same. fits e ok) (λ other. ok)
+  change_entry e ok = cond_both (eqb e.number disk) (entry_after_change change e) e (λ (x : Entry). is_entry x ≡ true) (λ same. fits e ok) (λ other. ok)
 
   change_entries : (es : List Entry) → list_all is_entry es ≡ true → list_all is_entry (map (entry_with disk change) es) ≡ true
   change_entries [] all = refl
@@ -104,7 +104,7 @@ repair_keeps r disk repair few ok = change_keeps disk (WithRepair repair) (λ e.
 
 -- ---- other partners
 
-partner_numbers : (es : List Entry) (sets : List ℕ) → length sets ≡ length es → map number_of (entries_with_partners es sets) ≡ map number_of es
+partner_numbers : (es : List Entry) (sets : List ℕ) → length sets ≡ length es → map number_of_entry (entries_with_partners es sets) ≡ map number_of_entry es
 partner_numbers [] [] e = refl
 partner_numbers [] (s ∷ sets) e = absurd (omega arith)
 partner_numbers (x ∷ es) [] e = absurd (omega arith)

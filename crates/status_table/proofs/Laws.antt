@@ -6,11 +6,11 @@ use Rattle.std.specs.Option.{option_or}
 use Rattle.std.proofs.lemmas.Option.{none-some}
 use Rattle.asm_formats.specs.asm_group.declared.Mode.{Mode}
 use Rattle.asm_formats.specs.asm_group.declared.Mode.TheVariants.{Online, Offline, Syncing, Dropping, Forced}
-use Rattle.asm_formats.specs.Bytes.{number, whole_block}
+use Rattle.asm_formats.specs.Bytes.{number_bytes, whole_block}
 use Rattle.asm_formats.specs.Codes.{mode_code}
 use Rattle.asm_formats.specs.Status.{Entry, Status, entry_fields, front_fields, tail_fields, status_spelling, status_spelling_1, is_status, decoded_status}
 use Rattle.asm_formats.proofs.Bodies.{status_codec}
-use Rattle.asm_base.specs.Readings.{whole}
+use Rattle.asm_base.specs.Readings.{whole_reading}
 use Rattle.asm_base.proofs.Exact.{IsBytes, IsBytes-none, IsExact, Begins, bind_some, test_some, some_is, both_exact, as_exact, decoded_exact, fits_exact}
 use Rattle.asm_base.proofs.Numbers.{number_exact}
 use Rattle.asm_base.proofs.Tables.{are_bytes_is}
@@ -100,11 +100,11 @@ status_exact v =
     (as_exact to_status of_status (λ p. refl) (λ r. refl) fields)
 
 pub spelling_is : (r : Status) → status_spelling r ≡ whole_block (status_fields Two r)
-unfolding status_spelling front_fields tail_fields status_fields number
+unfolding status_spelling front_fields tail_fields status_fields number_bytes
 spelling_is r = refl
 
 spelling_1_is : (r : Status) → status_spelling_1 r ≡ whole_block (status_fields One r)
-unfolding status_spelling_1 front_fields tail_fields status_fields number
+unfolding status_spelling_1 front_fields tail_fields status_fields number_bytes
 spelling_1_is r = refl
 
 status_fits : (v : Version) (r : Status) → is_status r ≡ true → FitsNext v r.next_holders → FitsStatus v r
@@ -125,7 +125,7 @@ status_fits v r ok next =
 -- ---- the two versions
 
 read_as : Version → List ℕ → Option Status
-read_as v bytes = right_status (whole (status_reading v) bytes)
+read_as v bytes = right_status (whole_reading (status_reading v) bytes)
 
 -- what is read in a version is a record that fits it, and the bytes are its spelling of that version
 record Found (v : Version) (bytes : List ℕ) (r : Status) : Type 0 where
@@ -136,7 +136,7 @@ record Found (v : Version) (bytes : List ℕ) (r : Status) : Type 0 where
 found_as : (v : Version) (bytes : List ℕ) (r : Status) → length bytes ≡ 4096 → IsBytes bytes → read_as v bytes ≡ Some r → Found v bytes r
 unfolding read_as
 found_as v bytes r len are e =
-    let a = bind_some (λ (y : Status). cond (is_status y) (Some y) None) (whole (status_reading v) bytes) r e in
+    let a = bind_some (λ (y : Status). cond (is_status y) (Some y) None) (whole_reading (status_reading v) bytes) r e in
     let t = test_some (is_status a.0) a.0 r a.2 in
     let w = whole_takes (status_exact v) bytes a.0 len are a.1 in
     let all : Found v bytes a.0 = record { ok = t.0; next = w.1.next_holders; spelt = w.0 } in
@@ -146,7 +146,7 @@ again_as : (v : Version) (bytes : List ℕ) (r : Status) → Found v bytes r →
 unfolding read_as
 again_as v bytes r f = rw (f.spelt, whole_again (status_exact v) r (status_fits v r f.ok f.next), f.ok) refl
 
-pub status_is_read : (bytes : List ℕ) → length bytes ≡ 4096 → IsBytes bytes → option_or (right_status (whole (status_reading Two) bytes)) (right_status (whole (status_reading One) bytes)) ≡ decoded_status bytes
+pub status_is_read : (bytes : List ℕ) → length bytes ≡ 4096 → IsBytes bytes → option_or (right_status (whole_reading (status_reading Two) bytes)) (right_status (whole_reading (status_reading One) bytes)) ≡ decoded_status bytes
 unfolding read_as FitsNext
 status_is_read bytes len are = decide (read_as Two bytes) (read_as One bytes) refl refl where
   unread : (o : Option Status) → read_as Two bytes ≡ None → read_as One bytes ≡ None → decoded_status bytes ≡ o → None ≡ decoded_status bytes

@@ -52,8 +52,8 @@ abbrev pub status_without_entry : Status → ℕ → Status
 status_without_entry r disk = record r { entries = filter (λ (e : Entry). not (e.number == disk)) r.entries }
 
 -- the disk is in one of the record's sets
-abbrev pub IsNamed : Status → ℕ → Type 0
-IsNamed r disk = (has_bit r.holders disk ≡ true) ⊎ ((has_bit r.next_holders disk ≡ true) ⊎ (has_bit r.directories disk ≡ true))
+abbrev pub IsInSomeSet : Status → ℕ → Type 0
+IsInSomeSet r disk = (has_bit r.holders disk ≡ true) ⊎ ((has_bit r.next_holders disk ≡ true) ⊎ (has_bit r.directories disk ≡ true))
 
 abbrev pub has_failgroup : List Entry → ℕ → Bool
 has_failgroup es n = list_any (λ (e : Entry). e.failgroup == n) es

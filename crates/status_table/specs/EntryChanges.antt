@@ -5,16 +5,16 @@ use Rattle.asm_formats.specs.Status.{Entry}
 use Rattle.status_table.specs.declared.entries.EntryChange.{EntryChange}
 use Rattle.status_table.specs.declared.entries.EntryChange.TheVariants.{InMode, OfflineFor, WithUnits, WithRepair}
 
-abbrev pub changed : EntryChange → Entry → Entry
-changed (InMode mode since) e = record e { mode = mode; since = since }
-changed (OfflineFor since repair) e = record e { mode = Offline; since = since; repair = repair }
-changed (WithUnits units) e = record e { units = units }
-changed (WithRepair repair) e = record e { repair = repair }
+abbrev pub entry_after_change : EntryChange → Entry → Entry
+entry_after_change (InMode mode since) e = record e { mode = mode; since = since }
+entry_after_change (OfflineFor since repair) e = record e { mode = Offline; since = since; repair = repair }
+entry_after_change (WithUnits units) e = record e { units = units }
+entry_after_change (WithRepair repair) e = record e { repair = repair }
 
 -- the entry, changed if it is the disk's
 abbrev pub entry_with : ℕ → EntryChange → Entry → Entry
-entry_with disk change e = if e.number == disk then changed change e else e
+entry_with disk change e = if e.number == disk then entry_after_change change e else e
 
 -- that of the lesser number first
-abbrev pub in_order : Entry → Entry → Entry × Entry
-in_order left e = if nat_lt left.number e.number then (left, e) else (e, left)
+abbrev pub lower_number_first : Entry → Entry → Entry × Entry
+lower_number_first left e = if nat_lt left.number e.number then (left, e) else (e, left)

@@ -2,11 +2,11 @@
 use Rattle.std.specs.Prelude.{ℕ, Bool, List, [], ◌∷◌, ◌++◌, length, flat_map, codes, Option, Some, None}
 use Rattle.std.specs.Int.{w32, w64}
 use Rattle.asm_formats.specs.asm_group.declared.Mode.{Mode}
-use Rattle.asm_formats.specs.Bytes.{number}
+use Rattle.asm_formats.specs.Bytes.{number_bytes}
 use Rattle.asm_formats.specs.Codes.{flag}
 use Rattle.asm_formats.specs.Claim.{Claim}
 use Rattle.asm_formats.specs.Status.{Entry, Status, entry_fields}
-use Rattle.asm_base.specs.Readings.{Reading, both, as_a, counted, byte_reading, number_reading, flag_reading, fixed_reading}
+use Rattle.asm_base.specs.Readings.{Reading, both, as_a, counted_reading, byte_reading, number_reading, flag_reading, fixed_reading}
 use Rattle.asm_base.specs.Words.{mode_reading}
 use Rattle.status_table.specs.declared.reading.Version.{Version}
 use Rattle.status_table.specs.declared.reading.Version.TheVariants.{One, Two}
@@ -41,17 +41,17 @@ to_status (tag, (id, (epoch, (turn, (gone, (births, (holders, (next_holders, (di
 
 unfoldable pub status_reading : Version → Reading Status
 status_reading version =
-    as_a to_status (both (fixed_reading (tag_of version)) (both (number_reading w64) (both (number_reading w64) (both (number_reading w64) (both flag_reading (both (number_reading w64) (both (number_reading w64) (both (next_reading version) (both (number_reading w64) (counted 64 entry_reading))))))))))
+    as_a to_status (both (fixed_reading (tag_of version)) (both (number_reading w64) (both (number_reading w64) (both (number_reading w64) (both flag_reading (both (number_reading w64) (both (number_reading w64) (both (next_reading version) (both (number_reading w64) (counted_reading 64 entry_reading))))))))))
 
 abbrev pub next_fields : Version → ℕ → List ℕ
 next_fields One set = []
-next_fields Two set = number w64 set
+next_fields Two set = number_bytes w64 set
 
 -- the bytes of a record in a version
 unfoldable pub status_fields : Version → Status → List ℕ
 status_fields version r =
-    tag_of version ++ (number w64 r.id ++ (number w64 r.epoch ++ (number w64 r.turn ++ (flag r.gone ∷ number w64 r.births ++ (number w64 r.holders
-    ++ (next_fields version r.next_holders ++ (number w64 r.directories ++ (length r.entries ∷ flat_map entry_fields r.entries))))))))
+    tag_of version ++ (number_bytes w64 r.id ++ (number_bytes w64 r.epoch ++ (number_bytes w64 r.turn ++ (flag r.gone ∷ number_bytes w64 r.births ++ (number_bytes w64 r.holders
+    ++ (next_fields version r.next_holders ++ (number_bytes w64 r.directories ++ (length r.entries ∷ flat_map entry_fields r.entries))))))))
 
 -- ---- claims
 

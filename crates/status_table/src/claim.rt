@@ -2,7 +2,7 @@
 
 ghost use Rattle.std.specs.Prelude.{◌≡◌, ◌≤◌, length};
 ghost use Rattle.asm_formats.specs.Claim.{claim_spelling, decoded_claim};
-ghost use Rattle.asm_base.specs.Readings.{whole};
+ghost use Rattle.asm_base.specs.Readings.{whole_reading};
 ghost use Rattle.asm_base.specs.Cursors.{Reads};
 ghost use Rattle.status_table.specs.Readings.{claim_reading};
 
@@ -59,7 +59,7 @@ fn decode_bytes(bytes: &[u8]) -> Option<Claim>
 
 fn read_bytes(bytes: &[u8]) -> Option<Claim>
     requires { length bytes.now ≤ 4096 }
-    ensures { result ≡ whole claim_reading bytes.now }
+    ensures { result ≡ whole_reading claim_reading bytes.now }
 {
     let mut from = Reader { bytes, at: 0 };
     let claim = take_claim(&mut from)?;

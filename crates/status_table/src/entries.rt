@@ -5,8 +5,8 @@ ghost use Rattle.std.specs.List.{list_all};
 ghost use Rattle.asm_formats.specs.Regions.{most_units};
 ghost use Rattle.asm_formats.specs.Sets.{has_bit};
 ghost use Rattle.asm_formats.specs.Status.{has_entry, is_entry, is_status};
-ghost use Rattle.status_table.specs.Changes.{IsNamed, entries_with_partners, entry_with_partners, has_failgroup, inserted, least_free_failgroup, status_with_entry, status_with_mode, status_with_offline, status_with_partners, status_with_repair, status_with_units, status_without_entry};
-ghost use Rattle.status_table.specs.EntryChanges.{changed, entry_with, in_order};
+ghost use Rattle.status_table.specs.Changes.{IsInSomeSet, entries_with_partners, entry_with_partners, has_failgroup, inserted, least_free_failgroup, status_with_entry, status_with_mode, status_with_offline, status_with_partners, status_with_repair, status_with_units, status_without_entry};
+ghost use Rattle.status_table.specs.EntryChanges.{entry_after_change, entry_with, lower_number_first};
 
 use crate::record::{PstEntry, PstRecord};
 use asm_base::{DiskSet, Mode};
@@ -104,7 +104,7 @@ pub fn with_entry(status: &PstRecord, entry: PstEntry) -> PstRecord
 pub fn without_entry(status: &PstRecord, disk: u8) -> PstRecord
     ensures value { result ≡ status_without_entry status.now disk }
     // A record of the format stays one where the disk is in none of its sets.
-    ensures kept { (IsNamed status.now disk → ⊥) → IsTrue (is_status status.now) → IsTrue (is_status result) }
+    ensures kept { (IsInSomeSet status.now disk → ⊥) → IsTrue (is_status status.now) → IsTrue (is_status result) }
 {
     without_entry_only(status, disk)
 }
@@ -159,7 +159,7 @@ fn entry_with_change(entry: PstEntry, disk: u8, change: EntryChange) -> PstEntry
 }
 
 fn changed(entry: PstEntry, change: EntryChange) -> PstEntry
-    ensures { result ≡ changed change entry }
+    ensures { result ≡ entry_after_change change entry }
 {
     match change {
         EntryChange::InMode { mode, since } => PstEntry {
@@ -251,7 +251,7 @@ fn entries_and(entries: &[PstEntry], added: PstEntry) -> [PstEntry; 64]
 
 /// Both entries, that of the lesser number first.
 fn in_order(left: PstEntry, entry: PstEntry) -> (PstEntry, PstEntry)
-    ensures { result ≡ in_order left entry }
+    ensures { result ≡ lower_number_first left entry }
 {
     if left.number < entry.number {
         (left, entry)

@@ -2,7 +2,7 @@
 
 ghost use Rattle.std.specs.Prelude.{◌≡◌, ◌≤◌, length, take};
 ghost use Rattle.asm_formats.specs.Status.{decoded_status};
-ghost use Rattle.asm_base.specs.Readings.{fixed_reading, repeated, whole};
+ghost use Rattle.asm_base.specs.Readings.{fixed_reading, repeated, whole_reading};
 ghost use Rattle.asm_base.specs.Cursors.{Reads, ReadsBy};
 ghost use Rattle.status_table.specs.Rules.{right_status};
 ghost use Rattle.status_table.specs.Readings.{tag_of, entry_reading, next_reading, status_reading};
@@ -39,7 +39,7 @@ fn decode_bytes(bytes: &[u8]) -> Option<PstRecord>
 
 fn read_version(bytes: &[u8], version: Version) -> Option<PstRecord>
     requires { length bytes.now ≤ 4096 }
-    ensures { result ≡ right_status (whole (status_reading version) bytes.now) }
+    ensures { result ≡ right_status (whole_reading (status_reading version) bytes.now) }
 {
     let status = read_bytes(bytes, version)?;
     if is_status(&status) {
@@ -51,7 +51,7 @@ fn read_version(bytes: &[u8], version: Version) -> Option<PstRecord>
 
 fn read_bytes(bytes: &[u8], version: Version) -> Option<PstRecord>
     requires { length bytes.now ≤ 4096 }
-    ensures { result ≡ whole (status_reading version) bytes.now }
+    ensures { result ≡ whole_reading (status_reading version) bytes.now }
 {
     let mut from = Reader { bytes, at: 0 };
     let status = take_record(&mut from, version)?;

@@ -4,7 +4,7 @@ ghost use Rattle.std.specs.Prelude.{◌≡◌, ◌<◌, ◌||◌, ◌==◌, not,
 ghost use Rattle.std.specs.List.{list_all, list_any};
 ghost use Rattle.asm_formats.specs.Sets.{has_bit};
 ghost use Rattle.asm_formats.specs.Status.{ascends_from, has_entry, have_entries, is_entry, is_status};
-ghost use Rattle.status_table.specs.Rules.{number_of, passes};
+ghost use Rattle.status_table.specs.Rules.{number_of_entry, passes};
 
 use crate::record::{PstEntry, PstRecord};
 use asm_base::DiskSet;
@@ -59,7 +59,7 @@ fn are_entries(entries: &[PstEntry]) -> bool
 
 /// Whether the entries ascend by number.
 fn ascend(entries: &[PstEntry]) -> bool
-    ensures { result ≡ ascends_from 0 (map number_of entries.now) }
+    ensures { result ≡ ascends_from 0 (map number_of_entry entries.now) }
 {
     let mut least = 0;
     for entry in entries {

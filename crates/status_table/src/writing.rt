@@ -2,9 +2,9 @@
 
 ghost use Rattle.std.specs.Prelude.{◌≡◌, ◌≤◌, ◌+◌, ◌*◌, ◌++◌, ◌∷◌, [], length, flat_map, IsTrue};
 ghost use Rattle.std.specs.Int.{w64};
-ghost use Rattle.asm_formats.specs.Bytes.{number};
+ghost use Rattle.asm_formats.specs.Bytes.{number_bytes};
 ghost use Rattle.asm_formats.specs.Status.{entry_fields, is_status, status_spelling};
-ghost use Rattle.asm_base.specs.Cursors.{Puts};
+ghost use Rattle.asm_base.specs.Cursors.{PutsField};
 ghost use Rattle.status_table.specs.declared.reading.Version.TheVariants.{Two};
 ghost use Rattle.status_table.specs.Readings.{status_fields};
 
@@ -26,7 +26,7 @@ pub fn encode(status: &PstRecord, block: &mut Block)
 
 fn put_record(to: &mut Writer, status: &PstRecord)
     requires { to.old.at + 2624 ≤ 4096 }
-    ensures puts { Puts to.old to.new (status_fields Two status.now) }
+    ensures puts { PutsField to.old to.new (status_fields Two status.now) }
     ensures at { to.new.at ≤ to.old.at + 2624 }
 {
     put_bytes(to, b"ASMP\x00\x02");
@@ -45,7 +45,7 @@ fn put_record(to: &mut Writer, status: &PstRecord)
 fn put_entries(to: &mut Writer, entries: &[PstEntry])
     requires few { length entries.now ≤ 64 }
     requires room { to.old.at + 1 + 40 * length entries.now ≤ 4096 }
-    ensures puts { Puts to.old to.new (length entries.now ∷ flat_map entry_fields entries.now) }
+    ensures puts { PutsField to.old to.new (length entries.now ∷ flat_map entry_fields entries.now) }
     ensures at { to.new.at ≡ to.old.at + 1 + 40 * length entries.now }
 {
     put_u8(to, entries.len() as u8);
@@ -57,7 +57,7 @@ fn put_entries(to: &mut Writer, entries: &[PstEntry])
 #[tactic(auto, unfolding(asm_formats::specs::Status::entry_fields))]
 fn put_entry(to: &mut Writer, entry: PstEntry)
     requires { to.old.at + 40 ≤ 4096 }
-    ensures puts { Puts to.old to.new (entry_fields entry) }
+    ensures puts { PutsField to.old to.new (entry_fields entry) }
     ensures at { to.new.at ≡ to.old.at + 40 }
 {
     put_u8(to, entry.number);

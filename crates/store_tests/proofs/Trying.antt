@@ -14,7 +14,7 @@ use Rattle.asm_formats.specs.Following.{Holder, disks_of, holder_of}
 use Rattle.asm_images.proofs.Sharing.{all_among}
 use Rattle.status_register.specs.Places.{HasSlots}
 use Rattle.status_register.specs.Registered.{AreNumbered}
-use Rattle.status_register.specs.Rows.{AreApart}
+use Rattle.status_register.specs.Rows.{HaveOwnSlots}
 use Rattle.status_register.specs.Counting.{of_disk, disks_from}
 use Rattle.status_register.specs.declared.member.Member.{Member}
 use Rattle.status_register.proofs.Counting.{all_from, none_from, one_from}
@@ -41,7 +41,7 @@ ascending_apart (m ∷ ms) least is =
     let parts = and_parts (nat_le least m.slot) (ascends_from (m.slot + 1) (map slot_of ms)) is in
     ((λ n h same. omega (arith, above_all ms (m.slot + 1) parts.1 n h, same)), ascending_apart ms (m.slot + 1) parts.1)
 
-pub apart_by_slots : (ms : List Member) → ascends_from 0 (map slot_of ms) ≡ true → AreApart ms
+pub apart_by_slots : (ms : List Member) → ascends_from 0 (map slot_of ms) ≡ true → HaveOwnSlots ms
 apart_by_slots ms is = apart_list ms (ascending_apart ms 0 is)
 
 pub numbered_by_test : (ms : List Member) → list_all (λ (m : Member). nat_lt m.number 64) ms ≡ true → AreNumbered ms

@@ -7,7 +7,7 @@ use Rattle.asm_base.specs.asm_group.declared.Stripe.TheVariants.{Coarse, Fine}
 use Rattle.asm_base.specs.declared.kinds.Span.{Span}
 use Rattle.striping.specs.declared.layout.Layout.{Layout}
 use Rattle.asm_placement.specs.Layout.{units_of, extent_len, chunk_of, file_byte}
-use Rattle.striping.specs.Pieces.{IsLayout, LiesAt, IsPiece, run_by}
+use Rattle.striping.specs.Pieces.{IsAllowedLayout, LaysByteAt, IsFirstPieceOfSpan, run_by}
 use Rattle.asm_placement.proofs.Sets.{whole_chunks}
 use Rattle.asm_placement.proofs.Units.{IsUnit, layout_unit}
 
@@ -50,7 +50,7 @@ is_run Fine au step i q unit inside =
     }
 
 -- the first piece has the bytes up to the end of the run or of the span
-pub is_piece : (l : Layout) (span : Span) (i q n : ℕ) → IsLayout l → 0 < span.len → LiesAt l span.at i q → n ≡ min span.len (run_by l.stripe l.au l.step i q) → IsPiece l span i q n
+pub is_piece : (l : Layout) (span : Span) (i q n : ℕ) → IsAllowedLayout l → 0 < span.len → LaysByteAt l span.at i q → n ≡ min span.len (run_by l.stripe l.au l.step i q) → IsFirstPieceOfSpan l span i q n
 is_piece l span i q n is some place e =
     let run = is_run l.stripe l.au l.step i q (layout_unit l.au l.step is) place.inside in
     record {

@@ -1,9 +1,9 @@
 //! The layout of a file over its extents: extents grow with their index, and those of a fine file take turns.
 
 ghost use Rattle.std.specs.Prelude.{◌≡◌, ◌+◌, ◌<◌, ◌≤◌, ◌^◌, ◌%◌, ◌↔◌, ℕ, MatchOption, IsTrue};
-ghost use Rattle.asm_placement.specs.Layout.{chunk_of, extent_len, extents_at_once, has_extent, start, units_of};
+ghost use Rattle.asm_placement.specs.Layout.{chunk_of, extent_len, extents_at_once, has_extent_by_size, start, units_of};
 ghost use Rattle.asm_placement.proofs.Starts.{IsInOrder};
-ghost use Rattle.striping.specs.Pieces.{IsLayout, IsPiece, LiesAt, run_by};
+ghost use Rattle.striping.specs.Pieces.{IsAllowedLayout, IsFirstPieceOfSpan, LaysByteAt, run_by};
 
 use asm_base::{Span, Stripe};
 
@@ -37,7 +37,7 @@ pub fn units_of(step: u32, index: u64) -> u32
 /// Where a byte would lie if the extents followed one another.
 #[tactic(auto, using(asm_placement::proofs::Starts::in_second_left, asm_placement::proofs::Units::is_unit, asm_placement::proofs::Units::few_bytes))]
 fn in_order(layout: Layout, offset: u64) -> (u64, u64)
-    requires { IsLayout layout }
+    requires { IsAllowedLayout layout }
     ensures { IsInOrder layout.au layout.step offset result.0 result.1 }
 {
     let step = layout.step as u64;
@@ -64,11 +64,11 @@ fn chunk_of(au: u64) -> u64
 
 /// Where a byte of a file lies: the extent, and the byte of it.
 pub fn extent_of(layout: Layout, offset: u64) -> (u64, u64)
-    requires { IsLayout layout }
+    requires { IsAllowedLayout layout }
     // The byte lies there.
-    ensures place { LiesAt layout offset result.0 result.1 }
+    ensures place { LaysByteAt layout offset result.0 result.1 }
     // It lies nowhere else.
-    ensures only { (i q : ℕ) → LiesAt layout offset i q → (i ≡ result.0) × (q ≡ result.1) }
+    ensures only { (i q : ℕ) → LaysByteAt layout offset i q → (i ≡ result.0) × (q ≡ result.1) }
     // Whole extents have the bytes before their end, and no others.
     ensures whole { (n : ℕ) → n % extents_at_once layout.stripe ≡ 0 → (result.0 < n) ↔ (offset < start layout.au layout.step n) }
 {
@@ -77,8 +77,8 @@ pub fn extent_of(layout: Layout, offset: u64) -> (u64, u64)
 
 #[tactic(auto, using(asm_placement::proofs::Places::lies_coarse, asm_placement::proofs::Units::few_bytes, asm_placement::proofs::Units::is_unit))]
 fn place_of(layout: Layout, offset: u64) -> (u64, u64)
-    requires { IsLayout layout }
-    ensures { LiesAt layout offset result.0 result.1 }
+    requires { IsAllowedLayout layout }
+    ensures { LaysByteAt layout offset result.0 result.1 }
 {
     let (extent, inner) = in_order(layout, offset);
     match layout.stripe {
@@ -95,9 +95,9 @@ fn place_of(layout: Layout, offset: u64) -> (u64, u64)
 
 /// How many extents a file of so many bytes has: whole sets of eight where the file is fine, and none where it is empty.
 pub fn extents_for(layout: Layout, size: u64) -> u64
-    requires { IsLayout layout }
+    requires { IsAllowedLayout layout }
     // The file has the extents below this number, and no others.
-    ensures has { (i : ℕ) → (i < result) ↔ IsTrue (has_extent layout.stripe layout.au layout.step size i) }
+    ensures has { (i : ℕ) → (i < result) ↔ IsTrue (has_extent_by_size layout.stripe layout.au layout.step size i) }
 {
     if size == 0 {
         return 0;
@@ -112,7 +112,7 @@ pub fn extents_for(layout: Layout, size: u64) -> u64
 /// How many bytes of a file lie in a row from a byte of an extent on.
 #[tactic(auto, using(asm_placement::proofs::Units::is_unit))]
 fn run_from(layout: Layout, extent: u64, inner: u64) -> u64
-    requires layout { IsLayout layout }
+    requires layout { IsAllowedLayout layout }
     requires inside { inner < extent_len layout.au layout.step extent }
     ensures { result ≡ run_by layout.stripe layout.au layout.step extent inner }
 {
@@ -128,9 +128,9 @@ fn run_from(layout: Layout, extent: u64, inner: u64) -> u64
 /// The longest run of bytes at a span's start that lie in a row on one extent: the extent, the byte of it, and how
 /// many bytes they are. None where the span is empty.
 pub fn next_piece(layout: Layout, span: Span) -> Option<(u64, u64, u64)>
-    requires layout { IsLayout layout }
+    requires layout { IsAllowedLayout layout }
     requires end { span.at + span.len < 2 ^ 64 }
-    ensures { MatchOption result (span.len ≡ 0) (λ p. IsPiece layout span p.0 p.1 p.2) }
+    ensures { MatchOption result (span.len ≡ 0) (λ p. IsFirstPieceOfSpan layout span p.0 p.1 p.2) }
 {
     if span.len == 0 {
         return None;

@@ -11,8 +11,8 @@ use Rattle.asm_base.proofs.Exact.{some_is}
 use Rattle.asm_placement.specs.Layout.{units_of}
 use Rattle.asm_placement.specs.Placed.{placed_copies}
 use Rattle.allocator.specs.UnitMaps.{IsLowestRun, UnitMap, is_free, with_run}
-use Rattle.extent_map.specs.Extents.{absent, chunk_at, chunk_or_blank, count_in, extent_at, has_extent, has_home}
-use Rattle.file_directory.specs.Files.{head_at, is_file}
+use Rattle.extent_map.specs.Extents.{absent_homes, chunk_at, chunk_or_blank, count_in, extent_at, has_extent, has_home}
+use Rattle.file_directory.specs.Files.{head_at, is_file_number}
 use Rattle.catalog.specs.ExtentPlans.{MayAppend, MayCut, MayMark, IsUndue, first_new, is_copy_of}
 use Rattle.catalog_tables.specs.Placing.{after_homes, home_taken}
 use Rattle.asm_placement.specs.Naming.{is_pending}
@@ -73,7 +73,7 @@ few xs none = elim (cases_lt 255 (count_in xs)) [
 
 room : (t : Tables) (f : ℕ) → None ≡ extent_at t.extents f 255 → count_in (chunk_or_blank t.extents (f, 0)) < 256
 room t f e = by (chunk_at t.extents (f, 0)) (untold t f 255 e) where
-  by : (o : Option (List Homes)) → has_home (get_or (unwrap_or o []) 255 []) ≡ false → count_in (unwrap_or o (replicate 256 absent)) < 256
+  by : (o : Option (List Homes)) → has_home (get_or (unwrap_or o []) 255 []) ≡ false → count_in (unwrap_or o (replicate 256 absent_homes)) < 256
   by None none = omega arith
   by (Some xs) none = few xs none
 
@@ -103,7 +103,7 @@ within (Some head) a b two = rw (lt-ltb 0 head.copies (omega (arith, ltb-true 1 
   or_true true = refl
   or_true false = refl
 
-pub may_append : (c : Catalogued) (f : ℕ) (a b : Home) → (a.disk ≡ b.disk → ⊥) → 256 ≤ c.shape.step → is_copy_of (head_at c.tables.files f) 1 ≡ true → (is_file c.tables.files f || is_pending f c.tables.operations.pending) ≡ true
+pub may_append : (c : Catalogued) (f : ℕ) (a b : Home) → (a.disk ≡ b.disk → ⊥) → 256 ≤ c.shape.step → is_copy_of (head_at c.tables.files f) 1 ≡ true → (is_file_number c.tables.files f || is_pending f c.tables.operations.pending) ≡ true
     → None ≡ extent_at c.tables.extents f 255 → is_some (home_taken c.units a 1) ≡ true → is_some (home_taken c.units b 1) ≡ true → (m : ℕ) → m < 8 → are_marks_of (m, Some a ∷ Some b ∷ None ∷ []) ≡ true → MayAppend c f 0 ((Some a ∷ Some b ∷ None ∷ []) ∷ []) (m ∷ [])
 may_append c f a b apart step two owned none first second m few marks =
     let less = room c.tables f none in

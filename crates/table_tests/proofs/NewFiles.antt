@@ -6,7 +6,7 @@ use Rattle.asm_group.specs.declared.PendingKind.TheVariants.{Create}
 use Rattle.asm_group.specs.declared.Stripe.{Stripe}
 use Rattle.asm_group.specs.declared.Stripe.TheVariants.{Fine}
 use Rattle.asm_formats.specs.Items.{Key, Pending}
-use Rattle.asm_base.specs.Records.{Entry}
+use Rattle.asm_base.specs.Records.{DirectoryRecord}
 use Rattle.asm_placement.specs.Layout.{first_of_set, start}
 use Rattle.file_directory.specs.Files.{head_at}
 use Rattle.catalog.specs.NamePlans.{IsFileBeingMade, IsNamePlan, is_within_file, made_file, named, new_head}
@@ -27,5 +27,5 @@ created c op pending kind new within = record {
   is : op ≡ record { kind = Create; file = op.file; kept = op.kept }
   is = λ i. record { kind = kind i; file = op.file; kept = op.kept }
 
-pub planned : (c : Catalogued) (path : Path) (size copies : ℕ) (stripe : Stripe) (put : List Entry) (gone : List Key) → IsNamePlan c path size copies stripe put gone → IsPlanned c put gone
+pub planned : (c : Catalogued) (path : Path) (size copies : ℕ) (stripe : Stripe) (put : List DirectoryRecord) (gone : List Key) → IsNamePlan c path size copies stripe put gone → IsPlanned c put gone
 planned c path size copies stripe put gone plan = record { tables = named c.tables (made_file c.tables) (new_head c.tables plan.name size copies stripe plan.filing.number) plan.made; plan = plan.plan }

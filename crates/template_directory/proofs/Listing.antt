@@ -16,7 +16,7 @@ use Rattle.std.proofs.lemmas.Bool.{leb-true, le-leb, ltb-true}
 use Rattle.asm_formats.specs.Items.{precedes, names_ascend, is_item, is_template, templates_item}
 use Rattle.asm_base.specs.Names.{folded_cmp}
 use Rattle.asm_base.proofs.NameLaws.{same_order}
-use Rattle.template_directory.specs.Tables.{has_room, template_named, placed, with_template, without_template}
+use Rattle.template_directory.specs.Tables.{has_room_for_template, template_named, template_by_order, with_template_in_order, without_template}
 use Rattle.template_directory.proofs.Orders.{before_is_less}
 
 pub either : (b : Bool) → (b ≡ true) ⊎ (b ≡ false)
@@ -70,20 +70,20 @@ one_key q x y greater a b =
     let same : x ≡ y = sym (same_key q x (equal_is (R q x) b)) ∙ same_key q y (equal_is (R q y) a) in
     true≢false (ap is_eq (sym (tied_itself total y) ∙ ap (λ (k : Bytes). R k y) (sym same) ∙ greater))
 
-found_with : (t : Template) (ts : List Template) (q : Bytes) → found q (with_template t ts) ≡ cond (eq_by_cmp R q (folded t.name)) (Some t) (found q ts)
+found_with : (t : Template) (ts : List Template) (q : Bytes) → found q (with_template_in_order t ts) ≡ cond (eq_by_cmp R q (folded t.name)) (Some t) (found q ts)
 found_with t [] q = refl
 found_with t (s ∷ ss) q = by_order (folded_cmp t.name s.name) refl (found_with t ss q) where
-  by_order : (o : Ordering) → folded_cmp t.name s.name ≡ o → found q (with_template t ss) ≡ cond (eq_by_cmp R q (folded t.name)) (Some t) (found q ss)
-      → found q (with_template t (s ∷ ss)) ≡ cond (eq_by_cmp R q (folded t.name)) (Some t) (found q (s ∷ ss))
+  by_order : (o : Ordering) → folded_cmp t.name s.name ≡ o → found q (with_template_in_order t ss) ≡ cond (eq_by_cmp R q (folded t.name)) (Some t) (found q ss)
+      → found q (with_template_in_order t (s ∷ ss)) ≡ cond (eq_by_cmp R q (folded t.name)) (Some t) (found q (s ∷ ss))
   by_order Less e more = rw e refl
   by_order Equal e more = rw e (shadowed (eq_by_cmp R q (folded t.name)) (eq_by_cmp R q (folded s.name)) (Some t) (Some s) (found q ss) (ap (λ (k : Bytes). eq_by_cmp R q k) (sym (same_key (folded t.name) (folded s.name) e))))
   by_order Greater e more =
       rw e (ap (λ (o : Option Template). cond (eq_by_cmp R q (folded s.name)) (Some s) o) more
       ∙ swapped (eq_by_cmp R q (folded s.name)) (eq_by_cmp R q (folded t.name)) (Some s) (Some t) (found q ss) (one_key q (folded t.name) (folded s.name) e))
 
-pub with_is_insert : (t : Template) (ts : List Template) → templates_by_name (with_template t ts) ≡ maps.insert (templates_by_name ts) (folded t.name) t
+pub with_is_insert : (t : Template) (ts : List Template) → templates_by_name (with_template_in_order t ts) ≡ maps.insert (templates_by_name ts) (folded t.name) t
 with_is_insert t ts =
-    maps.same_map total same_key _ _ (λ q. maps.get-from_entries total (map entry (with_template t ts)) q ∙ found_with t ts q
+    maps.same_map total same_key _ _ (λ q. maps.get-from_entries total (map entry (with_template_in_order t ts)) q ∙ found_with t ts q
     ∙ ap (λ (o : Option Template). cond (eq_by_cmp R q (folded t.name)) (Some t) o) (sym (maps.get-from_entries total (map entry ts) q)) ∙ sym (maps.get-insert total (templates_by_name ts) (folded t.name) t q))
 
 named_found : (name : Bytes) (ts : List Template) → found (folded name) ts ≡ template_named name ts
@@ -151,15 +151,15 @@ pub before_all : (x y : Bytes) (ts : List Template) → folded_cmp x y ≡ Less 
 before_all x y [] less below = tt
 before_all x y (u ∷ ts) less below = total.trans (folded x) (folded y) (folded u.name) less below
 
-below_with : (x : Bytes) (t : Template) (ts : List Template) → Below x ts → folded_cmp x t.name ≡ Less → Below x (with_template t ts)
+below_with : (x : Bytes) (t : Template) (ts : List Template) → Below x ts → folded_cmp x t.name ≡ Less → Below x (with_template_in_order t ts)
 below_with x t [] below less = less
 below_with x t (s ∷ ss) below less = by_order (folded_cmp t.name s.name) refl where
-  by_order : (o : Ordering) → folded_cmp t.name s.name ≡ o → Below x (with_template t (s ∷ ss))
+  by_order : (o : Ordering) → folded_cmp t.name s.name ≡ o → Below x (with_template_in_order t (s ∷ ss))
   by_order Less e = rw e less
   by_order Equal e = rw e less
   by_order Greater e = rw e below
 
-pub up_with : (t : Template) (ts : List Template) → Up ts → Up (with_template t ts)
+pub up_with : (t : Template) (ts : List Template) → Up ts → Up (with_template_in_order t ts)
 up_with t [] up = (tt, tt)
 up_with t (s ∷ ss) up = by_order (folded_cmp t.name s.name) refl (up_with t ss up.1) where
   in_place : folded_cmp t.name s.name ≡ Equal → Below t.name ss
@@ -168,7 +168,7 @@ up_with t (s ∷ ss) up = by_order (folded_cmp t.name s.name) refl (up_with t ss
     same [] below = tt
     same (u ∷ us) below = total.congr (folded t.name) (folded s.name) (folded u.name) e ∙ below
 
-  by_order : (o : Ordering) → folded_cmp t.name s.name ≡ o → Up (with_template t ss) → Up (with_template t (s ∷ ss))
+  by_order : (o : Ordering) → folded_cmp t.name s.name ≡ o → Up (with_template_in_order t ss) → Up (with_template_in_order t (s ∷ ss))
   by_order Less e more = rw e (e, up)
   by_order Equal e more = rw e (in_place e, up.1)
   by_order Greater e more = rw e (below_with s.name t ss up.0 (turned (folded t.name) (folded s.name) Greater e), more)
@@ -241,35 +241,35 @@ without_allowed name ts ok =
     templates_are (without_template name ts) (omega (arith, fewer name ts, few ts ok)) (all_without name ts (all_templates ts ok))
     (ascend_of (without_template name ts) (up_without name ts (up_of ts (ascends ts ok))))
 
-all_with : (t : Template) (ts : List Template) → is_template t ≡ true → list_all is_template ts ≡ true → list_all is_template (with_template t ts) ≡ true
+all_with : (t : Template) (ts : List Template) → is_template t ≡ true → list_all is_template ts ≡ true → list_all is_template (with_template_in_order t ts) ≡ true
 all_with t [] ok all = and_from (is_template t) true ok refl
 all_with t (s ∷ ss) ok all =
     let a = and_parts (is_template s) (list_all is_template ss) all in
     by_order (folded_cmp t.name s.name) refl a.0 a.1 (all_with t ss ok a.1) where
-      by_order : (o : Ordering) → folded_cmp t.name s.name ≡ o → is_template s ≡ true → list_all is_template ss ≡ true → list_all is_template (with_template t ss) ≡ true → list_all is_template (with_template t (s ∷ ss)) ≡ true
+      by_order : (o : Ordering) → folded_cmp t.name s.name ≡ o → is_template s ≡ true → list_all is_template ss ≡ true → list_all is_template (with_template_in_order t ss) ≡ true → list_all is_template (with_template_in_order t (s ∷ ss)) ≡ true
       by_order Less e first others more = rw e (and_from (is_template t) (is_template s && list_all is_template ss) ok (and_from (is_template s) (list_all is_template ss) first others))
       by_order Equal e first others more = rw e (and_from (is_template t) (list_all is_template ss) ok others)
-      by_order Greater e first others more = rw e (and_from (is_template s) (list_all is_template (with_template t ss)) first more)
+      by_order Greater e first others more = rw e (and_from (is_template s) (list_all is_template (with_template_in_order t ss)) first more)
 
 -- one more, where the name wasn't there
-len_with : (t : Template) (ts : List Template) → Up ts → length (with_template t ts) ≡ cond (is_some (template_named t.name ts)) (length ts) (suc (length ts))
+len_with : (t : Template) (ts : List Template) → Up ts → length (with_template_in_order t ts) ≡ cond (is_some (template_named t.name ts)) (length ts) (suc (length ts))
 len_with t [] up = refl
 len_with t (s ∷ ss) up = by_order (folded_cmp t.name s.name) refl (len_with t ss up.1) where
   later : (b : Bool) (n : ℕ) → suc (cond b n (suc n)) ≡ cond b (suc n) (suc (suc n))
   later true n = refl
   later false n = refl
 
-  by_order : (o : Ordering) → folded_cmp t.name s.name ≡ o → length (with_template t ss) ≡ cond (is_some (template_named t.name ss)) (length ss) (suc (length ss))
-      → length (with_template t (s ∷ ss)) ≡ cond (is_some (template_named t.name (s ∷ ss))) (suc (length ss)) (suc (suc (length ss)))
+  by_order : (o : Ordering) → folded_cmp t.name s.name ≡ o → length (with_template_in_order t ss) ≡ cond (is_some (template_named t.name ss)) (length ss) (suc (length ss))
+      → length (with_template_in_order t (s ∷ ss)) ≡ cond (is_some (template_named t.name (s ∷ ss))) (suc (length ss)) (suc (suc (length ss)))
   by_order Less e more = rw (e, differs t.name s Less e, none_named t.name ss (before_all t.name s.name ss e up.0) up.1) refl
   by_order Equal e more = rw (e, differs t.name s Equal e) refl
   by_order Greater e more = rw (e, differs t.name s Greater e) (ap suc more ∙ later (is_some (template_named t.name ss)) (length ss))
 
 -- a template may be put where one of its name is, or where there are fewer than 64
-pub with_allowed : (t : Template) (ts : List Template) → is_item (templates_item ts) ≡ true → is_template t ≡ true → has_room t.name ts ≡ true → is_item (templates_item (with_template t ts)) ≡ true
+pub with_allowed : (t : Template) (ts : List Template) → is_item (templates_item ts) ≡ true → is_template t ≡ true → has_room_for_template t.name ts ≡ true → is_item (templates_item (with_template_in_order t ts)) ≡ true
 with_allowed t ts ok is room =
     let up = up_of ts (ascends ts ok) in
-    templates_are (with_template t ts) (at_most (is_some (template_named t.name ts)) (length (with_template t ts)) (len_with t ts up) room) (all_with t ts is (all_templates ts ok)) (ascend_of (with_template t ts) (up_with t ts up)) where
+    templates_are (with_template_in_order t ts) (at_most (is_some (template_named t.name ts)) (length (with_template_in_order t ts)) (len_with t ts up) room) (all_with t ts is (all_templates ts ok)) (ascend_of (with_template_in_order t ts) (up_with t ts up)) where
       at_most : (b : Bool) (n : ℕ) → n ≡ cond b (length ts) (suc (length ts)) → (b || ltb (length ts) 64) ≡ true → n ≤ 64
       at_most true n e room = omega (arith, e, few ts ok)
       at_most false n e room = omega (arith, e, ltb-true (length ts) 64 room)

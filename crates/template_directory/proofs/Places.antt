@@ -15,13 +15,13 @@ use Rattle.asm_group.specs.Group.{Template}
 use Rattle.asm_formats.specs.Items.{names_ascend}
 use Rattle.asm_base.specs.Names.{folded_cmp}
 use Rattle.asm_base.proofs.NameLaws.{same_order}
-use Rattle.template_directory.specs.Tables.{if_same, template_named, with_template, without_template, place_of}
+use Rattle.template_directory.specs.Tables.{if_same, template_named, with_template_in_order, without_template, count_of_names_before}
 use Rattle.template_directory.proofs.Listing.{Below, Up, up_of, either, differs, less_is, turned, before_all, none_named}
 
 abbrev pub is_before : Bytes → Template → Bool
 is_before name t = is_lt (folded_cmp t.name name)
 
-pub place_is : (name : Bytes) (ts : List Template) (i : ℕ) → i ≤ length ts → IsPartitionPoint (λ t. is_before name t ≡ true) (λ t. is_before name t ≡ false) ts i → i ≡ place_of name ts
+pub place_is : (name : Bytes) (ts : List Template) (i : ℕ) → i ≤ length ts → IsPartitionPoint (λ t. is_before name t ≡ true) (λ t. is_before name t ≡ false) ts i → i ≡ count_of_names_before name ts
 place_is name [] i le point = omega arith
 place_is name (t ∷ ts) zero le point = rw (point.1 0 t (omega arith) (omega arith)) refl
 place_is name (t ∷ ts) (suc i) le point =
@@ -45,28 +45,28 @@ partitioned name (t ∷ ts) up (suc i) (suc j) d le lt e = partitioned name ts u
 is_behind : (name : Bytes) (t : Template) (o : Ordering) → folded_cmp name t.name ≡ o → is_before name t ≡ is_lt (ordering_reverse o)
 is_behind name t o e = ap is_lt (turned (folded name) (folded t.name) o e)
 
-pub named_at : (name : Bytes) (ts : List Template) → Up ts → if_same name (slice_get ts (place_of name ts)) ≡ template_named name ts
+pub named_at : (name : Bytes) (ts : List Template) → Up ts → if_same name (slice_get ts (count_of_names_before name ts)) ≡ template_named name ts
 named_at name [] up = refl
 named_at name (t ∷ ts) up = by_order (folded_cmp name t.name) refl (named_at name ts up.1) where
-  by_order : (o : Ordering) → folded_cmp name t.name ≡ o → if_same name (slice_get ts (place_of name ts)) ≡ template_named name ts → if_same name (slice_get (t ∷ ts) (place_of name (t ∷ ts))) ≡ template_named name (t ∷ ts)
+  by_order : (o : Ordering) → folded_cmp name t.name ≡ o → if_same name (slice_get ts (count_of_names_before name ts)) ≡ template_named name ts → if_same name (slice_get (t ∷ ts) (count_of_names_before name (t ∷ ts))) ≡ template_named name (t ∷ ts)
   by_order Less e more = rw (is_behind name t Less e, differs name t Less e) (sym (none_named name ts (before_all name t.name ts e up.0) up.1))
   by_order Equal e more = rw (is_behind name t Equal e, differs name t Equal e) refl
   by_order Greater e more = rw (is_behind name t Greater e, differs name t Greater e) more
 
-pub with_at : (t : Template) (ts : List Template) → Up ts → cond (is_some (template_named t.name ts)) (slice_set ts (place_of t.name ts) t) (insert ts (place_of t.name ts) t) ≡ with_template t ts
+pub with_at : (t : Template) (ts : List Template) → Up ts → cond (is_some (template_named t.name ts)) (slice_set ts (count_of_names_before t.name ts) t) (insert ts (count_of_names_before t.name ts) t) ≡ with_template_in_order t ts
 with_at t [] up = refl
 with_at t (s ∷ ss) up = by_order (folded_cmp t.name s.name) refl (with_at t ss up.1) where
   behind : (b : Bool) (n : ℕ) → cond b (slice_set (s ∷ ss) (suc n) t) (insert (s ∷ ss) (suc n) t) ≡ s ∷ cond b (slice_set ss n t) (insert ss n t)
   behind true n = refl
   behind false n = refl
 
-  by_order : (o : Ordering) → folded_cmp t.name s.name ≡ o → cond (is_some (template_named t.name ss)) (slice_set ss (place_of t.name ss) t) (insert ss (place_of t.name ss) t) ≡ with_template t ss
-      → cond (is_some (template_named t.name (s ∷ ss))) (slice_set (s ∷ ss) (place_of t.name (s ∷ ss)) t) (insert (s ∷ ss) (place_of t.name (s ∷ ss)) t) ≡ with_template t (s ∷ ss)
+  by_order : (o : Ordering) → folded_cmp t.name s.name ≡ o → cond (is_some (template_named t.name ss)) (slice_set ss (count_of_names_before t.name ss) t) (insert ss (count_of_names_before t.name ss) t) ≡ with_template_in_order t ss
+      → cond (is_some (template_named t.name (s ∷ ss))) (slice_set (s ∷ ss) (count_of_names_before t.name (s ∷ ss)) t) (insert (s ∷ ss) (count_of_names_before t.name (s ∷ ss)) t) ≡ with_template_in_order t (s ∷ ss)
   by_order Less e more = rw (is_behind t.name s Less e, differs t.name s Less e, e, none_named t.name ss (before_all t.name s.name ss e up.0) up.1) refl
   by_order Equal e more = rw (is_behind t.name s Equal e, differs t.name s Equal e, e) refl
   by_order Greater e more =
       rw (is_behind t.name s Greater e, differs t.name s Greater e, e)
-      (behind (is_some (template_named t.name ss)) (place_of t.name ss) ∙ ap (λ (us : List Template). s ∷ us) more)
+      (behind (is_some (template_named t.name ss)) (count_of_names_before t.name ss) ∙ ap (λ (us : List Template). s ∷ us) more)
 
 pub without_none : (name : Bytes) (ts : List Template) → template_named name ts ≡ None → without_template name ts ≡ ts
 without_none name [] e = refl
@@ -75,14 +75,14 @@ without_none name (t ∷ ts) e = elim (either (is_same_name name t.name)) [
   | inr other ↦ rw other (ap (λ (us : List Template). t ∷ us) (without_none name ts (rw other at e)))
 ]
 
-pub without_at : (name : Bytes) (ts : List Template) → Up ts → is_some (template_named name ts) ≡ true → remove ts (place_of name ts) ≡ without_template name ts
+pub without_at : (name : Bytes) (ts : List Template) → Up ts → is_some (template_named name ts) ≡ true → remove ts (count_of_names_before name ts) ≡ without_template name ts
 without_at name [] up e = absurd cc
 without_at name (t ∷ ts) up some = by_order (folded_cmp name t.name) refl (without_at name ts up.1) where
   tied : folded_cmp name t.name ≡ Equal → (us : List Template) → Below t.name us → Below name us
   tied e [] below = tt
   tied e (u ∷ us) below = nat_list_cmp_total.congr (folded name) (folded t.name) (folded u.name) e ∙ below
 
-  by_order : (o : Ordering) → folded_cmp name t.name ≡ o → (is_some (template_named name ts) ≡ true → remove ts (place_of name ts) ≡ without_template name ts) → remove (t ∷ ts) (place_of name (t ∷ ts)) ≡ without_template name (t ∷ ts)
+  by_order : (o : Ordering) → folded_cmp name t.name ≡ o → (is_some (template_named name ts) ≡ true → remove ts (count_of_names_before name ts) ≡ without_template name ts) → remove (t ∷ ts) (count_of_names_before name (t ∷ ts)) ≡ without_template name (t ∷ ts)
   by_order Less e more = absurd (true≢false (sym some ∙ rw (differs name t Less e) (ap is_some (none_named name ts (before_all name t.name ts e up.0) up.1))))
   by_order Equal e more = rw (is_behind name t Equal e, differs name t Equal e) (sym (without_none name ts (none_named name ts (tied e ts up.0) up.1)))
   by_order Greater e more =
@@ -96,34 +96,34 @@ from_place [] (suc i) = refl
 from_place (t ∷ ts) zero = refl
 from_place (t ∷ ts) (suc i) = from_place ts i
 
-pub named_here : (name : Bytes) (ts : List Template) (i : ℕ) (found : Option Template) → names_ascend ts ≡ true → i ≡ place_of name ts → found ≡ slice_get (drop i ts) 0 → if_same name found ≡ template_named name ts
+pub named_here : (name : Bytes) (ts : List Template) (i : ℕ) (found : Option Template) → names_ascend ts ≡ true → i ≡ count_of_names_before name ts → found ≡ slice_get (drop i ts) 0 → if_same name found ≡ template_named name ts
 named_here name ts i found up place is = ap (if_same name) (is ∙ from_place ts i ∙ ap (slice_get ts) place) ∙ named_at name ts (up_of ts up)
 
-pub named_inside : (name : Bytes) (ts : List Template) → names_ascend ts ≡ true → is_some (template_named name ts) ≡ true → place_of name ts < length ts
-named_inside name ts up some = inside ts (place_of name ts) (ap is_some (named_at name ts (up_of ts up)) ∙ some) where
+pub named_inside : (name : Bytes) (ts : List Template) → names_ascend ts ≡ true → is_some (template_named name ts) ≡ true → count_of_names_before name ts < length ts
+named_inside name ts up some = inside ts (count_of_names_before name ts) (ap is_some (named_at name ts (up_of ts up)) ∙ some) where
   inside : (us : List Template) (n : ℕ) → is_some (if_same name (slice_get us n)) ≡ true → n < length us
   inside [] n e = absurd cc
   inside (u ∷ us) zero e = omega arith
   inside (u ∷ us) (suc n) e = omega (arith, inside us n e)
 
-pub set_here : (t : Template) (ts : List Template) (i : ℕ) → names_ascend ts ≡ true → i ≡ place_of t.name ts → is_some (template_named t.name ts) ≡ true → slice_set ts i t ≡ with_template t ts
+pub set_here : (t : Template) (ts : List Template) (i : ℕ) → names_ascend ts ≡ true → i ≡ count_of_names_before t.name ts → is_some (template_named t.name ts) ≡ true → slice_set ts i t ≡ with_template_in_order t ts
 set_here t ts i up place some = rw place (rw some at (with_at t ts (up_of ts up)))
 
-pub insert_here : (t : Template) (ts : List Template) (i : ℕ) → names_ascend ts ≡ true → i ≡ place_of t.name ts → is_some (template_named t.name ts) ≡ false → insert ts i t ≡ with_template t ts
+pub insert_here : (t : Template) (ts : List Template) (i : ℕ) → names_ascend ts ≡ true → i ≡ count_of_names_before t.name ts → is_some (template_named t.name ts) ≡ false → insert ts i t ≡ with_template_in_order t ts
 insert_here t ts i up place none = rw place (rw none at (with_at t ts (up_of ts up)))
 
-pub remove_here : (name : Bytes) (ts : List Template) (i : ℕ) → names_ascend ts ≡ true → i ≡ place_of name ts → is_some (template_named name ts) ≡ true → remove ts i ≡ without_template name ts
+pub remove_here : (name : Bytes) (ts : List Template) (i : ℕ) → names_ascend ts ≡ true → i ≡ count_of_names_before name ts → is_some (template_named name ts) ≡ true → remove ts i ≡ without_template name ts
 remove_here name ts i up place some = rw place (without_at name ts (up_of ts up) some)
 
 -- ---- the same of what a vector is seen as
 
-pub place_here : {i : ℕ} {n name : Bytes} {us ts : List Template} → i ≡ place_of n us → n ≡ name → us ≡ ts → i ≡ place_of name ts
-place_here {i} {n} {name} {us} {ts} place named same = place ∙ ap (λ (m : Bytes). place_of m us) named ∙ ap (place_of name) same
+pub place_here : {i : ℕ} {n name : Bytes} {us ts : List Template} → i ≡ count_of_names_before n us → n ≡ name → us ≡ ts → i ≡ count_of_names_before name ts
+place_here {i} {n} {name} {us} {ts} place named same = place ∙ ap (λ (m : Bytes). count_of_names_before m us) named ∙ ap (count_of_names_before name) same
 
 pub has_here : {b c : Bool} {n name : Bytes} {us ts : List Template} → b ≡ is_some (template_named n us) → n ≡ name → us ≡ ts → b ≡ c → is_some (template_named name ts) ≡ c
 has_here {b} {c} {n} {name} {us} {ts} is named same answer = ap (λ (vs : List Template). is_some (template_named name vs)) (sym same) ∙ ap (λ (m : Bytes). is_some (template_named m us)) (sym named) ∙ sym is ∙ answer
 
-pub inside_here : (name : Bytes) (ts : List Template) {i : ℕ} → names_ascend ts ≡ true → i ≡ place_of name ts → is_some (template_named name ts) ≡ true → i < length ts
+pub inside_here : (name : Bytes) (ts : List Template) {i : ℕ} → names_ascend ts ≡ true → i ≡ count_of_names_before name ts → is_some (template_named name ts) ≡ true → i < length ts
 inside_here name ts up place some = rw place (named_inside name ts up some)
 
 pub at_most_here : {us ts : List Template} {i : ℕ} → i ≤ length us → us ≡ ts → i ≤ length ts

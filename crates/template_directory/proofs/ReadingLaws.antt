@@ -8,10 +8,10 @@ use Rattle.std.specs.Prelude.{IfSome}
 use Rattle.std.proofs.lemmas.Bool.{and_parts, and_from, eqb-true, leb-true, le-leb, ltb-true, lt-ltb, true≢false}
 use Rattle.asm_group.specs.Names.{is_name, is_part}
 use Rattle.asm_group.specs.Group.{Template}
-use Rattle.asm_formats.specs.Items.{Settings, Item, Key, file_item, chunk_item, disk_item, rebalance_item, pending_item, templates_item, node_item, settings_item, marks_item, key, is_same_key, is_item, is_redundancy, is_template, is_text, names_ascend}
+use Rattle.asm_formats.specs.Items.{Settings, Item, Key, file_item, chunk_item, disk_item, rebalance_item, pending_item, templates_item, node_item, settings_item, marks_item, item_key, is_same_key, is_item, is_redundancy, is_template, is_text, names_ascend}
 use Rattle.asm_formats.specs.Values.{value, template_fields, settings_value, decoded_item}
 use Rattle.asm_formats.proofs.Bodies.{item_codec}
-use Rattle.asm_base.specs.Records.{Entry, all_of, are_bytes}
+use Rattle.asm_base.specs.Records.{DirectoryRecord, all_of, are_bytes}
 use Rattle.asm_base.specs.Tables.{entry_of_record, item_record}
 use Rattle.asm_base.proofs.Exact.{IsBytes, IsExact, bind_some, some_is, both_exact, as_exact, fits_exact}
 use Rattle.asm_base.proofs.Numbers.{number_exact}
@@ -20,7 +20,7 @@ use Rattle.asm_base.proofs.WordLaws.{stripe_exact}
 use Rattle.asm_base.proofs.NameLaws.{name_exact, text_exact, name_is_part}
 use Rattle.asm_base.proofs.Tables.{bytes_are, are_bytes_is}
 use Rattle.asm_base.proofs.ItemTables.{value_is_decoded}
-use Rattle.template_directory.specs.Tables.{Table, IsTable, records_of, settings_said, table_of, templates_said}
+use Rattle.template_directory.specs.Tables.{Table, IsTemplateTable, records_of_templates, settings_said, table_of, templates_said}
 use Rattle.record_values.specs.Values.{templates_reading, settings_reading}
 use Rattle.record_values.proofs.Templates.{templates_decoded}
 use Rattle.record_values.proofs.Settings.{settings_decoded}
@@ -62,13 +62,13 @@ settings_are_said k bytes e =
     settings_again (all_of settings_reading bytes) ∙ ap (option_and_then settings_said) (settings_decoded bytes ∙ ap (λ (j : Key). decoded_item j bytes) (sym (only_key k 9 e)))
 
 -- the item that is decoded has the key
-at_key : (k : Key) (bytes : List ℕ) (i : Item) → decoded_item k bytes ≡ Some i → key i ≡ k
+at_key : (k : Key) (bytes : List ℕ) (i : Item) → decoded_item k bytes ≡ Some i → item_key i ≡ k
 at_key k bytes i e = (item_codec.decoded k bytes i e).1
 
 pub no_templates : (k : Key) (bytes : List ℕ) → is_same_key k (record { kind = 5; a = 0; b = 0 }) ≡ false → None ≡ entry_of_record templates_said (k, bytes)
 unfolding entry_of_record
 no_templates k bytes other = by_item (decoded_item k bytes) (at_key k bytes) where
-  by_item : (o : Option Item) → ((i : Item) → o ≡ Some i → key i ≡ k) → None ≡ option_and_then templates_said o
+  by_item : (o : Option Item) → ((i : Item) → o ≡ Some i → item_key i ≡ k) → None ≡ option_and_then templates_said o
   by_item None at = refl
   by_item (Some (templates_item ts)) at = absurd (true≢false (ap (λ (j : Key). is_same_key j (record { kind = 5; a = 0; b = 0 })) (at (templates_item ts) refl) ∙ other))
   by_item (Some (file_item f h)) at = refl
@@ -83,7 +83,7 @@ no_templates k bytes other = by_item (decoded_item k bytes) (at_key k bytes) whe
 pub no_settings : (k : Key) (bytes : List ℕ) → is_same_key k (record { kind = 9; a = 0; b = 0 }) ≡ false → None ≡ entry_of_record settings_said (k, bytes)
 unfolding entry_of_record
 no_settings k bytes other = by_item (decoded_item k bytes) (at_key k bytes) where
-  by_item : (o : Option Item) → ((i : Item) → o ≡ Some i → key i ≡ k) → None ≡ option_and_then settings_said o
+  by_item : (o : Option Item) → ((i : Item) → o ≡ Some i → item_key i ≡ k) → None ≡ option_and_then settings_said o
   by_item None at = refl
   by_item (Some (templates_item ts)) at = refl
   by_item (Some (file_item f h)) at = refl
@@ -97,11 +97,11 @@ no_settings k bytes other = by_item (decoded_item k bytes) (at_key k bytes) wher
 
 -- ---- the table
 
-record SaysTemplates (e : Entry) (ts : List Template) : Type 0 where
+record SaysTemplates (e : DirectoryRecord) (ts : List Template) : Type 0 where
   allowed : is_item (templates_item ts) ≡ true
   same : e ≡ item_record (templates_item ts)
 
-record SaysSettings (e : Entry) (s : Settings) : Type 0 where
+record SaysSettings (e : DirectoryRecord) (s : Settings) : Type 0 where
   allowed : is_item (settings_item s) ≡ true
   same : e ≡ item_record (settings_item s)
 
@@ -127,7 +127,7 @@ settings_item_of (node_item n node) s e = absurd cc
 settings_item_of (settings_item t) s e = ap settings_item (some_is t s e)
 settings_item_of (marks_item f c marks) s e = absurd cc
 
-says_templates : (e : Entry) (ts : List Template) → entry_of_record templates_said e ≡ Some ts → SaysTemplates e ts
+says_templates : (e : DirectoryRecord) (ts : List Template) → entry_of_record templates_said e ≡ Some ts → SaysTemplates e ts
 unfolding entry_of_record
 says_templates e ts said =
     let b = bind_some templates_said (decoded_item e.0 e.1) ts said in
@@ -135,10 +135,10 @@ says_templates e ts said =
     let is = templates_item_of b.0 ts b.2 in
     record {
       allowed = sym (ap is_item is) ∙ d.0;
-      same = ap (λ (k : Key). (k, e.1)) (sym d.1 ∙ ap key is) ∙ ap (λ (v : List ℕ). (key (templates_item ts), v)) (d.2 ∙ ap value is);
+      same = ap (λ (k : Key). (k, e.1)) (sym d.1 ∙ ap item_key is) ∙ ap (λ (v : List ℕ). (item_key (templates_item ts), v)) (d.2 ∙ ap value is);
     }
 
-says_settings : (e : Entry) (s : Settings) → entry_of_record settings_said e ≡ Some s → SaysSettings e s
+says_settings : (e : DirectoryRecord) (s : Settings) → entry_of_record settings_said e ≡ Some s → SaysSettings e s
 unfolding entry_of_record
 says_settings e s said =
     let b = bind_some settings_said (decoded_item e.0 e.1) s said in
@@ -146,21 +146,21 @@ says_settings e s said =
     let is = settings_item_of b.0 s b.2 in
     record {
       allowed = sym (ap is_item is) ∙ d.0;
-      same = ap (λ (k : Key). (k, e.1)) (sym d.1 ∙ ap key is) ∙ ap (λ (v : List ℕ). (key (settings_item s), v)) (d.2 ∙ ap value is);
+      same = ap (λ (k : Key). (k, e.1)) (sym d.1 ∙ ap item_key is) ∙ ap (λ (v : List ℕ). (item_key (settings_item s), v)) (d.2 ∙ ap value is);
     }
 
 -- templates and settings that records say may be held
-pub said_templates_allowed : (e : Entry) (ts : List Template) → entry_of_record templates_said e ≡ Some ts → is_item (templates_item ts) ≡ true
+pub said_templates_allowed : (e : DirectoryRecord) (ts : List Template) → entry_of_record templates_said e ≡ Some ts → is_item (templates_item ts) ≡ true
 said_templates_allowed e ts said = (says_templates e ts said).allowed
 
-pub said_settings_allowed : (e : Entry) (s : Settings) → entry_of_record settings_said e ≡ Some s → is_item (settings_item s) ≡ true
+pub said_settings_allowed : (e : DirectoryRecord) (s : Settings) → entry_of_record settings_said e ≡ Some s → is_item (settings_item s) ≡ true
 said_settings_allowed e s said = (says_settings e s said).allowed
 
 map_some : {X Y : Type 0} (f : X → Y) (o : Option X) (y : Y) → option_map f o ≡ Some y → (x : X) × (o ≡ Some x) × (f x ≡ y)
 map_some f (Some x) y e = (x, refl, cc)
 map_some f None y e = absurd cc
 
-found_of : (es : List Entry) (t : Table) → table_of es ≡ Some t → IsTable t × (es ≡ records_of t)
+found_of : (es : List DirectoryRecord) (t : Table) → table_of es ≡ Some t → IsTemplateTable t × (es ≡ records_of_templates t)
 found_of [] t read = absurd cc
 found_of (e ∷ []) t read = absurd cc
 found_of (e ∷ f ∷ []) t read =
@@ -168,18 +168,18 @@ found_of (e ∷ f ∷ []) t read =
     let b = map_some (λ (s : Settings). record { templates = a.0; settings = s }) (entry_of_record settings_said f) t a.2 in
     let one = says_templates e a.0 a.1 in
     let two = says_settings f b.0 b.1 in
-    let whole : IsTable (record { templates = a.0; settings = b.0 }) = record { templates = one.allowed; settings = two.allowed } in
-    let same : e ∷ f ∷ [] ≡ records_of (record { templates = a.0; settings = b.0 }) = ap (λ (x : Entry). x ∷ f ∷ []) one.same ∙ ap (λ (x : Entry). item_record (templates_item a.0) ∷ x ∷ []) two.same in
-    subst (λ (u : Table). IsTable u × (e ∷ f ∷ [] ≡ records_of u)) b.2 (whole, same)
+    let whole : IsTemplateTable (record { templates = a.0; settings = b.0 }) = record { templates = one.allowed; settings = two.allowed } in
+    let same : e ∷ f ∷ [] ≡ records_of_templates (record { templates = a.0; settings = b.0 }) = ap (λ (x : DirectoryRecord). x ∷ f ∷ []) one.same ∙ ap (λ (x : DirectoryRecord). item_record (templates_item a.0) ∷ x ∷ []) two.same in
+    subst (λ (u : Table). IsTemplateTable u × (e ∷ f ∷ [] ≡ records_of_templates u)) b.2 (whole, same)
 found_of (e ∷ f ∷ g ∷ es) t read = absurd cc
 
-again_of : (t : Table) → IsTable t → table_of (records_of t) ≡ Some t
+again_of : (t : Table) → IsTemplateTable t → table_of (records_of_templates t) ≡ Some t
 unfolding entry_of_record
 again_of t is = rw (item_codec.again (templates_item t.templates) is.templates, item_codec.again (settings_item t.settings) is.settings) refl
 
-pub table_found : (es : List Entry) (read : Option Table) → read ≡ table_of es → IfSome read (λ t. IsTable t × (es ≡ records_of t))
+pub table_found : (es : List DirectoryRecord) (read : Option Table) → read ≡ table_of es → IfSome read (λ t. IsTemplateTable t × (es ≡ records_of_templates t))
 table_found es None e = tt
 table_found es (Some t) e = found_of es t (sym e)
 
-pub table_again : (es : List Entry) (read : Option Table) (t : Table) → read ≡ table_of es → IsTable t → es ≡ records_of t → read ≡ Some t
+pub table_again : (es : List DirectoryRecord) (read : Option Table) (t : Table) → read ≡ table_of es → IsTemplateTable t → es ≡ records_of_templates t → read ≡ Some t
 table_again es read t e is same = e ∙ ap table_of same ∙ again_of t is

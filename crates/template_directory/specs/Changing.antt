@@ -6,12 +6,12 @@ use Rattle.asm_formats.specs.Values.{value}
 use Rattle.template_directory.specs.Tables.{Table}
 
 -- what the table says at a key
-abbrev pub item_at : Table → Key → Option Item
-item_at t k =
+abbrev pub template_item_at : Table → Key → Option Item
+template_item_at t k =
     if k.kind == templates_kind then (if (k.a == 0) && (k.b == 0) then Some (templates_item t.templates) else None)
     else if k.kind == settings_kind then (if (k.a == 0) && (k.b == 0) then Some (settings_item t.settings) else None)
     else None
 
 -- the value of its record
-abbrev pub value_at : Table → Key → Option (List ℕ)
-value_at t k = option_map value (item_at t k)
+abbrev pub template_value_at : Table → Key → Option (List ℕ)
+template_value_at t k = option_map value (template_item_at t k)

@@ -13,29 +13,29 @@ use Rattle.asm_group.specs.Causes.{Causes, first_cause}
 use Rattle.asm_group.specs.TemplateEdits as e
 use Rattle.template_directory.specs.Tables.{template_named}
 
-abbrev pub edit_meant : TemplateEdit → e.TemplateEdit
-edit_meant (code.Add name copies stripe) = e.Add name copies stripe
-edit_meant (code.Modify name copies stripe) = e.Modify name copies stripe
-edit_meant (code.Drop name) = e.Drop name
+abbrev pub template_edit_meant : TemplateEdit → e.TemplateEdit
+template_edit_meant (code.Add name copies stripe) = e.Add name copies stripe
+template_edit_meant (code.Modify name copies stripe) = e.Modify name copies stripe
+template_edit_meant (code.Drop name) = e.Drop name
 
 -- copies that are said are one, two or three
-abbrev pub are_copies : Option ℕ → Bool
-are_copies None = true
-are_copies (Some n) = is_redundancy n
+abbrev pub is_optional_redundancy : Option ℕ → Bool
+is_optional_redundancy None = true
+is_optional_redundancy (Some n) = is_redundancy n
 
 -- the name is one of the grammar, and the copies are such as a template may have
-abbrev pub is_edit : e.TemplateEdit → Bool
-is_edit (e.Add name copies stripe) = is_name name && are_copies copies
-is_edit (e.Modify name copies stripe) = is_name name && are_copies copies
-is_edit (e.Drop name) = true
+abbrev pub is_template_edit : e.TemplateEdit → Bool
+is_template_edit (e.Add name copies stripe) = is_name name && is_optional_redundancy copies
+is_template_edit (e.Modify name copies stripe) = is_name name && is_optional_redundancy copies
+is_template_edit (e.Drop name) = true
 
 -- a refusal as it is said; those of templates name no disk
 abbrev pub refusal_said : Refusal → r.Refusal
 refusal_said cause = said (λ n. []) cause
 
 -- want of memory, or why the edit is refused
-abbrev pub IsRefusal : Result (ByName Template) r.Refusal → Refusal → Type 0
-IsRefusal edited cause = (refusal_said cause ≡ r.NoMemory) ⊎ (edited ≡ Err (refusal_said cause))
+abbrev pub IsTemplateEditRefusal : Result (ByName Template) r.Refusal → Refusal → Type 0
+IsTemplateEditRefusal edited cause = (refusal_said cause ≡ r.NoMemory) ⊎ (edited ≡ Err (refusal_said cause))
 
 -- the same tests, on the list of the templates
 abbrev pub listed_causes : GroupKind → List Template → e.TemplateEdit → Causes

@@ -7,7 +7,7 @@ use Rattle.std.specs.declared.cmp.Ordering.TheVariants.{Less, Equal, Greater}
 use Rattle.asm_group.specs.Names.{Bytes, is_same_name}
 use Rattle.asm_group.specs.Group.{Template}
 use Rattle.asm_formats.specs.Items.{Settings, Item, templates_item, settings_item, Key, is_item, most_templates, settings_kind, templates_kind}
-use Rattle.asm_base.specs.Records.{Entry}
+use Rattle.asm_base.specs.Records.{DirectoryRecord}
 use Rattle.asm_base.specs.Tables.{entry_of_record, item_record}
 use Rattle.asm_base.specs.Names.{folded_cmp}
 
@@ -29,39 +29,39 @@ if_same name None = None
 if_same name (Some t) = if is_same_name name t.name then Some t else None
 
 -- this template before, in the place of, or behind the first of a list
-abbrev pub placed : Ordering → Template → Template → List Template → List Template → List Template
-placed Less t s ss behind = t ∷ s ∷ ss
-placed Equal t s ss behind = t ∷ ss
-placed Greater t s ss behind = s ∷ behind
+abbrev pub template_by_order : Ordering → Template → Template → List Template → List Template → List Template
+template_by_order Less t s ss behind = t ∷ s ∷ ss
+template_by_order Equal t s ss behind = t ∷ ss
+template_by_order Greater t s ss behind = s ∷ behind
 
 -- the list with this template in its place, which is that of the template of its name where there is one
-abbrev pub with_template : Template → List Template → List Template
-with_template t [] = t ∷ []
-with_template t (s ∷ ss) = placed (folded_cmp t.name s.name) t s ss (with_template t ss)
+abbrev pub with_template_in_order : Template → List Template → List Template
+with_template_in_order t [] = t ∷ []
+with_template_in_order t (s ∷ ss) = template_by_order (folded_cmp t.name s.name) t s ss (with_template_in_order t ss)
 
 abbrev pub without_template : Bytes → List Template → List Template
 without_template name ts = filter (λ (t : Template). not (is_same_name name t.name)) ts
 
 -- whether a template of the name may be put: one is there, or there are fewer than 64
-abbrev pub has_room : Bytes → List Template → Bool
-has_room name ts = is_some (template_named name ts) || nat_lt (length ts) most_templates
+abbrev pub has_room_for_template : Bytes → List Template → Bool
+has_room_for_template name ts = is_some (template_named name ts) || nat_lt (length ts) most_templates
 
 -- how many names are before a name
-abbrev pub place_of : Bytes → List Template → ℕ
-place_of name [] = 0
-place_of name (t ∷ ts) = if is_lt (folded_cmp t.name name) then suc (place_of name ts) else 0
+abbrev pub count_of_names_before : Bytes → List Template → ℕ
+count_of_names_before name [] = 0
+count_of_names_before name (t ∷ ts) = if is_lt (folded_cmp t.name name) then suc (count_of_names_before name ts) else 0
 
 -- ---- records
 
 -- the records of templates and of settings
-abbrev pub is_mine : Key → Bool
-is_mine k = (k.kind == templates_kind) || (k.kind == settings_kind)
+abbrev pub is_key_of_templates : Key → Bool
+is_key_of_templates k = (k.kind == templates_kind) || (k.kind == settings_kind)
 
-abbrev pub records_of : Table → List Entry
-records_of t = item_record (templates_item t.templates) ∷ item_record (settings_item t.settings) ∷ []
+abbrev pub records_of_templates : Table → List DirectoryRecord
+records_of_templates t = item_record (templates_item t.templates) ∷ item_record (settings_item t.settings) ∷ []
 
 -- both records are there, and such as a directory may hold
-pub record IsTable (t : Table) : Type 0 where
+pub record IsTemplateTable (t : Table) : Type 0 where
   pub templates : is_item (templates_item t.templates) ≡ true
   pub settings : is_item (settings_item t.settings) ≡ true
 
@@ -75,7 +75,7 @@ settings_said (settings_item s) = Some s
 settings_said _ = None
 
 -- the table that these records are, of which there must be two
-abbrev pub table_of : List Entry → Option Table
+abbrev pub table_of : List DirectoryRecord → Option Table
 table_of (e ∷ f ∷ []) =
     option_and_then (λ ts. option_map (λ s. record { templates = ts; settings = s }) (entry_of_record settings_said f)) (entry_of_record templates_said e)
 table_of _ = None

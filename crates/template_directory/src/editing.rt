@@ -6,7 +6,7 @@ ghost use Rattle.asm_formats.specs.Items.{is_item, templates_item};
 ghost use Rattle.asm_group.specs.NewGroup.{templates_by_name};
 ghost use Rattle.asm_group.specs.Refusal.{TooMany, Templates};
 ghost use Rattle.asm_group.specs.TemplateEdits.{Add, Modify, Drop, allows_copies, said_copies, templates_edited, with_template_edit};
-ghost use Rattle.template_directory.specs.Meant.{IsRefusal, are_copies, edit_meant, is_edit, listed_cause, refusal_said};
+ghost use Rattle.template_directory.specs.Meant.{IsTemplateEditRefusal, is_optional_redundancy, template_edit_meant, is_template_edit, listed_cause, refusal_said};
 
 use crate::reading::MOST_TEMPLATES;
 use crate::system_templates::usual_copies;
@@ -38,7 +38,7 @@ pub enum TemplateEdit {
 impl TemplateEdit {
     /// Whether the name is one of the grammar, and the copies that are said are one, two or three.
     pub fn is_allowed(&self) -> bool
-        ensures { result ≡ is_edit (edit_meant self.now) }
+        ensures { result ≡ is_template_edit (template_edit_meant self.now) }
     {
         match self {
             TemplateEdit::Add { name, copies, .. } => name.is_name() && are_copies(*copies),
@@ -53,9 +53,9 @@ impl TemplateTable {
     /// TooMany, of Modify NoTemplate and BadRedundancy, of Drop NoTemplate and SystemTemplate, and NoMemory. After an
     /// `Err` the table is as it was.
     pub fn edit(&mut self, kind: GroupKind, edit: &TemplateEdit) -> Result<(), Refusal>
-        requires { IsTrue (is_edit (edit_meant edit.now)) }
-        ensures done { OnOk result (templates_edited kind (templates_by_name self.old.templates) (edit_meant edit.now) ≡ Ok (templates_by_name self.new.templates)) }
-        ensures refused { IfErr result (IsRefusal (templates_edited kind (templates_by_name self.old.templates) (edit_meant edit.now))) }
+        requires { IsTrue (is_template_edit (template_edit_meant edit.now)) }
+        ensures done { OnOk result (templates_edited kind (templates_by_name self.old.templates) (template_edit_meant edit.now) ≡ Ok (templates_by_name self.new.templates)) }
+        ensures refused { IfErr result (IsTemplateEditRefusal (templates_edited kind (templates_by_name self.old.templates) (template_edit_meant edit.now))) }
         ensures unchanged { OnErr result (self.new ≡ self.old) }
         ensures settings { self.new.settings ≡ self.old.settings }
     {
@@ -71,7 +71,7 @@ impl TemplateTable {
     /// Why an edit is refused, or None where it isn't.
     #[tactic(auto, unfolding(asm_base::specs::Refusals::said))]
     fn refusal(&self, kind: GroupKind, edit: &TemplateEdit) -> Option<Refusal>
-        ensures cause { option_map refusal_said result ≡ listed_cause kind self.now.templates (edit_meant edit.now) }
+        ensures cause { option_map refusal_said result ≡ listed_cause kind self.now.templates (template_edit_meant edit.now) }
         ensures allowed { is_item (templates_item self.now.templates) ≡ true }
     {
         match edit {
@@ -107,9 +107,9 @@ impl TemplateTable {
 
     /// Does an edit that isn't refused.
     fn apply(&mut self, kind: GroupKind, edit: &TemplateEdit) -> Result<(), NoMemory>
-        requires edit { IsTrue (is_edit (edit_meant edit.now)) }
-        requires free { listed_cause kind self.old.templates (edit_meant edit.now) ≡ None }
-        ensures ok { OnOk result (templates_by_name self.new.templates ≡ with_template_edit kind (templates_by_name self.old.templates) (edit_meant edit.now)) }
+        requires edit { IsTrue (is_template_edit (template_edit_meant edit.now)) }
+        requires free { listed_cause kind self.old.templates (template_edit_meant edit.now) ≡ None }
+        ensures ok { OnOk result (templates_by_name self.new.templates ≡ with_template_edit kind (templates_by_name self.old.templates) (template_edit_meant edit.now)) }
         ensures err { OnErr result (self.new ≡ self.old) }
         ensures settings { self.new.settings ≡ self.old.settings }
     {
@@ -139,7 +139,7 @@ impl TemplateTable {
         copies: Option<u8>,
         stripe: Stripe,
     ) -> Result<(), NoMemory>
-        requires edit { is_edit (Add name.now copies stripe) ≡ true }
+        requires edit { is_template_edit (Add name.now copies stripe) ≡ true }
         requires free { listed_cause kind self.old.templates (Add name.now copies stripe) ≡ None }
         ensures ok { OnOk result (templates_by_name self.new.templates ≡ with_template_edit kind (templates_by_name self.old.templates) (Add name.now copies stripe)) }
         ensures err { OnErr result (self.new ≡ self.old) }
@@ -158,7 +158,7 @@ impl TemplateTable {
         copies: Option<u8>,
         stripe: Stripe,
     ) -> Result<(), NoMemory>
-        requires edit { is_edit (Modify name.now copies stripe) ≡ true }
+        requires edit { is_template_edit (Modify name.now copies stripe) ≡ true }
         requires free { listed_cause kind self.old.templates (Modify name.now copies stripe) ≡ None }
         ensures ok { OnOk result (templates_by_name self.new.templates ≡ with_template_edit kind (templates_by_name self.old.templates) (Modify name.now copies stripe)) }
         ensures err { OnErr result (self.new ≡ self.old) }
@@ -229,7 +229,7 @@ fn allows(kind: GroupKind, copies: Option<u8>) -> bool
 }
 
 fn are_copies(copies: Option<u8>) -> bool
-    ensures { result ≡ are_copies copies }
+    ensures { result ≡ is_optional_redundancy copies }
 {
     match copies {
         Some(copies) => 1 <= copies && copies <= 3,

@@ -5,7 +5,7 @@ ghost use Rattle.std.specs.Option.{option_copied};
 ghost use Rattle.std.specs.List.{insert, remove, slice_get};
 ghost use Rattle.asm_formats.specs.Items.{is_item, is_template, names_ascend, templates_item, settings_item};
 ghost use Rattle.asm_base.specs.Records.{of_kinds};
-ghost use Rattle.template_directory.specs.Tables.{Table, IsTable, if_same, is_mine, place_of, records_of, table_of, template_named, with_template, without_template};
+ghost use Rattle.template_directory.specs.Tables.{Table, IsTemplateTable, if_same, is_key_of_templates, count_of_names_before, records_of_templates, table_of, template_named, with_template_in_order, without_template};
 
 use crate::reading::{MOST_TEMPLATES, settings_in, templates_in};
 use crate::settings::Settings;
@@ -24,17 +24,17 @@ pub struct TemplateTable {
 }
 
 impl Model for TemplateTable {
-    ghost use Rattle.template_directory.specs.Tables.{Table, IsTable};
+    ghost use Rattle.template_directory.specs.Tables.{Table, IsTemplateTable};
 
     ghost Value = { Table };
 
     ghost view = { λ t. record { templates = t.templates.items; settings = t.settings } };
 
-    ghost invariant = { λ t. IsTable (record { templates = t.templates.items; settings = t.settings }) };
+    ghost invariant = { λ t. IsTemplateTable (record { templates = t.templates.items; settings = t.settings }) };
 }
 
 impl TemplateTable {
-    ghost use Rattle.template_directory.specs.Tables.{Table, IsTable, has_room, is_mine, records_of, table_of, template_named, with_template, without_template};
+    ghost use Rattle.template_directory.specs.Tables.{Table, IsTemplateTable, has_room_for_template, is_key_of_templates, records_of_templates, table_of, template_named, with_template_in_order, without_template};
 
     /// The table of templates by folded name and settings.
     pub fn new(templates: List<Template>, settings: Settings) -> TemplateTable
@@ -88,7 +88,7 @@ impl TemplateTable {
 
     /// Whether a template of this name may be put: one is there, or there are fewer than 64.
     pub fn has_room(&self, name: &Name) -> bool
-        ensures { result ≡ has_room name.now self.now.templates }
+        ensures { result ≡ has_room_for_template name.now self.now.templates }
     {
         self.get(name).is_some() || self.list().len() < MOST_TEMPLATES
     }
@@ -98,8 +98,8 @@ impl TemplateTable {
     #[tactic(auto, using(crate::proofs::Listing::ascends, crate::proofs::Listing::with_allowed))]
     pub fn put(&mut self, template: Template) -> Result<(), NoMemory>
         requires allowed { IsTrue (is_template template) }
-        requires room { IsTrue (has_room template.name self.old.templates) }
-        ensures ok { OnOk result (self.new ≡ record { templates = with_template template self.old.templates; settings = self.old.settings }) }
+        requires room { IsTrue (has_room_for_template template.name self.old.templates) }
+        ensures ok { OnOk result (self.new ≡ record { templates = with_template_in_order template self.old.templates; settings = self.old.settings }) }
         ensures err { OnErr result (self.new ≡ self.old) }
     {
         put_in(&mut self.templates, template)
@@ -125,7 +125,7 @@ impl TemplateTable {
 
     /// Puts the two records into a change. After an `Err` one of them may stand there.
     pub fn to_records(&self, alloc: Global, change: &mut Change) -> Result<(), NoMemory>
-        ensures put { OnOk result (change.new.put ≡ change.old.put ++ records_of self.now) }
+        ensures put { OnOk result (change.new.put ≡ change.old.put ++ records_of_templates self.now) }
         ensures gone { change.new.gone ≡ change.old.gone }
     {
         let templates = templates_value(alloc, self.list())?;
@@ -140,16 +140,16 @@ impl TemplateTable {
     /// another of their kinds.
     pub fn from_records(alloc: Global, records: &Records) -> Result<Option<TemplateTable>, NoMemory>
         // What is read is a table that has these records.
-        ensures found { IfOk result (λ read. IfSome read (λ t. IsTable t × (of_kinds is_mine records.now ≡ records_of t))) }
+        ensures found { IfOk result (λ read. IfSome read (λ t. IsTemplateTable t × (of_kinds is_key_of_templates records.now ≡ records_of_templates t))) }
         // A table that has these records is read.
-        ensures only { IfOk result (λ read. (t : Table) → IsTable t → of_kinds is_mine records.now ≡ records_of t → read ≡ Some t) }
+        ensures only { IfOk result (λ read. (t : Table) → IsTemplateTable t → of_kinds is_key_of_templates records.now ≡ records_of_templates t → read ≡ Some t) }
     {
         TemplateTable::read(alloc, records)
     }
 
     #[tactic(auto, using(crate::proofs::ReadingLaws::said_templates_allowed, crate::proofs::ReadingLaws::said_settings_allowed))]
     fn read(alloc: Global, records: &Records) -> Result<Option<TemplateTable>, NoMemory>
-        ensures { IfOk result (λ read. read ≡ table_of (of_kinds is_mine records.now)) }
+        ensures { IfOk result (λ read. read ≡ table_of (of_kinds is_key_of_templates records.now)) }
     {
         let mut left = records.iter();
         let Some((key, value)) = next_mine(&mut left) else {
@@ -191,8 +191,8 @@ fn only_key(kind: u16) -> Key
 
 /// The next record of templates or settings.
 fn next_mine<'a>(left: &mut Iter<'a, Key, Value>) -> Option<(Key, &'a Value)>
-    ensures none { IfNone result (of_kinds is_mine left.old ≡ []) }
-    ensures some { IfSome result (λ e. of_kinds is_mine left.old ≡ (e.0, e.1.now) ∷ of_kinds is_mine left.new) }
+    ensures none { IfNone result (of_kinds is_key_of_templates left.old ≡ []) }
+    ensures some { IfSome result (λ e. of_kinds is_key_of_templates left.old ≡ (e.0, e.1.now) ∷ of_kinds is_key_of_templates left.new) }
 {
     while let Some((key, value)) = left.next() {
         if is_mine(*key) {
@@ -203,7 +203,7 @@ fn next_mine<'a>(left: &mut Iter<'a, Key, Value>) -> Option<(Key, &'a Value)>
 }
 
 fn is_mine(key: Key) -> bool
-    ensures { result ≡ is_mine key }
+    ensures { result ≡ is_key_of_templates key }
 {
     key.kind == record_kind::TEMPLATES || key.kind == record_kind::SETTINGS
 }
@@ -211,7 +211,7 @@ fn is_mine(key: Key) -> bool
 /// How many names are before a name.
 fn place(templates: &[Template], name: &Name) -> usize
     requires { names_ascend templates.now ≡ true }
-    ensures place { result ≡ place_of name.now templates.now }
+    ensures place { result ≡ count_of_names_before name.now templates.now }
     ensures bound { result ≤ length templates.now }
 {
     templates.partition_point(|template| template.name.folded_cmp(name).is_lt())
@@ -255,7 +255,7 @@ fn has(templates: &[Template], name: &Name) -> bool
 
 fn put_in(templates: &mut Vec<Template>, template: Template) -> Result<(), NoMemory>
     requires { names_ascend templates.old.items ≡ true }
-    ensures ok { OnOk result (templates.new.items ≡ with_template template templates.old.items) }
+    ensures ok { OnOk result (templates.new.items ≡ with_template_in_order template templates.old.items) }
     ensures err { OnErr result (templates.new.items ≡ templates.old.items) }
 {
     let index = place(templates, template.name());

@@ -3,7 +3,7 @@
 ghost use Rattle.std.specs.Prelude.{◌≡◌, ◌≤◌, ◌+◌, ◌*◌, ◌∷◌, length, flat_map, IfOk, IsTrue, true};
 ghost use Rattle.asm_formats.specs.Items.{is_item, is_template, templates_item, settings_item};
 ghost use Rattle.asm_formats.specs.Values.{value, template_fields, settings_value};
-ghost use Rattle.asm_base.specs.Cursors.{Puts};
+ghost use Rattle.asm_base.specs.Cursors.{PutsField};
 ghost use Rattle.std.specs.List.{list_all};
 
 use crate::settings::Settings;
@@ -48,7 +48,7 @@ fn put_templates(to: &mut Writer, templates: &[Template])
     requires few { length templates.now ≤ 64 }
     requires all { IsTrue (list_all is_template templates.now) }
     requires room { to.old.at + 1 + 34 * length templates.now ≤ 4096 }
-    ensures puts { Puts to.old to.new (length templates.now ∷ flat_map template_fields templates.now) }
+    ensures puts { PutsField to.old to.new (length templates.now ∷ flat_map template_fields templates.now) }
     ensures at { to.new.at ≡ to.old.at + 1 + 34 * length templates.now }
 {
     put_u8(to, templates.len() as u8);
@@ -60,7 +60,7 @@ fn put_templates(to: &mut Writer, templates: &[Template])
 fn put_template(to: &mut Writer, template: &Template)
     requires right { IsTrue (is_template template.now) }
     requires room { to.old.at + 34 ≤ 4096 }
-    ensures puts { Puts to.old to.new (template_fields template.now) }
+    ensures puts { PutsField to.old to.new (template_fields template.now) }
     ensures at { to.new.at ≡ to.old.at + 34 }
 {
     put_name(to, &template.name, 30);
@@ -74,7 +74,7 @@ fn put_settings(to: &mut Writer, settings: &Settings)
     requires asm { length settings.now.attributes.asm ≤ 30 }
     requires rdbms { length settings.now.attributes.rdbms ≤ 30 }
     requires advm { length settings.now.attributes.advm ≤ 30 }
-    ensures puts { Puts to.old to.new (settings_value settings.now) }
+    ensures puts { PutsField to.old to.new (settings_value settings.now) }
     ensures at { to.new.at ≡ 109 }
 {
     put_u64(to, settings.incarnation);

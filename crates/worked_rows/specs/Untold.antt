@@ -3,8 +3,8 @@ use Rattle.std.specs.Prelude.{◌≡◌, ℕ, None}
 use Rattle.bay.specs.State.{BayState}
 
 -- a state that tells nothing of images
-abbrev pub untold : BayState → BayState
-untold state = record {
+abbrev pub untold_state : BayState → BayState
+untold_state state = record {
   attached = state.attached;
   holds = None;
   calls = state.calls;

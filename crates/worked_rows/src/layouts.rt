@@ -1,5 +1,5 @@
 // Where bytes of files lie: calls that no script makes alone.
-ghost use Rattle.striping.specs.Pieces.{IsLayout};
+ghost use Rattle.striping.specs.Pieces.{IsAllowedLayout};
 
 use asm_base::{Span, Stripe};
 use std::alloc::{AllocError, Global};
@@ -26,7 +26,7 @@ pub enum Question {
 }
 
 fn layout_of(group: Group, stripe: Stripe) -> Layout
-    ensures { IsLayout result }
+    ensures { IsAllowedLayout result }
 {
     match group {
         Group::Usual => Layout {
@@ -53,7 +53,7 @@ fn units_below(step: u32, extents: u64) -> u64 {
 
 /// The first piece of a span that doesn't end past 64 bits.
 fn piece(layout: Layout, at: u64, len: u64) -> Option<(u64, u64, u64)>
-    requires { IsLayout layout }
+    requires { IsAllowedLayout layout }
 {
     if len > u64::MAX - at {
         return None;
@@ -62,7 +62,7 @@ fn piece(layout: Layout, at: u64, len: u64) -> Option<(u64, u64, u64)>
 }
 
 fn piece_text(alloc: Global, layout: Layout, at: u64, len: u64) -> Result<String, AllocError>
-    requires { IsLayout layout }
+    requires { IsAllowedLayout layout }
 {
     match piece(layout, at, len) {
         Some((extent, inner, length)) => {

@@ -121,12 +121,12 @@ impl<'a> RuledBay<'a> {
 }
 
 impl Bay for RuledBay<'_> {
-    ghost use Rattle.worked_rows.specs.RuledBays.{state_of};
-    ghost use Rattle.worked_rows.specs.RuledSound.{sound};
+    ghost use Rattle.worked_rows.specs.RuledBays.{ruled_bay_state};
+    ghost use Rattle.worked_rows.specs.RuledSound.{ruled_bay_is_sound};
 
-    ghost state = { state_of };
+    ghost state = { ruled_bay_state };
 
-    ghost sound = { sound };
+    ghost sound = { ruled_bay_is_sound };
 
     fn attach(&mut self, slot: u32, path: &str) -> Result<u64, BayError> {
         self.begin(Kind::Attach, slot, 0);

@@ -10,8 +10,8 @@ use Rattle.asm_group.specs.Names.{Bytes, Path, folded, is_same_name}
 use Rattle.asm_group.specs.Refusal as r
 use Rattle.asm_group.specs.TemplateEdits as te
 use Rattle.asm_world.specs.Below.{Below}
-use Rattle.asm_world.specs.Between.{group_of, groups_named}
-use Rattle.asm_world.specs.Causes.{Cause, May, IsCaused, alias_causes, at_target, by_result, causes, clause_causes, commit_causes, decided, in_group, may, template_clause_causes, tests, tree_causes}
+use Rattle.asm_world.specs.Between.{group_name_of, groups_named}
+use Rattle.asm_world.specs.Causes.{Cause, May, IsCaused, alias_causes, at_target, by_result, causes, clause_causes, commit_causes, decided, in_group, may, template_clause_causes, tested_causes, tree_causes}
 use Rattle.asm_world.specs.Command as c
 use Rattle.asm_world.specs.Edits as e
 use Rattle.asm_world.specs.Paths.{clause_path, target_from}
@@ -19,7 +19,7 @@ use Rattle.asm_world.specs.Reply.{Done, Refused}
 use Rattle.asm_world.specs.Settings as t
 use Rattle.asm_world.specs.Numbers as code
 use Rattle.asm_world.specs.Statement as s
-use Rattle.asm_world.specs.Step.{AddsAlias, ChangesNames, ChangesTemplates, DoneClause, DoneCommand, Edits, Has, edit_of, on_path, on_paths}
+use Rattle.asm_world.specs.Step.{AddsAlias, ChangesNames, ChangesTemplates, DoneClause, DoneCommand, EditsTree, HasMountedGroup, edit_of, on_path, on_paths}
 use Rattle.asm_world.specs.Waits.{HasLines}
 use Rattle.asm_world.specs.World.{World, with_group}
 use Rattle.world_steps.specs.Steps.{GroupChange, asks_edit, at_led, by_alias, by_clause, by_tree, change_of, is_edit_clause, is_edit_verb, makes_name, verb_change}
@@ -47,7 +47,7 @@ commit_full false need free is = absurd (false≢true is)
 -- the causes are the tests, and the commit where none is true
 pub record Parts (makes : Bool) (list : List Cause) (ts : Tests) : Type 0 where
   pub rest : List Cause
-  pub split : list ≡ tests ts ++ rest
+  pub split : list ≡ tested_causes ts ++ rest
   pub commits : first_cause ts ≡ None → rest ≡ commit makes
 
 -- The command changes the group that it names so, by its tests.
@@ -61,7 +61,7 @@ pub record Edit (w : World) (command : c.Command) (asked : GroupChange) : Type 0
   pub all_are : (g : Group) → all_plain (tests_of g) ≡ true
   pub changed : Group → Group
   pub change_is : (g : Group) → asked.1 g ≡ unless_refused (first_cause (tests_of g)) (changed g)
-  pub done : (below : Below) (id : ℕ) (g h : Group) → Has w asked.0 id g → asked.1 g ≡ Ok h → DoneCommand below w command [] (with_group w id h)
+  pub done : (below : Below) (id : ℕ) (g h : Group) → HasMountedGroup w asked.0 id g → asked.1 g ≡ Ok h → DoneCommand below w command [] (with_group w id h)
   pub lines : (below : Below) → HasLines below w command (Done []) × ((cause : r.Refusal) → HasLines below w command (Refused [] cause))
 
 -- ---- edits of names
@@ -69,11 +69,11 @@ pub record Edit (w : World) (command : c.Command) (asked : GroupChange) : Type 0
 -- NoName where a path isn't one of the group, else the tests of the edit
 abbrev tree_tests : Option e.TreeEdit → Group → Tests
 tree_tests None g = (true, r.NoName) ∷ []
-tree_tests (Some edit) g = e.edit_causes g edit
+tree_tests (Some edit) g = e.group_edit_causes g edit
 
 abbrev tree_changed : Option e.TreeEdit → Group → Group
 tree_changed None g = g
-tree_changed (Some edit) g = e.changed g edit
+tree_changed (Some edit) g = e.changed_group g edit
 
 abbrev Commits : Bool → Option e.TreeEdit → Type 0
 Commits makes None = ⊤
@@ -83,13 +83,13 @@ tree_parts : (makes : Bool) (o : Option e.TreeEdit) (g : Group) → Commits make
 tree_parts makes None g is = record { rest = []; split = refl; commits = λ none. absurd (none-some r.NoName (sym none)) }
 tree_parts makes (Some edit) g is = record { rest = commit_causes edit; split = refl; commits = λ none. is }
 
-plain_edit : (g : Group) (edit : e.TreeEdit) → all_plain (e.edit_causes g edit) ≡ true
+plain_edit : (g : Group) (edit : e.TreeEdit) → all_plain (e.group_edit_causes g edit) ≡ true
 plain_edit g (e.MakeDir path) = refl
 plain_edit g (e.DropDir path) = refl
 plain_edit g (e.RenameDir old new) = refl
-plain_edit g (e.AddAlias alias path) = refl
-plain_edit g (e.RenameAlias old new) = refl
-plain_edit g (e.DropAlias path) = refl
+plain_edit g (e.AddAliasEntry alias path) = refl
+plain_edit g (e.RenameAliasEntry old new) = refl
+plain_edit g (e.DropAliasEntry path) = refl
 plain_edit g other = refl
 
 plain_tree : (o : Option e.TreeEdit) (g : Group) → all_plain (tree_tests o g) ≡ true
@@ -100,7 +100,7 @@ tree_is : (o : Option e.TreeEdit) (g : Group) → by_tree o g ≡ unless_refused
 tree_is None g = refl
 tree_is (Some edit) g = refl
 
-tree_done : (o : Option e.TreeEdit) (g h : Group) → by_tree o g ≡ Ok h → Edits o g h
+tree_done : (o : Option e.TreeEdit) (g h : Group) → by_tree o g ≡ Ok h → EditsTree o g h
 tree_done None g h is = absurd cc
 tree_done (Some edit) g h is = is
 
@@ -117,11 +117,11 @@ commits_at_both makes f is (Some p) (Some q) = is p q
 
 abbrev alias_tests : Option (Bytes × Path) → Path → Group → Tests
 alias_tests None alias g = (true, r.NoGroup) ∷ []
-alias_tests (Some (name, path)) alias g = (not (is_same_name name g.name), r.NoName) ∷ e.edit_causes g (e.AddAlias alias path)
+alias_tests (Some (name, path)) alias g = (not (is_same_name name g.name), r.NoName) ∷ e.group_edit_causes g (e.AddAliasEntry alias path)
 
 abbrev alias_changed : Option (Bytes × Path) → Path → Group → Group
 alias_changed None alias g = g
-alias_changed (Some (name, path)) alias g = e.changed g (e.AddAlias alias path)
+alias_changed (Some (name, path)) alias g = e.changed_group g (e.AddAliasEntry alias path)
 
 alias_parts : (o : Option (Bytes × Path)) (alias : Path) (g : Group) → Parts true (alias_causes o g.name alias g) (alias_tests o alias g)
 alias_parts None alias g = record { rest = []; split = refl; commits = λ none. absurd (none-some r.NoGroup (sym none)) }
@@ -137,7 +137,7 @@ if_same false ts h = refl
 
 alias_is : (o : Option (Bytes × Path)) (alias : Path) (g : Group) → by_alias o alias g ≡ unless_refused (first_cause (alias_tests o alias g)) (alias_changed o alias g)
 alias_is None alias g = refl
-alias_is (Some (name, path)) alias g = if_same (is_same_name name g.name) (e.edit_causes g (e.AddAlias alias path)) (e.changed g (e.AddAlias alias path))
+alias_is (Some (name, path)) alias g = if_same (is_same_name name g.name) (e.group_edit_causes g (e.AddAliasEntry alias path)) (e.changed_group g (e.AddAliasEntry alias path))
 
 flip : (a b : Bytes) → is_same_name a b ≡ true → is_same_name b a ≡ true
 flip a b is = nat_list_eq_equiv.symm (folded b) (folded a) ∙ is
@@ -149,12 +149,12 @@ then_same false result h is = absurd cc
 alias_done : (o : Option (Bytes × Path)) (alias : Path) (g h : Group) → by_alias o alias g ≡ Ok h → AddsAlias o alias g h
 alias_done None alias g h is = absurd cc
 alias_done (Some (name, path)) alias g h is =
-    let same = then_same (is_same_name name g.name) (e.edited g (e.AddAlias alias path)) h is in
+    let same = then_same (is_same_name name g.name) (e.edited_group g (e.AddAliasEntry alias path)) h is in
     (flip name g.name same.0, same.1)
 
 -- ---- edits of templates, and attributes
 
-plain_template : (g : Group) (edit : t.TemplateEdit) → all_plain (t.template_causes g edit) ≡ true
+plain_template : (g : Group) (edit : t.TemplateEdit) → all_plain (t.group_template_causes g edit) ≡ true
 plain_template g (te.Add name copies stripe) = refl
 plain_template g (te.Modify name copies stripe) = refl
 plain_template g (te.Drop name) = refl
@@ -205,15 +205,15 @@ module _ (w : World) (name : Bytes) (clause : s.Clause) where
   template_clause : (edit : t.TemplateEdit) → ((below : Below) → clause_causes below w name clause ≡ template_clause_causes w name edit)
       → commit (makes_name (c.Said (s.Alter name clause))) ≡ commit false
       → ((below : Below) (new : World) → ChangesTemplates w name edit [] new → DoneClause below w name clause [] new) → NoLines
-      → Edit w (c.Said (s.Alter name clause)) (name, λ g. t.templates_edited g edit)
+      → Edit w (c.Said (s.Alter name clause)) (name, λ g. t.group_after_template_edit g edit)
   template_clause edit are commits done lines = record {
     named = refl;
-    list_of = λ g. tests (t.template_causes g edit) ++ May code.dismounted ∷ [];
+    list_of = λ g. tested_causes (t.group_template_causes g edit) ++ May code.dismounted ∷ [];
     causes_are = are;
-    tests_of = λ g. t.template_causes g edit;
+    tests_of = λ g. t.group_template_causes g edit;
     parts = λ g. record { rest = May code.dismounted ∷ []; split = refl; commits = λ none. sym commits };
     all_are = λ g. plain_template g edit;
-    changed = λ g. t.with_template_edit g edit;
+    changed = λ g. t.group_with_template_edit g edit;
     change_is = λ g. refl;
     done = λ below id g h has is. done below (with_group w id h) (record { id = id; old = g; changed = h; has = has; step_is = is; is = refl }, refl);
     lines = lines;
@@ -249,13 +249,13 @@ clause_edit w name (s.RenameDirectory old new) edits =
     tree_clause w name (s.RenameDirectory old new) (λ below. refl) (commits_at_both false (λ p q. e.RenameDir p q) (λ p q. refl) (clause_path name old) (clause_path name new))
     (λ below changed is. is) (λ below. (refl, λ cause. refl))
 clause_edit w name (s.AddAlias alias path) edits =
-    tree_clause w name (s.AddAlias alias path) (λ below. refl) (commits_at_both true (λ p q. e.AddAlias p q) (λ p q. refl) (clause_path name alias) (clause_path name path))
+    tree_clause w name (s.AddAlias alias path) (λ below. refl) (commits_at_both true (λ p q. e.AddAliasEntry p q) (λ p q. refl) (clause_path name alias) (clause_path name path))
     (λ below changed is. is) (λ below. (refl, λ cause. refl))
 clause_edit w name (s.RenameAlias old new) edits =
-    tree_clause w name (s.RenameAlias old new) (λ below. refl) (commits_at_both false (λ p q. e.RenameAlias p q) (λ p q. refl) (clause_path name old) (clause_path name new))
+    tree_clause w name (s.RenameAlias old new) (λ below. refl) (commits_at_both false (λ p q. e.RenameAliasEntry p q) (λ p q. refl) (clause_path name old) (clause_path name new))
     (λ below changed is. is) (λ below. (refl, λ cause. refl))
 clause_edit w name (s.DropAlias path) edits =
-    tree_clause w name (s.DropAlias path) (λ below. refl) (commits_at false (λ p. e.DropAlias p) (λ p. refl) (clause_path name path)) (λ below new is. is) (λ below. (refl, λ cause. refl))
+    tree_clause w name (s.DropAlias path) (λ below. refl) (commits_at false (λ p. e.DropAliasEntry p) (λ p. refl) (clause_path name path)) (λ below new is. is) (λ below. (refl, λ cause. refl))
 clause_edit w name other edits = absurd (false≢true edits)
 
 -- ---- verbs
@@ -267,29 +267,29 @@ led P None change asked at is = absurd (none-some asked is)
 led P (Some (name, inside)) change asked at is = subst P (same_Some (name, change inside) asked is) (at name inside refl)
 
 module _ (w : World) (path : Bytes) (name : Bytes) (inside : Path) (leads : target_from w.place path ≡ Some (name, inside)) where
-  make_dir : Edit w (c.Asked (c.MakeDir path)) (name, λ g. e.edited g (e.MakeDir inside))
+  make_dir : Edit w (c.Asked (c.MakeDirectory path)) (name, λ g. e.edited_group g (e.MakeDir inside))
   make_dir = record {
-    named = ap group_of leads;
+    named = ap group_name_of leads;
     list_of = λ g. tree_causes g (Some (e.MakeDir inside));
     causes_are = λ below. ap (λ (o : Option (Bytes × Path)). at_target w o (λ p g. tree_causes g (Some (e.MakeDir p)))) leads;
-    tests_of = λ g. e.edit_causes g (e.MakeDir inside);
+    tests_of = λ g. e.group_edit_causes g (e.MakeDir inside);
     parts = λ g. tree_parts true (Some (e.MakeDir inside)) g refl;
     all_are = λ g. refl;
-    changed = λ g. e.changed g (e.MakeDir inside);
+    changed = λ g. e.changed_group g (e.MakeDir inside);
     change_is = λ g. refl;
     done = λ below id g h has is. (record { name = name; inside = inside; leads = leads; changes = record { id = id; old = g; changed = h; has = has; step_is = is; is = refl } }, refl);
     lines = λ below. (tt, λ cause. refl);
   }
 
-  remove_alias : Edit w (c.Asked (c.RemoveAlias path)) (name, λ g. e.edited g (e.DropAlias inside))
+  remove_alias : Edit w (c.Asked (c.RemoveAlias path)) (name, λ g. e.edited_group g (e.DropAliasEntry inside))
   remove_alias = record {
-    named = ap group_of leads;
-    list_of = λ g. tree_causes g (Some (e.DropAlias inside));
-    causes_are = λ below. ap (λ (o : Option (Bytes × Path)). at_target w o (λ p g. tree_causes g (Some (e.DropAlias p)))) leads;
-    tests_of = λ g. e.edit_causes g (e.DropAlias inside);
-    parts = λ g. tree_parts false (Some (e.DropAlias inside)) g refl;
+    named = ap group_name_of leads;
+    list_of = λ g. tree_causes g (Some (e.DropAliasEntry inside));
+    causes_are = λ below. ap (λ (o : Option (Bytes × Path)). at_target w o (λ p g. tree_causes g (Some (e.DropAliasEntry p)))) leads;
+    tests_of = λ g. e.group_edit_causes g (e.DropAliasEntry inside);
+    parts = λ g. tree_parts false (Some (e.DropAliasEntry inside)) g refl;
     all_are = λ g. refl;
-    changed = λ g. e.changed g (e.DropAlias inside);
+    changed = λ g. e.changed_group g (e.DropAliasEntry inside);
     change_is = λ g. refl;
     done = λ below id g h has is. (record { name = name; inside = inside; leads = leads; changes = record { id = id; old = g; changed = h; has = has; step_is = is; is = refl } }, refl);
     lines = λ below. (tt, λ cause. refl);
@@ -298,7 +298,7 @@ module _ (w : World) (path : Bytes) (name : Bytes) (inside : Path) (leads : targ
   -- here the path is the alias, and the other that of the file
   make_alias : (file : Bytes) → Edit w (c.Asked (c.MakeAlias file path)) (name, λ g. by_alias (target_from w.place file) inside g)
   make_alias file = record {
-    named = ap group_of leads;
+    named = ap group_name_of leads;
     list_of = λ g. alias_causes (target_from w.place file) g.name inside g;
     causes_are = λ below. ap (λ (o : Option (Bytes × Path)). at_target w o (λ p g. alias_causes (target_from w.place file) g.name p g)) leads;
     tests_of = alias_tests (target_from w.place file) inside;
@@ -319,10 +319,10 @@ module _ (w : World) (path : Bytes) (name : Bytes) (inside : Path) (leads : targ
   }
 
 verb_edit : (w : World) (verb : c.Verb) (asked : GroupChange) → is_edit_verb verb ≡ true → verb_change w.place verb ≡ Some asked → Edit w (c.Asked verb) asked
-verb_edit w (c.MakeDir path) asked edits asks =
-    led (λ (a : GroupChange). Edit w (c.Asked (c.MakeDir path)) a) (target_from w.place path) (λ p g. e.edited g (e.MakeDir p)) asked (make_dir w path) asks
+verb_edit w (c.MakeDirectory path) asked edits asks =
+    led (λ (a : GroupChange). Edit w (c.Asked (c.MakeDirectory path)) a) (target_from w.place path) (λ p g. e.edited_group g (e.MakeDir p)) asked (make_dir w path) asks
 verb_edit w (c.RemoveAlias path) asked edits asks =
-    led (λ (a : GroupChange). Edit w (c.Asked (c.RemoveAlias path)) a) (target_from w.place path) (λ p g. e.edited g (e.DropAlias p)) asked (remove_alias w path) asks
+    led (λ (a : GroupChange). Edit w (c.Asked (c.RemoveAlias path)) a) (target_from w.place path) (λ p g. e.edited_group g (e.DropAliasEntry p)) asked (remove_alias w path) asks
 verb_edit w (c.MakeAlias path alias) asked edits asks =
     led (λ (a : GroupChange). Edit w (c.Asked (c.MakeAlias path alias)) a) (target_from w.place alias) (λ p g. by_alias (target_from w.place path) p g) asked
     (λ name inside leads. make_alias w alias name inside leads path) asks

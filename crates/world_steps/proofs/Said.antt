@@ -27,7 +27,7 @@ use Rattle.world_steps.specs.Said.{AttributesHaveParts, PathsHaveParts, Template
 
 -- ---- names of the grammar
 
-named : (name : Bytes) → word.is_name name ≡ true → list_all is_word name ≡ true → is_name name ≡ true
+named : (name : Bytes) → word.is_name_word name ≡ true → list_all is_word name ≡ true → is_name name ≡ true
 unfolding is_name
 named [] starts words = absurd cc
 named (c ∷ cs) starts words =
@@ -39,8 +39,8 @@ fitted : (text name rest : Bytes) → word.fit word.Name text ≡ Some (name, re
 fitted text name rest fits =
     let behind = after_run (word.gap word.Name) text in
     let run = run_of is_word behind in
-    let t = taken (after_run is_word behind) (word.when (word.is_name run) run) name rest fits in
-    let w = when_true (word.is_name run) run name t.0 in
+    let t = taken (after_run is_word behind) (word.when (word.is_name_word run) run) name rest fits in
+    let w = when_true (word.is_name_word run) run name t.0 in
     subst (λ (n : Bytes). is_name n ≡ true) w.1 (named run w.0 (run_words is_word behind))
 
 -- the template that a clause adds or modifies has a name

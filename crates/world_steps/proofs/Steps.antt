@@ -12,7 +12,7 @@ use Rattle.asm_group.specs.Names.{Bytes, Path}
 use Rattle.asm_group.specs.Refusal as r
 use Rattle.asm_world.specs.Below.{Below}
 use Rattle.asm_world.specs.Between.{Between, MayStandFor}
-use Rattle.asm_world.specs.Causes.{Cause, When, HasCause, IsCaused, causes, decided, group_causes, session_causes, state_causes, tests}
+use Rattle.asm_world.specs.Causes.{Cause, When, HasCause, IsCaused, causes, decided, group_causes, session_causes, state_causes, tested_causes}
 use Rattle.asm_world.specs.Command as c
 use Rattle.asm_world.specs.Edits as e
 use Rattle.asm_world.specs.Paths.{target_from}
@@ -56,7 +56,7 @@ module _ (w : World) (command : c.Command) (at : EditAt w command) where
   none_of_session : session_causes w at.name ≡ []
   none_of_session = ap of_entry at.has.named ∙ ap state_causes at.has.mounted
 
-  causes_are : (below : Below) → causes below w command ≡ tests ts ++ parts.rest
+  causes_are : (below : Below) → causes below w command ≡ tested_causes ts ++ parts.rest
   causes_are below = edit.causes_are below ∙ rw (none_of_session, group_there) refl ∙ parts.split
 
   no_test : (h : Group) → edited_in at ≡ Ok h → first_cause ts ≡ None
@@ -138,11 +138,11 @@ nowhere_led None change is = refl
 nowhere_led (Some (name, path)) change is = absurd cc
 
 nowhere : (below : Below) (w : World) (command : c.Command) → asks_edit command ≡ true → change_of w.place command ≡ None → MayAnswer below w command (Refused [] r.NoGroup) w
-nowhere below w (c.Asked (c.MakeDir path)) edits none =
-    let at = nowhere_led (target_from w.place path) (λ p g. e.edited g (e.MakeDir p)) none in
+nowhere below w (c.Asked (c.MakeDirectory path)) edits none =
+    let at = nowhere_led (target_from w.place path) (λ p g. e.edited_group g (e.MakeDir p)) none in
     record { step = refl; cause = rw at refl; lines = refl }
 nowhere below w (c.Asked (c.RemoveAlias path)) edits none =
-    let at = nowhere_led (target_from w.place path) (λ p g. e.edited g (e.DropAlias p)) none in
+    let at = nowhere_led (target_from w.place path) (λ p g. e.edited_group g (e.DropAliasEntry p)) none in
     record { step = refl; cause = rw at refl; lines = refl }
 nowhere below w (c.Asked (c.MakeAlias path alias)) edits none =
     let at = nowhere_led (target_from w.place alias) (λ p g. by_alias (target_from w.place path) p g) none in

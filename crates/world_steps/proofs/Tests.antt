@@ -6,7 +6,7 @@ use Rattle.std.proofs.lemmas.Option.{none-some, same_Some}
 use Rattle.asm_group.specs.Causes.{Causes as Tests, first_cause, unless_refused}
 use Rattle.asm_group.specs.Refusal as r
 use Rattle.asm_world.specs.Below.{Below}
-use Rattle.asm_world.specs.Causes.{Cause, HasCause, IsCaused, causes, decided, tests}
+use Rattle.asm_world.specs.Causes.{Cause, HasCause, IsCaused, causes, decided, tested_causes}
 use Rattle.asm_world.specs.Command as c
 use Rattle.asm_world.specs.Reply.{Refused}
 use Rattle.asm_world.specs.Statement as s
@@ -17,19 +17,19 @@ use Rattle.world_steps.specs.Steps.{asks_edit, tells_disk}
 -- ---- tests in their order
 
 -- no test is true
-pub decided_tests : (ts : Tests) (rest : List Cause) → first_cause ts ≡ None → decided rest ≡ None → decided (tests ts ++ rest) ≡ None
+pub decided_tests : (ts : Tests) (rest : List Cause) → first_cause ts ≡ None → decided rest ≡ None → decided (tested_causes ts ++ rest) ≡ None
 decided_tests [] rest none after = after
 decided_tests ((true, cause) ∷ ts) rest none after = absurd (none-some cause (sym none))
 decided_tests ((false, cause) ∷ ts) rest none after = decided_tests ts rest none after
 
 -- the first that is true is the cause
-pub first_is : (ts : Tests) (rest : List Cause) (cause : r.Refusal) → first_cause ts ≡ Some cause → IsCaused (tests ts ++ rest) cause
+pub first_is : (ts : Tests) (rest : List Cause) (cause : r.Refusal) → first_cause ts ≡ Some cause → IsCaused (tested_causes ts ++ rest) cause
 first_is [] rest cause is = absurd (none-some cause is)
 first_is ((true, first) ∷ ts) rest cause is = sym (same_Some first cause is)
 first_is ((false, first) ∷ ts) rest cause is = first_is ts rest cause is
 
 -- behind tests that are all false
-pub behind_tests : (ts : Tests) (rest : List Cause) (cause : r.Refusal) → first_cause ts ≡ None → IsCaused rest cause → IsCaused (tests ts ++ rest) cause
+pub behind_tests : (ts : Tests) (rest : List Cause) (cause : r.Refusal) → first_cause ts ≡ None → IsCaused rest cause → IsCaused (tested_causes ts ++ rest) cause
 behind_tests [] rest cause none is = is
 behind_tests ((true, first) ∷ ts) rest cause none is = absurd (none-some first (sym none))
 behind_tests ((false, first) ∷ ts) rest cause none is = behind_tests ts rest cause none is
@@ -103,7 +103,7 @@ left_by below w (c.Said (s.CreateGroup name kind groups attributes)) cause new e
 left_by below w (c.Said (s.Alter name (s.Mount force))) cause new edits left = absurd (false≢true edits)
 left_by below w (c.Asked (c.DbWrite path at bytes)) cause new edits left = absurd (false≢true edits)
 left_by below w (c.Asked (c.DbFill path at size byte)) cause new edits left = absurd (false≢true edits)
-left_by below w (c.Asked (c.Copy source target)) cause new edits left = absurd (false≢true edits)
+left_by below w (c.Asked (c.CopyFile source target)) cause new edits left = absurd (false≢true edits)
 left_by below w command (r.Dismounted disk) new edits left = left
 left_by below w command r.NoMemory new edits left = left
 left_by below w command cause new edits left = left

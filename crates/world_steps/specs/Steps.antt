@@ -12,7 +12,7 @@ use Rattle.asm_world.specs.Paths.{target_from}
 use Rattle.asm_world.specs.Reply.{Reply, Done, Refused}
 use Rattle.asm_world.specs.Settings as t
 use Rattle.asm_world.specs.Statement as s
-use Rattle.asm_world.specs.Step.{Has, Step, edit_of}
+use Rattle.asm_world.specs.Step.{HasMountedGroup, Step, edit_of}
 use Rattle.asm_world.specs.Waits.{HasLines}
 use Rattle.asm_world.specs.World.{SessionEntry, World, DismountedBy, entry_in, with_dismounted, with_group}
 
@@ -39,7 +39,7 @@ is_edit_clause other = false
 
 -- rm may take a file away, with all its bytes
 abbrev pub is_edit_verb : c.Verb → Bool
-is_edit_verb (c.MakeDir path) = true
+is_edit_verb (c.MakeDirectory path) = true
 is_edit_verb (c.MakeAlias path alias) = true
 is_edit_verb (c.RemoveAlias path) = true
 is_edit_verb other = false
@@ -53,7 +53,7 @@ asks_edit other = false
 abbrev pub makes_name : c.Command → Bool
 makes_name (c.Said (s.Alter name (s.AddDirectory path))) = true
 makes_name (c.Said (s.Alter name (s.AddAlias alias path))) = true
-makes_name (c.Asked (c.MakeDir path)) = true
+makes_name (c.Asked (c.MakeDirectory path)) = true
 makes_name (c.Asked (c.MakeAlias path alias)) = true
 makes_name other = false
 
@@ -62,19 +62,19 @@ makes_name other = false
 -- NoName where a path isn't one of the group
 abbrev pub by_tree : Option e.TreeEdit → Group → Result Group r.Refusal
 by_tree None g = Err r.NoName
-by_tree (Some edit) g = e.edited g edit
+by_tree (Some edit) g = e.edited_group g edit
 
 abbrev pub by_clause : Bytes → s.Clause → Group → Result Group r.Refusal
-by_clause name (s.AddTemplate template words) g = t.templates_edited g (t.added_by template words)
-by_clause name (s.ModifyTemplate template words) g = t.templates_edited g (t.modified_by template words)
-by_clause name (s.DropTemplate template) g = t.templates_edited g (t.dropped_by template)
+by_clause name (s.AddTemplate template words) g = t.group_after_template_edit g (t.added_by template words)
+by_clause name (s.ModifyTemplate template words) g = t.group_after_template_edit g (t.modified_by template words)
+by_clause name (s.DropTemplate template) g = t.group_after_template_edit g (t.dropped_by template)
 by_clause name (s.SetAttribute attribute) g = t.attribute_set g attribute
 by_clause name other g = by_tree (edit_of name other) g
 
 -- the alias of a file of its own group
 abbrev pub by_alias : Option (Bytes × Path) → Path → Group → Result Group r.Refusal
 by_alias None alias g = Err r.NoGroup
-by_alias (Some (name, path)) alias g = if is_same_name name g.name then e.edited g (e.AddAlias alias path) else Err r.NoName
+by_alias (Some (name, path)) alias g = if is_same_name name g.name then e.edited_group g (e.AddAliasEntry alias path) else Err r.NoName
 
 -- ---- the group that a command names, and its edit
 
@@ -87,8 +87,8 @@ at_led None change = None
 at_led (Some (name, path)) change = Some (name, change path)
 
 abbrev pub verb_change : List Bytes → c.Verb → Option GroupChange
-verb_change place (c.MakeDir path) = at_led (target_from place path) (λ p g. e.edited g (e.MakeDir p))
-verb_change place (c.RemoveAlias path) = at_led (target_from place path) (λ p g. e.edited g (e.DropAlias p))
+verb_change place (c.MakeDirectory path) = at_led (target_from place path) (λ p g. e.edited_group g (e.MakeDir p))
+verb_change place (c.RemoveAlias path) = at_led (target_from place path) (λ p g. e.edited_group g (e.DropAliasEntry p))
 verb_change place (c.MakeAlias path alias) = at_led (target_from place alias) (λ p g. by_alias (target_from place path) p g)
 verb_change place other = None
 
@@ -108,7 +108,7 @@ pub record EditAt (w : World) (command : c.Command) : Type 0 where
   pub asks : change_of w.place command ≡ Some (name, change)
   pub id : ℕ
   pub group : Group
-  pub has : Has w name id group
+  pub has : HasMountedGroup w name id group
 
 -- the world's group after it, or why it is refused
 abbrev pub edited_in : {w : World} {command : c.Command} → EditAt w command → Result Group r.Refusal

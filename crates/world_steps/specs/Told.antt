@@ -5,7 +5,7 @@ use Rattle.asm_group.specs.Group.{Group}
 use Rattle.asm_group.specs.Names.{Bytes}
 use Rattle.asm_formats.specs.Among.{IsAmong}
 use Rattle.asm_world.specs.Below.{Below}
-use Rattle.asm_world.specs.Step.{Has, IsNewId, last_id}
+use Rattle.asm_world.specs.Step.{HasMountedGroup, IsNewId, last_id}
 use Rattle.asm_world.specs.World.{SessionEntry, World, has_mounted, is_mounted, mounted_entry, with_group, without_entry}
 use Rattle.world_steps.specs.Steps.{torn_world}
 
@@ -34,5 +34,5 @@ pub record GroupsStayAlone : Type 0 where
   pub created : (below : Below) (w : World) (id : ℕ) (g : Group) → IsNewId below w id → id < last_id → HasGroups w → HasGroups (with_created w id g)
   pub mounted : (w : World) (name : Bytes) (id : ℕ) (g : Group) → has_mounted w id ≡ false → HasGroups w → HasGroups (with_mounted w name id g)
   pub changed : (w : World) (id : ℕ) (g : Group) → HasGroups w → HasGroups (with_group w id g)
-  pub torn : (w : World) (id : ℕ) (name : Bytes) (g h : Group) (disk : Bytes) → Has w name id g → HasGroups w → HasGroups (torn_world w id name g h disk)
+  pub torn : (w : World) (id : ℕ) (name : Bytes) (g h : Group) (disk : Bytes) → HasMountedGroup w name id g → HasGroups w → HasGroups (torn_world w id name g h disk)
   pub left : (w : World) (name : Bytes) → HasGroups w → HasGroups (record w { session = without_entry w.session name })

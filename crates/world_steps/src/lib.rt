@@ -32,9 +32,9 @@ pub fn groups_stay_alone()
 
 /// A premise on a move and on the state before it, up to the first of which that doesn't meet it something is said.
 pub trait StatePremise<C> {
-    ghost use Rattle.asm_world.specs.Run.{Move, State};
+    ghost use Rattle.asm_world.specs.Run.{SessionMove, State};
 
-    ghost meets: { State C → Move → Type 0 };
+    ghost meets: { State C → SessionMove → Type 0 };
 }
 
 /// Up to the first that doesn't meet a premise, moves are a run in two rows one after another exactly where they are in both;

@@ -3,29 +3,29 @@ use Rattle.std.proofs.Common.{◌≡◌, ℕ, List, [], ◌∷◌, map, length, 
 use Rattle.std.specs.Prelude.{codes, ◌==◌, false}
 use Rattle.std.proofs.lemmas.List.{drop_all}
 use Rattle.std.proofs.lemmas.List.Folds.{fold-map}
-use Rattle.asm_grammar.specs.Syntax.{Syntax, Then, Maybe, Many, Value}
+use Rattle.asm_grammar.specs.Syntax.{SyntaxRule, Then, Maybe, Many, Value}
 use Rattle.asm_world.specs.Grammar as g
 use Rattle.asm_world.specs.Statement as s
-use Rattle.asm_world.specs.Writing.{after_word, disk_value, failgroup_value, failgroup_values, failgroups_value, first_and_others, one_more, quorum_value}
+use Rattle.asm_world.specs.Writing.{after_word, new_disk_value, failgroup_value, failgroup_values, failgroups_value, first_and_others, one_more, quorum_value}
 use Rattle.written_sql.specs.Lines.{Line, put, put_maybe, put_more, list_of, some_disks_value, groups_line, maybe_group_name}
 
 -- LISTS
 
 -- the items behind commas
-pub more_put : {A : Type 0} (row : Syntax) (value : A → Value row) (items : List A) (line : Line)
+pub more_put : {A : Type 0} (row : SyntaxRule) (value : A → Value row) (items : List A) (line : Line)
     → put (Many (Then g.comma row)) (map (λ o. (tt, o)) (map value items)) line ≡ put_more row value items line
 more_put row value items line =
     fold-map (λ l v. put (Then g.comma row) v l) (λ o. (tt, o)) line (map value items)
     ∙ fold-map (λ l w. put row w (put g.comma tt l)) value line items
 
-pub list_put : {A : Type 0} (row : Syntax) (value : A → Value row) (item : A) (others : List A) (line : Line)
+pub list_put : {A : Type 0} (row : SyntaxRule) (value : A → Value row) (item : A) (others : List A) (line : Line)
     → Some (put_more row value others (put row (value item) line)) ≡ put_maybe (g.listed row) (list_of value (item ∷ others)) line
 list_put row value item others line = ap (λ z. Some z) (sym (more_put row value others (put row (value item) line)))
 
 -- FAILURE GROUPS
 
 pub failgroup_put : (f : s.NewFailgroup) (disks : List s.NewDisk) (line : Line)
-    → put_maybe (g.listed g.disk) (list_of disk_value disks) (put (g.key (codes "DISK")) tt (put maybe_group_name (after_word f.name) (put (Maybe g.group_word) (quorum_value f.quorum) line)))
+    → put_maybe (g.listed g.disk) (list_of new_disk_value disks) (put (g.key (codes "DISK")) tt (put maybe_group_name (after_word f.name) (put (Maybe g.group_word) (quorum_value f.quorum) line)))
     ≡ put_maybe g.failgroup (failgroup_value f disks) line
 failgroup_put f [] line = refl
 failgroup_put f (d ∷ disks) line = refl

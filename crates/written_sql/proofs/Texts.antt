@@ -4,28 +4,28 @@ use Rattle.std.specs.Prelude.{◌==◌}
 use Rattle.std.specs.List.{fold, flat_map}
 use Rattle.std.proofs.lemmas.List.Sums.{fold-append}
 use mathlib.Core.Logic.{inl, inr}
-use Rattle.asm_grammar.specs.Syntax.{Syntax, One, Then, Either, Maybe, Many, Value}
+use Rattle.asm_grammar.specs.Syntax.{SyntaxRule, One, Then, Either, Maybe, Many, Value}
 use Rattle.asm_grammar.specs.Word.{Word, Mark}
-use Rattle.asm_grammar.specs.Writing.{Piece, pieces, space, space_unless, spell, written}
+use Rattle.asm_grammar.specs.Writing.{Piece, pieces, space, space_unless, spell, text_of_pieces}
 use Rattle.asm_group.specs.Names.{Bytes}
 use Rattle.asm_world.specs.Grammar as g
 use Rattle.asm_world.specs.Meaning.{Says}
 use Rattle.asm_world.specs.Statement as s
 use Rattle.asm_world.specs.Writing.{statement_value, statement_text, value_text}
 use Rattle.asm_world.proofs.Canon.{said_is_written}
-use Rattle.written_sql.specs.Lines.{Line, start, stands_close, is_open, add, put, put_maybe, statement_line}
+use Rattle.written_sql.specs.Lines.{Line, empty_line, stands_close, is_opening_mark, add_word, put, put_maybe, statement_line}
 
 -- PIECES, one behind another
 
 abbrev step : Line → Piece → Line
-step line p = add p.word p.says line
+step line p = add_word p.word p.says line
 
 many : {A : Type 0} (f : A → Line → Line) (words : A → List Piece) → ((v : A) (line : Line) → f v line ≡ fold step line (words v))
     → (vs : List A) (line : Line) → fold (λ l v. f v l) line vs ≡ fold step line (flat_map words vs)
 many f words same [] line = refl
 many f words same (v ∷ vs) line = ap (λ l. fold (λ l v. f v l) l vs) (same v line) ∙ (many f words same vs (fold step line (words v)) ∙ sym (fold-append step line (words v) (flat_map words vs)))
 
-put_pieces : (row : Syntax) (v : Value row) (line : Line) → put row v line ≡ fold step line (pieces row v)
+put_pieces : (row : SyntaxRule) (v : Value row) (line : Line) → put row v line ≡ fold step line (pieces row v)
 put_pieces (One w) v line = refl
 put_pieces (Then a b) (v, w) line = ap (λ l. put b w l) (put_pieces a v line) ∙ (put_pieces b w (fold step line (pieces a v)) ∙ sym (fold-append step line (pieces a v) (pieces b w)))
 put_pieces (Either a b) (inl v) line = put_pieces a v line
@@ -57,7 +57,7 @@ ends_false : (b : Bool) → space_unless b ≡ space_unless (b || false)
 ends_false true = refl
 ends_false false = refl
 
-space_is : (p q : Word) → space p q ≡ space_unless (stands_close q || is_open p)
+space_is : (p q : Word) → space p q ≡ space_unless (stands_close q || is_opening_mark p)
 space_is (Mark m) (Mark n) = turned (m == 40) (m == 61) (n == 44) (n == 41) (n == 61) (n == 59)
 space_is (Mark m) other = refl
 space_is other (Mark n) = ends_false (n == 44 || n == 41 || n == 61 || n == 59)
@@ -68,38 +68,38 @@ space_is other word = refl
 joined : (line gap spelt space rest : Bytes) → (line ++ (gap ++ spelt)) ++ (space ++ rest) ≡ line ++ (gap ++ ((spelt ++ space) ++ rest))
 joined line gap spelt space rest = simp append_assoc
 
-text_of : (p : Piece) (ps : List Piece) (line : Line) → (fold step line (p ∷ ps)).bytes ≡ line.bytes ++ (space_unless (stands_close p.word || line.close) ++ written (p ∷ ps))
+text_of : (p : Piece) (ps : List Piece) (line : Line) → (fold step line (p ∷ ps)).bytes ≡ line.bytes ++ (space_unless (stands_close p.word || line.close) ++ text_of_pieces (p ∷ ps))
 text_of p [] line = refl
 text_of p (q ∷ qs) line =
     text_of q qs (step line p)
-    ∙ (ap (λ z. (step line p).bytes ++ (z ++ written (q ∷ qs))) (sym (space_is p.word q.word))
-    ∙ joined line.bytes (space_unless (stands_close p.word || line.close)) (spell p.word p.says) (space p.word q.word) (written (q ∷ qs)))
+    ∙ (ap (λ z. (step line p).bytes ++ (z ++ text_of_pieces (q ∷ qs))) (sym (space_is p.word q.word))
+    ∙ joined line.bytes (space_unless (stands_close p.word || line.close)) (spell p.word p.says) (space p.word q.word) (text_of_pieces (q ∷ qs)))
 
 or_true : (b : Bool) → (b || true) ≡ true
 or_true true = refl
 or_true false = refl
 
-written_is : (ps : List Piece) → (fold step start ps).bytes ≡ written ps
+written_is : (ps : List Piece) → (fold step empty_line ps).bytes ≡ text_of_pieces ps
 written_is [] = refl
-written_is (p ∷ ps) = text_of p ps start ∙ ap (λ b. space_unless b ++ written (p ∷ ps)) (or_true (stands_close p.word))
+written_is (p ∷ ps) = text_of p ps empty_line ∙ ap (λ b. space_unless b ++ text_of_pieces (p ∷ ps)) (or_true (stands_close p.word))
 
 -- STATEMENTS
 
-whole_by : (o : Option (Value g.statement)) (line : Line) → Some line ≡ put_maybe g.statement o start → line.bytes ++ 59 ∷ [] ≡ value_text o
+whole_by : (o : Option (Value g.statement)) (line : Line) → Some line ≡ put_maybe g.statement o empty_line → line.bytes ++ 59 ∷ [] ≡ value_text o
 whole_by None line e = absurd cc
 whole_by (Some v) line e =
-    let q : line ≡ put g.statement v start = cc in
-    ap (λ (l : Line). l.bytes ++ 59 ∷ []) q ∙ ap (λ z. z ++ 59 ∷ []) (ap (λ (l : Line). l.bytes) (put_pieces g.statement v start) ∙ written_is (pieces g.statement v))
+    let q : line ≡ put g.statement v empty_line = cc in
+    ap (λ (l : Line). l.bytes ++ 59 ∷ []) q ∙ ap (λ z. z ++ 59 ∷ []) (ap (λ (l : Line). l.bytes) (put_pieces g.statement v empty_line) ∙ written_is (pieces g.statement v))
 
-pub whole_text : (x : s.Statement) (line : Line) → Some line ≡ statement_line x start → (put (One (Mark 59)) tt line).bytes ≡ statement_text x
+pub whole_text : (x : s.Statement) (line : Line) → Some line ≡ statement_line x empty_line → (put (One (Mark 59)) tt line).bytes ≡ statement_text x
 unfolding statement_line
 whole_text x line e = whole_by (statement_value x) line e
 
-none_by : (o : Option (Value g.statement)) → None ≡ put_maybe g.statement o start → [] ≡ value_text o
+none_by : (o : Option (Value g.statement)) → None ≡ put_maybe g.statement o empty_line → [] ≡ value_text o
 none_by None e = refl
 none_by (Some v) e = absurd cc
 
-pub no_text : (x : s.Statement) → None ≡ statement_line x start → [] ≡ statement_text x
+pub no_text : (x : s.Statement) → None ≡ statement_line x empty_line → [] ≡ statement_text x
 unfolding statement_line
 no_text x e = none_by (statement_value x) e
 

@@ -7,7 +7,7 @@ use Rattle.asm_group.specs.declared.GroupKind.{GroupKind}
 use Rattle.asm_group.specs.Names.{Bytes}
 use Rattle.asm_world.specs.Grammar as g
 use Rattle.asm_world.specs.Statement as s
-use Rattle.asm_world.specs.Writing.{after_value, attribute_value, attributes_value, clause_value, dropped_value, failgroups_value, kind_value, maybe_rebalance, said, words_value}
+use Rattle.asm_world.specs.Writing.{after_value, attribute_value, attributes_value, clause_value, dropped_value, failgroups_value, kind_value, maybe_rebalance, forced_value, words_value}
 use Rattle.written_sql.specs.Lines.{Line, put, put_maybe, put_more, list_of, some_disks_value, template_value, bracketed, bracketed_value, kind_words, group_rest_value, clause_line, statement_line}
 use Rattle.group_sql.specs.Rows.{dropped_disk, groups_and_attributes, maybe_after, maybe_attributes, maybe_redundancy}
 use Rattle.group_sql.specs.Said.{disks_said}
@@ -72,13 +72,13 @@ same_names [] = refl
 same_names (n ∷ names) = ap (λ z. n ∷ z) (same_names names)
 
 pub onlined : (disks : Disks) (wait : Bool) (line : Line) (o : Option Line) → o ≡ put_maybe g.some_disks (some_disks_value (disks_said disks)) (put (g.key (codes "ONLINE")) tt line)
-    → clause_line (s.Online (disks_said disks) wait) line ≡ option_map (λ l. put g.waiting (said wait) l) o
+    → clause_line (s.Online (disks_said disks) wait) line ≡ option_map (λ l. put g.waiting (forced_value wait) l) o
 unfolding clause_line
 onlined (Named []) wait line o e = rw e refl
 onlined (Named (x ∷ names)) wait line o e = rw (e, same_names names) refl
 onlined (InFailgroup kind name) wait line o e = rw e refl
 
-pub offlined : (disks : s.Disks) (minutes : Option ℕ) (line : Line) (o : Option Line) → o ≡ put_maybe g.some_disks (some_disks_value disks) (put (g.key (codes "OFFLINE")) tt line)
+pub offlined : (disks : s.NamedDisks) (minutes : Option ℕ) (line : Line) (o : Option Line) → o ≡ put_maybe g.some_disks (some_disks_value disks) (put (g.key (codes "OFFLINE")) tt line)
     → clause_line (s.Offline disks minutes) line ≡ option_map (λ l. put maybe_after (after_value minutes) l) o
 unfolding clause_line
 offlined (s.Named []) minutes line o e = rw e refl

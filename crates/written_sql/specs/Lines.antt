@@ -4,7 +4,7 @@ use Rattle.std.specs.Option.{option_map}
 use Rattle.std.specs.List.{fold}
 use mathlib.Core.Logic.{inl, inr}
 use Rattle.asm_grammar.specs.Word.{Word, Mark, Meaning}
-use Rattle.asm_grammar.specs.Syntax.{Syntax, One, Then, Either, Maybe, Many, Value}
+use Rattle.asm_grammar.specs.Syntax.{SyntaxRule, One, Then, Either, Maybe, Many, Value}
 use Rattle.asm_grammar.specs.Writing.{spell, space_unless}
 use Rattle.asm_group.specs.declared.GroupKind.{GroupKind}
 use Rattle.asm_group.specs.Names.{Bytes}
@@ -19,8 +19,8 @@ pub record Line : Type 0 where
   pub bytes : Bytes
   pub close : Bool
 
-abbrev pub start : Line
-start = record { bytes = []; close = true }
+abbrev pub empty_line : Line
+empty_line = record { bytes = []; close = true }
 
 -- , ) = and ; stand right behind the word before them
 abbrev pub stands_close : Word → Bool
@@ -28,17 +28,17 @@ stands_close (Mark m) = m == 44 || m == 41 || m == 61 || m == 59
 stands_close other = false
 
 -- the next word stands right behind ( and =
-abbrev pub is_open : Word → Bool
-is_open (Mark m) = m == 40 || m == 61
-is_open other = false
+abbrev pub is_opening_mark : Word → Bool
+is_opening_mark (Mark m) = m == 40 || m == 61
+is_opening_mark other = false
 
 -- a word behind the others
-abbrev pub add : (w : Word) → Meaning w → Line → Line
-add w v line = record { bytes = line.bytes ++ (space_unless (stands_close w || line.close) ++ spell w v); close = is_open w }
+abbrev pub add_word : (w : Word) → Meaning w → Line → Line
+add_word w v line = record { bytes = line.bytes ++ (space_unless (stands_close w || line.close) ++ spell w v); close = is_opening_mark w }
 
 -- the words of a value behind the others
-abbrev pub put : (row : Syntax) → Value row → Line → Line
-put (One w) v line = add w v line
+abbrev pub put : (row : SyntaxRule) → Value row → Line → Line
+put (One w) v line = add_word w v line
 put (Then a b) (v, w) line = put b w (put a v line)
 put (Either a b) (inl v) line = put a v line
 put (Either a b) (inr w) line = put b w line
@@ -47,11 +47,11 @@ put (Maybe a) (Some v) line = put a v line
 put (Many a) vs line = fold (λ l v. put a v l) line vs
 
 -- the words of a value behind the others, where there is a value
-abbrev pub put_maybe : (row : Syntax) → Option (Value row) → Line → Option Line
+abbrev pub put_maybe : (row : SyntaxRule) → Option (Value row) → Line → Option Line
 put_maybe row value line = option_map (λ v. put row v line) value
 
 -- items behind commas
-abbrev pub put_more : {A : Type 0} → (row : Syntax) → (A → Value row) → List A → Line → Line
+abbrev pub put_more : {A : Type 0} → (row : SyntaxRule) → (A → Value row) → List A → Line → Line
 put_more row value items line = fold (λ l item. put row (value item) (put g.comma tt l)) line items
 
 -- an item, and the others behind commas; None where there is no item
@@ -63,17 +63,17 @@ abbrev pub in_group_value : Option s.FailgroupKind → Bytes → Value g.in_fail
 in_group_value kind name = (tt, (option_map group_word_value kind, (tt, name)))
 
 -- None where no disk is named
-abbrev pub some_disks_value : s.Disks → Option (Value g.some_disks)
+abbrev pub some_disks_value : s.NamedDisks → Option (Value g.some_disks)
 some_disks_value (s.Named names) = option_map (λ v. inl (tt, v)) (list_of (λ n. n) names)
 some_disks_value (s.InFailgroup kind name) = Some (inr (tt, in_group_value kind name))
 some_disks_value s.All = None
 
 -- [FAILGROUP name]
-abbrev pub maybe_group_name : Syntax
+abbrev pub maybe_group_name : SyntaxRule
 maybe_group_name = Maybe (g.key (codes "FAILGROUP") ▸ g.name)
 
 -- ( word [word] )
-abbrev pub bracketed : Syntax
+abbrev pub bracketed : SyntaxRule
 bracketed = g.opening ▸ g.template_words ▸ g.closing
 
 -- None where no word is said

@@ -44,7 +44,7 @@ fn stands_close(mark: u8) -> bool
 
 /// Whether no space stands behind the mark.
 fn is_open(mark: u8) -> bool
-    ensures { result ≡ lines.is_open (Mark mark) }
+    ensures { result ≡ lines.is_opening_mark (Mark mark) }
 {
     mark == b'(' || mark == b'='
 }
@@ -52,7 +52,7 @@ fn is_open(mark: u8) -> bool
 impl Line {
     /// No words.
     pub fn new(alloc: Global) -> Line
-        ensures { result ≡ lines.start }
+        ensures { result ≡ lines.empty_line }
     {
         Line {
             bytes: Vec::new(alloc),

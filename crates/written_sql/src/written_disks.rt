@@ -4,7 +4,7 @@ ghost use Rattle.std.specs.Option.{option_map};
 ghost use Rattle.std.specs.Prelude.{◌≡◌, IfOk};
 ghost use Rattle.asm_grammar.specs.Syntax.{Maybe};
 ghost use Rattle.asm_world.specs.Grammar as g;
-ghost use Rattle.asm_world.specs.Writing.{after_value, after_word, disk_value, dropped_value, failgroup_value, failgroups_value, group_word_value, maybe_rebalance, quorum_value, rebalance_value, said};
+ghost use Rattle.asm_world.specs.Writing.{after_value, after_word, new_disk_value, dropped_value, failgroup_value, failgroups_value, group_word_value, maybe_rebalance, quorum_value, rebalance_value, forced_value};
 ghost use Rattle.written_sql.specs.Lines as lines;
 ghost use Rattle.group_sql.specs.Rows.{dropped_disk, maybe_after, maybe_name, maybe_power, maybe_size};
 ghost use Rattle.group_sql.specs.Said.{disks_said, maybe_kind_said};
@@ -15,14 +15,14 @@ use group_sql::{Disks, DroppedDisk, FailgroupKind, NewDisk, NewFailgroup, Rebala
 
 /// FORCE, where it is said.
 pub fn write_force(line: Line, force: bool) -> Result<Line, NoMemory>
-    ensures { IfOk result (λ longer. longer ≡ lines.put g.forced (said force) line) }
+    ensures { IfOk result (λ longer. longer ≡ lines.put g.forced (forced_value force) line) }
 {
     if force { line.key(b"FORCE") } else { Ok(line) }
 }
 
 /// WAIT, where it is said.
 pub fn write_wait(line: Line, wait: bool) -> Result<Line, NoMemory>
-    ensures { IfOk result (λ longer. longer ≡ lines.put g.waiting (said wait) line) }
+    ensures { IfOk result (λ longer. longer ≡ lines.put g.waiting (forced_value wait) line) }
 {
     if wait { line.key(b"WAIT") } else { Ok(line) }
 }
@@ -87,7 +87,7 @@ fn write_named(line: Line, name: &Option<Name>) -> Result<Line, NoMemory>
 
 /// A disk's path and its options.
 fn write_disk(line: Line, disk: &NewDisk) -> Result<Line, NoMemory>
-    ensures { IfOk result (λ longer. longer ≡ lines.put g.disk (disk_value disk.now) line) }
+    ensures { IfOk result (λ longer. longer ≡ lines.put g.disk (new_disk_value disk.now) line) }
 {
     let line = write_named(line.quoted(&disk.path)?, &disk.name)?;
     let line = write_size(line, disk.size)?;
@@ -96,7 +96,7 @@ fn write_disk(line: Line, disk: &NewDisk) -> Result<Line, NoMemory>
 
 /// Disks behind commas.
 fn write_more_disks(mut line: Line, disks: &[NewDisk]) -> Result<Line, NoMemory>
-    ensures { IfOk result (λ longer. longer ≡ lines.put_more g.disk disk_value disks.now line) }
+    ensures { IfOk result (λ longer. longer ≡ lines.put_more g.disk new_disk_value disks.now line) }
 {
     for disk in disks {
         line = write_disk(line.mark(b',')?, disk)?;
@@ -107,7 +107,7 @@ fn write_more_disks(mut line: Line, disks: &[NewDisk]) -> Result<Line, NoMemory>
 /// A disk, and others behind commas. None where there is no disk.
 #[tactic(auto, using(crate::proofs::Puts::list_put))]
 fn write_disks(line: Line, disks: &[NewDisk]) -> Result<Option<Line>, NoMemory>
-    ensures { IfOk result (λ longer. longer ≡ lines.put_maybe (g.listed g.disk) (lines.list_of disk_value disks.now) line) }
+    ensures { IfOk result (λ longer. longer ≡ lines.put_maybe (g.listed g.disk) (lines.list_of new_disk_value disks.now) line) }
 {
     let [first, others @ ..] = disks else {
         return Ok(None);

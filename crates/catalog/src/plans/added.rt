@@ -3,7 +3,7 @@
 ghost use Rattle.std.specs.Prelude.{◌≡◌, ◌≤◌, ◌+◌, ◌++◌, IfErr, IfOk, OnOk, length, map, true};
 ghost use Rattle.std.specs.List.{All};
 ghost use Rattle.asm_formats.specs.Items.{disk_item, is_item};
-ghost use Rattle.plan_records.specs.disk_directory.Disks.{Disk, record_of};
+ghost use Rattle.plan_records.specs.disk_directory.Disks.{Disk, record_of_disk};
 ghost use Rattle.catalog.specs.Plans.{IsAddRefusal, IsPlan, MayAdd, with_records};
 ghost use Rattle.plan_records.specs.catalog_tables.Rules.{blocks_used};
 
@@ -52,7 +52,7 @@ fn put_disks(
     added: &[(u8, DiskInfo)],
 ) -> Result<(), NoMemory>
     requires { All (λ (x : Disk). is_item (disk_item x.0 x.1) ≡ true) added.now }
-    ensures { OnOk result (put.new ≡ put.old ++ map record_of added.now) }
+    ensures { OnOk result (put.new ≡ put.old ++ map record_of_disk added.now) }
 {
     for (number, info) in added {
         put.push(disk_record(alloc, *number, info)?)?;

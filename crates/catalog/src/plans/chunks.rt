@@ -2,8 +2,8 @@
 
 ghost use Rattle.std.specs.Prelude.{◌≡◌, ◌≤◌, ◌<◌, ◌+◌, ◌^◌, ◌∷◌, [], length, true, IfErr, IfOk, is_some};
 ghost use Rattle.std.specs.List.{list_all};
-ghost use Rattle.plan_records.specs.extent_map.Extents.{chunk_at, chunk_or_blank, count_in, record_of};
-ghost use Rattle.plan_records.specs.staleness_directory.Marks.{record_of as marks_entry};
+ghost use Rattle.plan_records.specs.extent_map.Extents.{chunk_at, chunk_or_blank, count_in, record_of_chunk};
+ghost use Rattle.plan_records.specs.staleness_directory.Marks.{record_of_marks as marks_entry};
 ghost use Rattle.catalog.specs.ExtentPlans.{HasChunkRoom, IsChunkRefusal, MayAppend, are_small, homes_appended, is_small, marks_appended, marks_behind, with_appended};
 ghost use Rattle.catalog.specs.Plans.{IsPlan};
 
@@ -82,7 +82,7 @@ impl Catalog {
         requires number { chunk + 1 < 2 ^ 32 }
         requires room { count_in (chunk_or_blank self.now.tables.extents (file, chunk)) + length homes.now ≤ 256 }
         requires marked { length marks.now ≡ length homes.now }
-        ensures put { IfOk result (λ change. change.put ≡ record_of ((file, chunk), homes_appended self.now.tables file chunk homes.now) ∷ marks_entry ((file, chunk), marks_appended self.now.tables file chunk marks.now) ∷ []) }
+        ensures put { IfOk result (λ change. change.put ≡ record_of_chunk ((file, chunk), homes_appended self.now.tables file chunk homes.now) ∷ marks_entry ((file, chunk), marks_appended self.now.tables file chunk marks.now) ∷ []) }
         ensures gone { IfOk result (λ change. change.gone ≡ []) }
     {
         let at = (file, chunk);

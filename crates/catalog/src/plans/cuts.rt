@@ -2,8 +2,8 @@
 
 ghost use Rattle.std.specs.Prelude.{◌≡◌, ◌≤◌, ◌<◌, ◌+◌, ◌^◌, IfErr, IfOk};
 ghost use Rattle.asm_base.specs.declared.refusal.Refusal.TheVariants.{NoMemory as WithoutMemory};
-ghost use Rattle.plan_records.specs.extent_map.Extents.{chunk_or_blank, cut_to, record_of};
-ghost use Rattle.plan_records.specs.staleness_directory.Marks.{marks_to, record_of as marks_entry};
+ghost use Rattle.plan_records.specs.extent_map.Extents.{chunk_or_blank, cut_to, record_of_chunk};
+ghost use Rattle.plan_records.specs.staleness_directory.Marks.{marks_to, record_of_marks as marks_entry};
 ghost use Rattle.catalog.specs.ExtentPlans.{MayCut, marks_or_none, with_cut};
 ghost use Rattle.catalog.specs.Plans.{IsPlan};
 
@@ -66,7 +66,7 @@ impl Catalog {
     ) -> Result<(Key, Value), NoMemory>
         requires number { chunk + 1 < 2 ^ 32 }
         requires few { kept ≤ 256 }
-        ensures { IfOk result (λ made. made ≡ record_of ((file, chunk), cut_to kept (chunk_or_blank self.now.tables.extents (file, chunk)))) }
+        ensures { IfOk result (λ made. made ≡ record_of_chunk ((file, chunk), cut_to kept (chunk_or_blank self.now.tables.extents (file, chunk)))) }
     {
         let at = (file, chunk);
         let mut extents = self.chunk_copy(alloc, at)?;

@@ -5,7 +5,7 @@ ghost use Rattle.std.specs.Bool.{OnFalse, OnTrue};
 ghost use Rattle.std.specs.Option.{option_copied};
 ghost use Rattle.asm_formats.specs.Items.{DiskInfo as FormatInfo, disk_item, is_item};
 ghost use Rattle.plan_records.specs.disk_directory.Disks.{info_at, with_info, without_disk};
-ghost use Rattle.catalog.specs.Plans.{IsDiskRefusal, IsPlan, LacksBlock, may_be_record, with_record};
+ghost use Rattle.catalog.specs.Plans.{IsDiskRefusal, IsPlan, LacksBlock, may_be_record, with_disk_record};
 ghost use Rattle.plan_records.specs.catalog_tables.Rules.{blocks_used};
 
 use crate::catalog::Catalog;
@@ -23,7 +23,7 @@ impl Catalog {
         info: Option<&DiskInfo>,
     ) -> Result<Change, Refusal>
         requires record { may_be_record number (option_copied info) ≡ true }
-        ensures planned { IfOk result (λ change. IsPlan self.now change.put change.gone (record self.now.tables { disks = with_record self.now.tables.disks number (option_copied info.entry) })) }
+        ensures planned { IfOk result (λ change. IsPlan self.now change.put change.gone (record self.now.tables { disks = with_disk_record self.now.tables.disks number (option_copied info.entry) })) }
         ensures refused { IfErr result (IsDiskRefusal self.now number (option_copied info.entry)) }
     {
         match info {

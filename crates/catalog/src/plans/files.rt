@@ -1,7 +1,7 @@
 //! Plans of another size of a file and of its removal.
 
 ghost use Rattle.std.specs.Prelude.{◌≡◌, ◌<◌, IfErr, IfOk, IsTrue, Some};
-ghost use Rattle.plan_records.specs.file_directory.Files.{head_at, is_file};
+ghost use Rattle.plan_records.specs.file_directory.Files.{head_at, is_file_number};
 ghost use Rattle.asm_base.specs.declared.refusal.Refusal.TheVariants.{NoMemory as WithoutMemory};
 ghost use Rattle.catalog.specs.FilePlans.{IsRemovalPlan, IsSizePlan, MayGrow};
 
@@ -16,7 +16,7 @@ impl Catalog {
     /// smaller one it begins the file's shrinking. The file has a head, and where it grows, all extents that it has then are
     /// there.
     pub fn plan_size(&self, alloc: Global, file: u32, size: u64) -> Result<Change, Refusal>
-        requires file { IsTrue (is_file self.now.tables.files file) }
+        requires file { IsTrue (is_file_number self.now.tables.files file) }
         requires extents { MayGrow self.now.shape self.now.tables file size }
         ensures planned { IfOk result (λ change. IsSizePlan self.now file size change.put change.gone) }
         ensures refused { IfErr result (λ e. e ≡ WithoutMemory) }
@@ -59,7 +59,7 @@ impl Catalog {
     /// The change by which a file and its names go, and its removal is the pending operation. The file has a head. It is a
     /// plan where each chunk is then one of a file or of the removal.
     pub fn plan_unname(&self, alloc: Global, file: u32) -> Result<Change, Refusal>
-        requires file { IsTrue (is_file self.now.tables.files file) }
+        requires file { IsTrue (is_file_number self.now.tables.files file) }
         ensures planned { IfOk result (λ change. IsRemovalPlan self.now file change.put change.gone) }
         ensures refused { IfErr result (λ e. e ≡ WithoutMemory) }
     {

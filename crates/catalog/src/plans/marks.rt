@@ -2,7 +2,7 @@
 
 ghost use Rattle.std.specs.Prelude.{◌≡◌, ◌/◌, ◌%◌, IfErr, IfOk, slice_set};
 ghost use Rattle.asm_base.specs.declared.refusal.Refusal.TheVariants.{NoMemory as WithoutMemory};
-ghost use Rattle.plan_records.specs.staleness_directory.Marks.{record_of};
+ghost use Rattle.plan_records.specs.staleness_directory.Marks.{record_of_marks};
 ghost use Rattle.catalog.specs.ExtentPlans.{MayMark, marks_changed, marks_or_none, with_marks_changed};
 ghost use Rattle.catalog.specs.Plans.{IsPlan};
 
@@ -54,7 +54,7 @@ impl Catalog {
         x: ExtentId,
         marks: u8,
     ) -> Result<(Key, Value), NoMemory>
-        ensures { IfOk result (λ made. made ≡ record_of ((x.file, x.index / 256), slice_set (marks_or_none self.now.tables.stale (x.file, x.index / 256)) (x.index % 256) marks)) }
+        ensures { IfOk result (λ made. made ≡ record_of_marks ((x.file, x.index / 256), slice_set (marks_or_none self.now.tables.stale (x.file, x.index / 256)) (x.index % 256) marks)) }
     {
         let at = (x.file, x.index / 256);
         let mut changed = self.chunk_marks(at);

@@ -4,7 +4,7 @@ ghost use Rattle.std.specs.Prelude.{◌≡◌, ◌<◌, ◌/◌, ◌%◌, ◌^�
 ghost use Rattle.asm_formats.specs.Sets.{has_bit};
 ghost use Rattle.asm_base.specs.declared.refusal.Refusal.TheVariants.{NoMemory as WithoutMemory};
 ghost use Rattle.asm_placement.specs.Moves.{without_bit};
-ghost use Rattle.plan_records.specs.extent_map.Extents.{chunk_or_blank, record_of};
+ghost use Rattle.plan_records.specs.extent_map.Extents.{chunk_or_blank, record_of_chunk};
 ghost use Rattle.catalog.specs.ExtentPlans.{MayMove, with_move};
 ghost use Rattle.catalog.specs.Plans.{IsPlan};
 
@@ -65,7 +65,7 @@ impl Catalog {
         home: Home,
     ) -> Result<(Key, Value), NoMemory>
         requires { copy < 3 }
-        ensures { IfOk result (λ made. made ≡ record_of ((x.file, x.index / 256), slice_set (chunk_or_blank self.now.tables.extents (x.file, x.index / 256)) (x.index % 256) (slice_set (get_or (chunk_or_blank self.now.tables.extents (x.file, x.index / 256)) (x.index % 256) []) copy (Some home)))) }
+        ensures { IfOk result (λ made. made ≡ record_of_chunk ((x.file, x.index / 256), slice_set (chunk_or_blank self.now.tables.extents (x.file, x.index / 256)) (x.index % 256) (slice_set (get_or (chunk_or_blank self.now.tables.extents (x.file, x.index / 256)) (x.index % 256) []) copy (Some home)))) }
     {
         let at = (x.file, x.index / 256);
         let place = (x.index % 256) as u8;

@@ -8,9 +8,9 @@ ghost use Rattle.asm_base.specs.Tables.{item_record};
 ghost use Rattle.asm_group.specs.Refusal.{NoMemory as OutOfMemory};
 ghost use Rattle.plan_records.specs.alias_edits.Edits.{IsRefusal, are_parts};
 ghost use Rattle.plan_records.specs.alias_edits.Filing.{IsFiling, filed, nodes_missing, with_nodes};
-ghost use Rattle.plan_records.specs.alias_tree.Nodes.{IsTable, Numbered, node_at, record_of as node_entry};
+ghost use Rattle.plan_records.specs.alias_tree.Nodes.{IsNodeTable, Numbered, node_at, record_of_node as node_entry};
 ghost use Rattle.plan_records.specs.alias_tree.Trees.{tree_of};
-ghost use Rattle.plan_records.specs.file_directory.Files.{record_of as file_entry};
+ghost use Rattle.plan_records.specs.file_directory.Files.{record_of_file as file_entry};
 ghost use Rattle.plan_records.specs.NewNames.{HasParts, name_at, name_meant};
 ghost use Rattle.plan_records.specs.NextSettings.{settings_next};
 ghost use Rattle.catalog.specs.NamePlans.{AreNewNodes, IsFileBeingMade, IsNamePlan, IsNameRefusal, made_file, new_head, system_path};
@@ -95,7 +95,7 @@ impl Catalog {
         requires three { length path.now.parts ≡ 3 }
         ensures done { IfOk result (λ made. filed (tree_of self.now.tables.nodes) path.now.parts file ≡ Ok (tree_of (with_nodes self.now.tables.nodes made.items))) }
         ensures nodes { IfOk result (λ made. IsFiling self.now.tables.nodes made.items path.now.parts file) }
-        ensures table { IfOk result (λ made. IsTable (with_nodes self.now.tables.nodes made.items)) }
+        ensures table { IfOk result (λ made. IsNodeTable (with_nodes self.now.tables.nodes made.items)) }
         ensures fresh { IfOk result (λ made. All (λ (x : Numbered). node_at self.now.tables.nodes x.0 ≡ None) made.items) }
         ensures items { IfOk result (λ made. All (λ (x : Numbered). is_item (node_item x.0 x.1) ≡ true) made.items) }
         ensures count { IfOk result (λ made. length made.items ≡ nodes_missing (tree_of self.now.tables.nodes) path.now.parts) }

@@ -4,7 +4,7 @@ ghost use Rattle.std.specs.Prelude.{◌≡◌, IfErr, IfOk, IsTrue, true};
 ghost use Rattle.asm_group.specs.NewGroup.{templates_by_name};
 ghost use Rattle.asm_group.specs.TemplateEdits.{templates_edited};
 ghost use Rattle.asm_formats.specs.Items.{is_item, templates_item};
-ghost use Rattle.plan_records.specs.template_directory.Meant.{IsRefusal, edit_meant, is_edit};
+ghost use Rattle.plan_records.specs.template_directory.Meant.{IsTemplateEditRefusal, template_edit_meant, is_template_edit};
 ghost use Rattle.catalog.specs.Plans.{IsPlan, IsTemplatePlan};
 
 use crate::catalog::Catalog;
@@ -17,9 +17,9 @@ impl Catalog {
     /// grammar, and copies that are said are one, two or three.
     #[tactic(auto, using(crate::proofs::TemplatePlans::edit_planned), unfolding(asm_base::specs::Refusals::said))]
     pub fn plan_template(&self, alloc: Global, edit: &TemplateEdit) -> Result<Change, Refusal>
-        requires edit { IsTrue (is_edit (edit_meant edit.now)) }
-        ensures planned { IfOk result (λ change. IsTemplatePlan self.now (edit_meant edit.now) change.put change.gone) }
-        ensures refused { IfErr result (IsRefusal (templates_edited self.now.shape.kind (templates_by_name self.now.tables.templates.templates) (edit_meant edit.now))) }
+        requires edit { IsTrue (is_template_edit (template_edit_meant edit.now)) }
+        ensures planned { IfOk result (λ change. IsTemplatePlan self.now (template_edit_meant edit.now) change.put change.gone) }
+        ensures refused { IfErr result (IsTemplateEditRefusal (templates_edited self.now.shape.kind (templates_by_name self.now.tables.templates.templates) (template_edit_meant edit.now))) }
     {
         let mut table = match self.parts.templates.copy(alloc) {
             Ok(table) => table,

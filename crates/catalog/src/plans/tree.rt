@@ -4,8 +4,8 @@ ghost use Rattle.std.specs.Prelude.{◌≡◌, ◌⊎◌, ◌<◌, ◌+◌, IfEr
 ghost use Rattle.asm_group.specs.TreeEdits as edits;
 ghost use Rattle.asm_group.specs.declared.NodeKind.TheVariants.{Alias};
 ghost use Rattle.asm_base.specs.declared.refusal.Refusal.TheVariants.{DirectoryFull, NoMemory as WithoutMemory};
-ghost use Rattle.plan_records.specs.alias_edits.Edits.{ChangesNodes, IsChange, IsRefusal, edit_meant, is_edit, nodes_after};
-ghost use Rattle.plan_records.specs.alias_tree.Nodes.{IsTable, node_at, with_node, without_node};
+ghost use Rattle.plan_records.specs.alias_edits.Edits.{ChangesNodes, IsChange, IsRefusal, edit_meant, is_tree_edit, nodes_after};
+ghost use Rattle.plan_records.specs.alias_tree.Nodes.{IsNodeTable, node_at, with_numbered_node, without_numbered_node};
 ghost use Rattle.plan_records.specs.alias_tree.Trees.{tree_of};
 ghost use Rattle.plan_records.specs.file_directory.Files.{head_at};
 ghost use Rattle.catalog.specs.Plans.{IsPlan};
@@ -23,7 +23,7 @@ impl Catalog {
     /// and go with their files alone.
     #[tactic(auto, using(crate::proofs::TreeEditPlans::tree_planned, crate::proofs::TreeEditPlans::plan_refused, crate::proofs::TreeEditPlans::edit_refused))]
     pub fn plan_tree(&self, alloc: Global, edit: &TreeEdit) -> Result<Change, Refusal>
-        requires edit { IsTrue (is_edit (edit_meant edit.now)) }
+        requires edit { IsTrue (is_tree_edit (edit_meant edit.now)) }
         requires files { keeps_files (edit_meant edit.now) ≡ true }
         ensures planned { IfOk result (λ plan. IsTreePlan self.now (edit_meant edit.now) plan.put plan.gone) }
         ensures refused { IfErr result (IsTreeRefusal self.now (edit_meant edit.now)) }
@@ -41,9 +41,9 @@ impl Catalog {
 
     /// What an edit changes of the nodes.
     fn tree_change(&self, alloc: Global, edit: &TreeEdit) -> Result<TreeChange, TreeError>
-        requires { IsTrue (is_edit (edit_meant edit.now)) }
+        requires { IsTrue (is_tree_edit (edit_meant edit.now)) }
         ensures done { IfOk result (λ change. edits.edited (tree_of self.now.tables.nodes) (edit_meant edit.now) ≡ Ok (tree_of (nodes_after self.now.tables.nodes change))) }
-        ensures table { IfOk result (λ change. IsTable (nodes_after self.now.tables.nodes change)) }
+        ensures table { IfOk result (λ change. IsNodeTable (nodes_after self.now.tables.nodes change)) }
         ensures nodes { IfOk result (λ change. ChangesNodes self.now.tables.nodes (nodes_after self.now.tables.nodes change) (edit_meant edit.now)) }
         ensures change { IfOk result (IsChange self.now.tables.nodes (edit_meant edit.now)) }
         ensures refused { IfErr result (IsRefusal (edits.edited (tree_of self.now.tables.nodes) (edit_meant edit.now))) }
@@ -53,7 +53,7 @@ impl Catalog {
 
     /// The change of records that a change of the nodes is.
     fn plan_change(&self, alloc: Global, change: TreeChange) -> Result<Change, Refusal>
-        requires table { IsTable (nodes_after self.now.tables.nodes change) }
+        requires table { IsNodeTable (nodes_after self.now.tables.nodes change) }
         requires may { MayChange self.now.tables change }
         ensures planned { IfOk result (λ plan. IsPlan self.now plan.put plan.gone (record self.now.tables { nodes = nodes_after self.now.tables.nodes change; files = heads_after self.now.tables change })) }
         ensures refused { IfErr result (λ e. (e ≡ WithoutMemory) ⊎ ((e ≡ DirectoryFull 1 0) × IsTreeFull self.now change)) }
@@ -66,9 +66,9 @@ impl Catalog {
     }
 
     fn put_node(&self, alloc: Global, number: u32, node: &Node) -> Result<Change, Refusal>
-        requires table { IsTable (with_node self.now.tables.nodes number node.now) }
+        requires table { IsNodeTable (with_numbered_node self.now.tables.nodes number node.now) }
         requires may { MayPutNode self.now.tables node.now (node_at self.now.tables.nodes number) }
-        ensures planned { IfOk result (λ plan. IsPlan self.now plan.put plan.gone (record self.now.tables { nodes = with_node self.now.tables.nodes number node.now; files = heads_with self.now.tables.files number node.now (node_at self.now.tables.nodes number) })) }
+        ensures planned { IfOk result (λ plan. IsPlan self.now plan.put plan.gone (record self.now.tables { nodes = with_numbered_node self.now.tables.nodes number node.now; files = heads_with self.now.tables.files number node.now (node_at self.now.tables.nodes number) })) }
         ensures refused { IfErr result (λ e. (e ≡ WithoutMemory) ⊎ ((e ≡ DirectoryFull 1 0) × (node_at self.now.tables.nodes number ≡ None) × (blocks_used self.now.tables + 2 ≡ self.now.shape.dir_blocks))) }
     {
         if self.node(number).is_some() {
@@ -86,10 +86,10 @@ impl Catalog {
 
     /// A node that is put, of a directory or in place of one of its kind and file.
     fn set_node(&self, alloc: Global, number: u32, node: &Node) -> Result<Change, NoMemory>
-        requires table { IsTable (with_node self.now.tables.nodes number node.now) }
+        requires table { IsNodeTable (with_numbered_node self.now.tables.nodes number node.now) }
         requires kept { KeepsName (node_at self.now.tables.nodes number) node.now }
         requires room { node_at self.now.tables.nodes number ≡ None → blocks_used self.now.tables + 2 < self.now.shape.dir_blocks }
-        ensures { IfOk result (λ plan. IsPlan self.now plan.put plan.gone (record self.now.tables { nodes = with_node self.now.tables.nodes number node.now })) }
+        ensures { IfOk result (λ plan. IsPlan self.now plan.put plan.gone (record self.now.tables { nodes = with_numbered_node self.now.tables.nodes number node.now })) }
     {
         self.keeps_rules();
         let entry = node_record(alloc, number, node)?;
@@ -99,11 +99,11 @@ impl Catalog {
 
     /// A new alias that is put, with the head of its file.
     fn set_alias(&self, alloc: Global, number: u32, node: &Node) -> Result<Change, NoMemory>
-        requires table { IsTable (with_node self.now.tables.nodes number node.now) }
+        requires table { IsNodeTable (with_numbered_node self.now.tables.nodes number node.now) }
         requires new { IsNewAlias self.now.tables node.now }
         requires free { node_at self.now.tables.nodes number ≡ None }
         requires room { blocks_used self.now.tables + 2 < self.now.shape.dir_blocks }
-        ensures { IfOk result (λ plan. IsPlan self.now plan.put plan.gone (record self.now.tables { nodes = with_node self.now.tables.nodes number node.now; files = aliased_head self.now.tables.files node.now.file number (head_at self.now.tables.files node.now.file) })) }
+        ensures { IfOk result (λ plan. IsPlan self.now plan.put plan.gone (record self.now.tables { nodes = with_numbered_node self.now.tables.nodes number node.now; files = aliased_head self.now.tables.files node.now.file number (head_at self.now.tables.files node.now.file) })) }
     {
         self.keeps_rules();
         let Some(head) = self.file(node.file) else {
@@ -118,9 +118,9 @@ impl Catalog {
 
     /// A directory or an alias that goes.
     fn drop_node(&self, alloc: Global, number: u32) -> Result<Change, NoMemory>
-        requires table { IsTable (without_node self.now.tables.nodes number) }
+        requires table { IsNodeTable (without_numbered_node self.now.tables.nodes number) }
         requires may { MayGo (node_at self.now.tables.nodes number) }
-        ensures { IfOk result (λ plan. IsPlan self.now plan.put plan.gone (record self.now.tables { nodes = without_node self.now.tables.nodes number; files = heads_without self.now.tables.files (node_at self.now.tables.nodes number) })) }
+        ensures { IfOk result (λ plan. IsPlan self.now plan.put plan.gone (record self.now.tables { nodes = without_numbered_node self.now.tables.nodes number; files = heads_without self.now.tables.files (node_at self.now.tables.nodes number) })) }
     {
         self.keeps_rules();
         let Some(node) = self.node(number) else {
@@ -138,10 +138,10 @@ impl Catalog {
 
     /// An alias that goes, with the head of its file.
     fn drop_alias(&self, alloc: Global, number: u32, node: &Node) -> Result<Change, NoMemory>
-        requires table { IsTable (without_node self.now.tables.nodes number) }
+        requires table { IsNodeTable (without_numbered_node self.now.tables.nodes number) }
         requires there { node_at self.now.tables.nodes number ≡ Some node.now }
         requires kind { node.now.kind ≡ Alias }
-        ensures { IfOk result (λ plan. IsPlan self.now plan.put plan.gone (record self.now.tables { nodes = without_node self.now.tables.nodes number; files = aliased_head self.now.tables.files node.now.file 0 (head_at self.now.tables.files node.now.file) })) }
+        ensures { IfOk result (λ plan. IsPlan self.now plan.put plan.gone (record self.now.tables { nodes = without_numbered_node self.now.tables.nodes number; files = aliased_head self.now.tables.files node.now.file 0 (head_at self.now.tables.files node.now.file) })) }
     {
         self.keeps_rules();
         let Some(head) = self.file(node.file) else {

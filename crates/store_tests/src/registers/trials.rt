@@ -6,11 +6,11 @@ ghost use Rattle.asm_formats.specs.Following.{Holder, disks_of, holder_of};
 ghost use Rattle.asm_formats.specs.Status.{ascends_from, entry_of};
 ghost use Rattle.asm_formats.specs.Among.{IsAmong};
 ghost use Rattle.status_register.specs.Counting.{of_disk};
-ghost use Rattle.status_register.specs.Keeping.{IsReady};
+ghost use Rattle.status_register.specs.Keeping.{IsRegisterReady};
 ghost use Rattle.status_register.specs.Places.{HasSlots};
 ghost use Rattle.status_register.specs.Registered.{AreNumbered};
-ghost use Rattle.status_register.specs.Rows.{AreApart};
-ghost use Rattle.status_register.specs.Surveys.{is_there};
+ghost use Rattle.status_register.specs.Rows.{HaveOwnSlots};
+ghost use Rattle.status_register.specs.Surveys.{is_holder_there};
 ghost use Rattle.status_register.specs.Tallies.{HaveSlots};
 
 use bay::{Bay, Fault};
@@ -79,7 +79,7 @@ fn attach_all<B: Bay>(bay: &mut B, members: &[Member]) -> bool
 #[tactic(auto, using(crate::proofs::Trying::apart_by_slots, crate::proofs::Trying::numbered_by_test))]
 fn may_be_members(members: &[Member]) -> bool
     ensures few { result ≡ true → length members.now ≤ 64 }
-    ensures apart { result ≡ true → AreApart members.now }
+    ensures apart { result ≡ true → HaveOwnSlots members.now }
     ensures numbers { result ≡ true → AreNumbered members.now }
 {
     if !ascend(members) {
@@ -92,7 +92,7 @@ fn may_be_members(members: &[Member]) -> bool
 }
 
 fn is_there(members: &[Member], number: u8, birth: u64) -> bool
-    ensures { result ≡ is_there members.now (number, birth) }
+    ensures { result ≡ is_holder_there members.now (number, birth) }
 {
     members
         .iter()
@@ -114,7 +114,7 @@ fn birth_of(entries: &[PstEntry], disk: u8) -> Option<u64>
 
 /// Whether the disk of this number, if it has an entry, is one of the members.
 fn is_entry_there(members: &[Member], entries: &[PstEntry], disk: u8) -> bool
-    ensures { result ≡ list_all (is_there members.now) (holder_of disk (entry_of entries.now disk)) }
+    ensures { result ≡ list_all (is_holder_there members.now) (holder_of disk (entry_of entries.now disk)) }
 {
     match birth_of(entries, disk) {
         None => true,
@@ -125,7 +125,7 @@ fn is_entry_there(members: &[Member], entries: &[PstEntry], disk: u8) -> bool
 /// Whether the disk of this number, if it is in the set, is one of the members.
 #[tactic(auto, using(crate::proofs::Trying::out_of_set, crate::proofs::Trying::in_set))]
 fn is_held(members: &[Member], status: &PstRecord, disk: u8) -> bool
-    ensures { result ≡ list_all (is_there members.now) (of_disk status.now.entries status.now.holders disk) }
+    ensures { result ≡ list_all (is_holder_there members.now) (of_disk status.now.entries status.now.holders disk) }
 {
     if status.holders.has(disk) {
         is_entry_there(members, status.entries(), disk)
@@ -136,7 +136,7 @@ fn is_held(members: &[Member], status: &PstRecord, disk: u8) -> bool
 
 /// Whether all holders of a record are among the members.
 fn are_there(members: &[Member], status: &PstRecord) -> bool
-    ensures { result ≡ true → (h : Holder) → IsAmong (disks_of status.now.entries status.now.holders) h → IsTrue (is_there members.now h) }
+    ensures { result ≡ true → (h : Holder) → IsAmong (disks_of status.now.entries status.now.holders) h → IsTrue (is_holder_there members.now h) }
 {
     for disk in 0..64 {
         if !is_held(members, status, disk) {
@@ -228,7 +228,7 @@ pub fn survey<B: Bay>(bay: &mut B, members: &[Member]) -> Option<Result<Survey, 
 
 /// Writes the record with another greatest birth. None where this may not be asked.
 fn write<B: Bay>(register: &mut Register, bay: &mut B, births: u64) -> Option<Outcome>
-    requires { IsReady register.old (B.state bay.old) }
+    requires { IsRegisterReady register.old (B.state bay.old) }
 {
     let next = with_births(register.value(), births);
     if !is_status(&next) {

@@ -10,7 +10,7 @@ ghost use Rattle.catalog_tables.specs.Placing.{home_taken};
 ghost use Rattle.asm_placement.specs.Naming.{is_pending};
 ghost use Rattle.catalog_tables.specs.Rules.{are_marks_of};
 ghost use Rattle.extent_map.specs.Extents.{extent_at};
-ghost use Rattle.file_directory.specs.Files.{head_at, is_file};
+ghost use Rattle.file_directory.specs.Files.{head_at, is_file_number};
 ghost use Rattle.table_tests.specs.Planned.{IsPlanned};
 
 use crate::catalogs::operations::is_owner;
@@ -114,7 +114,7 @@ fn has_room(group: &Catalog, file: u32) -> bool
     ensures units { OnTrue result (256 ≤ group.now.shape.step) }
     ensures room { OnTrue result (None ≡ extent_at group.now.tables.extents file 255) }
     ensures copies { OnTrue result (IsTrue (is_copy_of (head_at group.now.tables.files file) 1)) }
-    ensures owned { OnTrue result (IsTrue (is_file group.now.tables.files file || is_pending file group.now.tables.operations.pending)) }
+    ensures owned { OnTrue result (IsTrue (is_file_number group.now.tables.files file || is_pending file group.now.tables.operations.pending)) }
 {
     256 <= step(group)
         && group.homes(extent(file, 255)).is_none()

@@ -3,7 +3,7 @@
 ghost use Rattle.std.specs.Prelude.{◌≡◌, ◌<◌, ◌↔◌, ℕ, IfOk, IfSome, IsTrue, true};
 ghost use Rattle.std.specs.Bool.{OnTrue};
 ghost use Rattle.asm_group.specs.Shape.{is_shape};
-ghost use Rattle.asm_placement.specs.Layout.{has_extent};
+ghost use Rattle.asm_placement.specs.Layout.{has_extent_by_size};
 ghost use Rattle.catalog.specs.FilePlans.{MayGrow, is_on_file};
 ghost use Rattle.catalog_tables.specs.Rules.{has_copies};
 ghost use Rattle.extent_map.specs.Extents.{extent_at};
@@ -61,7 +61,7 @@ fn has_extents(group: &Catalog, file: u32, copies: u8, count: u32) -> bool
 /// How many extents a file of so many bytes has, where that is a number of 32 bits.
 fn extents_by(shape: &Shape, stripe: Stripe, size: u64) -> Option<u32>
     requires { IsTrue (is_shape shape.now) }
-    ensures { IfSome result (λ n. (i : ℕ) → (i < n) ↔ IsTrue (has_extent stripe shape.now.au shape.now.step size i)) }
+    ensures { IfSome result (λ n. (i : ℕ) → (i < n) ↔ IsTrue (has_extent_by_size stripe shape.now.au shape.now.step size i)) }
 {
     let layout = Layout {
         au: shape.au as u64,
@@ -74,7 +74,7 @@ fn extents_by(shape: &Shape, stripe: Stripe, size: u64) -> Option<u32>
 
 /// The same in the group.
 fn extents_of(group: &Catalog, stripe: Stripe, size: u64) -> Option<u32>
-    ensures { IfSome result (λ n. (i : ℕ) → (i < n) ↔ IsTrue (has_extent stripe group.now.shape.au group.now.shape.step size i)) }
+    ensures { IfSome result (λ n. (i : ℕ) → (i < n) ↔ IsTrue (has_extent_by_size stripe group.now.shape.au group.now.shape.step size i)) }
 {
     let shape = group.shape();
     if !shape.is_allowed() {

@@ -2,7 +2,7 @@
 
 ghost use Rattle.std.specs.Prelude.{◌≡◌, ◌||◌, IfOk};
 ghost use Rattle.std.specs.Bool.{OnTrue};
-ghost use Rattle.file_directory.specs.Files.{is_file};
+ghost use Rattle.file_directory.specs.Files.{is_file_number};
 ghost use Rattle.catalog.specs.Plans.{AreOwned};
 ghost use Rattle.asm_placement.specs.Naming.{is_pending};
 ghost use Rattle.table_tests.specs.Planned.{IsPlanned};
@@ -27,7 +27,7 @@ pub fn power(alloc: Global, group: &Catalog, value: Option<u16>) -> Result<Chang
 
 /// Whether a file has a head, or the operation is on it.
 pub fn is_owner(group: &Catalog, file: u32, op: &Option<Pending>) -> bool
-    ensures { result ≡ (is_file group.now.tables.files file || is_pending file op.now) }
+    ensures { result ≡ (is_file_number group.now.tables.files file || is_pending file op.now) }
 {
     let of_operation = match op {
         Some(op) => op.file == file,

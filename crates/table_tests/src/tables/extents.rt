@@ -1,7 +1,7 @@
 // The table of where extents begin.
 ghost use Rattle.std.specs.Prelude.{IfSome};
 ghost use Rattle.extent_map.specs.Changing.{AreChunks};
-ghost use Rattle.extent_map.specs.Extents.{IsTable};
+ghost use Rattle.extent_map.specs.Extents.{IsExtentTable};
 
 use crate::helpers::{Wrong, extent, row};
 use crate::tables::given::{no_change, put, value};
@@ -57,7 +57,7 @@ fn put_chunks(alloc: Global, records: &mut Records, counts: [usize; 2]) -> Optio
 
 /// The map that is read from these records. None where they are no map's.
 fn read(alloc: Global, records: &Records) -> Option<ExtentMap>
-    ensures { IfSome result IsTable }
+    ensures { IfSome result IsExtentTable }
 {
     match ExtentMap::from_records(alloc, records) {
         Ok(map) => map,
@@ -67,7 +67,7 @@ fn read(alloc: Global, records: &Records) -> Option<ExtentMap>
 
 /// The map of a file of 258 extents.
 fn two_chunks(alloc: Global) -> Option<ExtentMap>
-    ensures { IfSome result IsTable }
+    ensures { IfSome result IsExtentTable }
 {
     let mut records = Records::new(alloc);
     let map = match put_chunks(alloc, &mut records, [256, 2]) {
@@ -84,7 +84,7 @@ fn last_homes(map: &ExtentMap) -> [Option<Homes>; 2] {
 }
 
 fn count_records(alloc: Global, map: &ExtentMap) -> Option<usize>
-    requires { IsTable map.now }
+    requires { IsExtentTable map.now }
 {
     let mut change = no_change(alloc);
     let count = match map.to_records(alloc, &mut change) {
@@ -148,8 +148,8 @@ fn is_map_without(alloc: Global, absent: usize) -> Option<bool> {
 
 /// Puts the extent of an index, which must be the file's next one.
 fn append(map: &mut ExtentMap, index: u32, homes: Homes) -> Option<()>
-    requires { IsTable map.old }
-    ensures { IsTable map.new }
+    requires { IsExtentTable map.old }
+    ensures { IsExtentTable map.new }
 {
     if map.count(256) == index as u64 && may_stand(index, &homes) {
         map.put(ExtentId { file: 256, index }, homes).ok()
@@ -160,15 +160,15 @@ fn append(map: &mut ExtentMap, index: u32, homes: Homes) -> Option<()>
 
 /// Takes the extent of an index away, which must be the file's last one.
 fn take_last(map: &mut ExtentMap, index: u32) -> bool
-    requires { IsTable map.old }
-    ensures { IsTable map.new }
+    requires { IsExtentTable map.old }
+    ensures { IsExtentTable map.new }
 {
     map.count(256) == index as u64 + 1 && map.remove(ExtentId { file: 256, index })
 }
 
 /// The map of a file of 255 extents.
 fn one_chunk(alloc: Global) -> Option<ExtentMap>
-    ensures { IfSome result IsTable }
+    ensures { IfSome result IsExtentTable }
 {
     let mut records = Records::new(alloc);
     let map = match put(alloc, &mut records, key(0), &first_extents(255, 256)) {
@@ -181,7 +181,7 @@ fn one_chunk(alloc: Global) -> Option<ExtentMap>
 
 /// The homes of an extent that is put in a new chunk, whether it is then taken away, and the extents of files 256 and 257.
 fn grow(map: &mut ExtentMap) -> Option<(Option<Homes>, bool, [u64; 2])>
-    requires { IsTable map.old }
+    requires { IsExtentTable map.old }
 {
     append(map, 255, homes(3, 70))?;
     append(map, 256, homes(4, 71))?;

@@ -1,6 +1,6 @@
 // The table of stale marks.
 ghost use Rattle.std.specs.Prelude.{◌≡◌, IfSome};
-ghost use Rattle.staleness_directory.specs.Marks.{IsTable};
+ghost use Rattle.staleness_directory.specs.Marks.{IsMarkTable};
 
 use crate::helpers::{Wrong, all_right};
 use crate::tables::given::{no_change, put, value};
@@ -49,7 +49,7 @@ fn put_chunks(alloc: Global, records: &mut Records) -> Option<()> {
 
 /// The table that is read from these records. None where they are no table's.
 fn read(alloc: Global, records: &Records) -> Option<StaleTable>
-    ensures { IfSome result IsTable }
+    ensures { IfSome result IsMarkTable }
 {
     match StaleTable::from_records(alloc, records) {
         Ok(table) => table,
@@ -59,7 +59,7 @@ fn read(alloc: Global, records: &Records) -> Option<StaleTable>
 
 /// The table of two chunks: copy 1 of extent 3 of the second one is stale.
 fn read_two(alloc: Global) -> Option<StaleTable>
-    ensures { IfSome result IsTable }
+    ensures { IfSome result IsMarkTable }
 {
     let mut records = Records::new(alloc);
     let table = match put_chunks(alloc, &mut records) {

@@ -1,5 +1,5 @@
-use Rattle.alias_edits.specs.Filing.{Reaches}
+use Rattle.alias_edits.specs.Filing.{ReachesDirectory}
 use Rattle.alias_edits.proofs.filing.front_of.Given as goal
 
 abbrev pub invariant-loop-there : goal.invariant-loop-there
-invariant-loop-there l = Reaches l.tree l.dirs l.there l.number
+invariant-loop-there l = ReachesDirectory l.tree l.dirs l.there l.number

@@ -3,16 +3,16 @@ use Rattle.asm_grammar.specs.Reads.{Gives}
 use Rattle.asm_world.specs.VerbMeaning.{verb_of}
 use Rattle.asm_world.specs.Verbs as g
 use Rattle.asmcmd.specs.Exact.{other_verbs}
-use Rattle.asmcmd.specs.Verbs.{said}
+use Rattle.asmcmd.specs.Verbs.{meant_verb}
 use Rattle.asmcmd.proofs.Choices.{either_some, either_none, either_refused}
 use Rattle.asmcmd.proofs.line.verb.Goals as goal
 
 pub returns-in-Some : goal.returns-in-Some
-returns-in-Some c = either_some g.files (other_verbs) verb_of c.args.place.rest.now c.args.place.left (said c.in-Some.verb) c.in-Ok.place.rest.now c.in-Ok.place.left (rw c.in-Some.is at (rw c.in-Ok.is at c.file_verb.ensures))
+returns-in-Some c = either_some g.files (other_verbs) verb_of c.args.place.rest.now c.args.place.left (meant_verb c.in-Some.verb) c.in-Ok.place.rest.now c.in-Ok.place.left (rw c.in-Some.is at (rw c.in-Ok.is at c.file_verb.ensures))
 
 pub returns-in-None : goal.returns-in-None
 returns-in-None c =
-    subst (λ o. Gives said c.other_verb.result o)
+    subst (λ o. Gives meant_verb c.other_verb.result o)
     (sym (either_none g.files (other_verbs) verb_of c.args.place.rest.now c.args.place.left c.in-Ok.place.rest.now c.in-Ok.place.left (rw c.in-None.is at (rw c.in-Ok.is at c.file_verb.ensures)))) c.other_verb.ensures
 
 pub returns-in-Err : goal.returns-in-Err

@@ -1,7 +1,7 @@
 use Rattle.std.proofs.Common.{◌≡◌, false, take}
 use Rattle.catalog_tables.specs.page_map.Changes.{is_gone}
-use Rattle.catalog_units.specs.Giving.{keys_of}
+use Rattle.catalog_units.specs.Giving.{changed_keys}
 use Rattle.catalog_units.proofs.changed_units.is_earlier.Given as goal
 
 abbrev pub invariant-loop-earlier : goal.invariant-loop-earlier
-invariant-loop-earlier l = is_gone (take l.earlier (keys_of l.put l.gone)) l.key ≡ false
+invariant-loop-earlier l = is_gone (take l.earlier (changed_keys l.put l.gone)) l.key ≡ false

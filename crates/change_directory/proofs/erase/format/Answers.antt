@@ -1,6 +1,6 @@
 use Rattle.std.proofs.Common.{arith}
 use Rattle.bay.proofs.Calls.{widened}
-use Rattle.change_directory.specs.Formatting.{HasFormatted, IsWhole}
+use Rattle.change_directory.specs.Formatting.{HasFormatted, IsWholeCopy}
 use Rattle.change_directory.proofs.Runs.{widened_from, has_size}
 use Rattle.change_directory.proofs.Works.{durable_of, ends_of}
 use Rattle.change_directory.proofs.erase.format.Goals as goal
@@ -13,7 +13,7 @@ returns-clause-runs g c = widened (λ x y step. step.formats) c.erase.ensures.ca
 
 pub returns-clause-content : goal.returns-clause-content
 returns-clause-content g c = λ decode home.
-    widened_from (IsWhole c.args.copy) (g.met.B.Bay.sound c.args.bay.now)
+    widened_from (IsWholeCopy c.args.copy) (g.met.B.Bay.sound c.args.bay.now)
     (λ image left. record { sized = has_size (g.met.B.Bay.sound c.args.bay.now) c.requires image left; home = home.now image left; decodes = decode.now image left })
     (λ x y whole step. step.loses whole) c.erase.ensures.calls.runs
 

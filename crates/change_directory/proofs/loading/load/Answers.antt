@@ -3,7 +3,7 @@ use Rattle.std.proofs.lemmas.Result.{err_from_is_err_and}
 use Rattle.bay.proofs.Calls.{goes_on, stops}
 use Rattle.bay.proofs.Images.{same-trans}
 use Rattle.asm_formats.specs.Damage.{directory_damage}
-use Rattle.change_directory.specs.Changes.{disk}
+use Rattle.change_directory.specs.Changes.{copy_disk_bytes}
 use Rattle.bay.specs.Told.{Told}
 use Rattle.change_directory.specs.Slots.{IsPageDamage}
 use Rattle.change_directory.proofs.LoadAnswers.{damage_of_err}
@@ -18,7 +18,7 @@ returns-in_err-pages-clause-damage g c =
     let t = g.B.Bay.state c.load_pages.new.bay in
     let e = err_from_is_err_and c.from_residual-in_err-pages.result c.from_residual-in_err-pages.ensures.1 in
     rw (e.1, e.2)
-    (damage_of_err c.in_err-pages.field-0.0 (λ (block : ℕ). Told n t (IsPageDamage c.args.copy c.in_order-logs.result block)) (λ (block : ℕ). Told s t (λ image. directory_damage c.args.copy.dir_blocks (disk c.args.copy image) ≡ Some block))
+    (damage_of_err c.in_err-pages.field-0.0 (λ (block : ℕ). Told n t (IsPageDamage c.args.copy c.in_order-logs.result block)) (λ (block : ℕ). Told s t (λ image. directory_damage c.args.copy.dir_blocks (copy_disk_bytes c.args.copy image) ≡ Some block))
     (λ block damage. page_damage_told c.args.copy _ _ _ _ c.read_log.ensures.reads.calls.runs c.read_log-2.ensures.reads.calls.runs c.load_pages.ensures.reads.calls.runs (g.met.B.Bay.sound c.args.bay.now) c.requires _ _ c.in_order-logs.result c.in_order-logs.ensures.slots c.in_order-logs.ensures.newest c.in_ok-first.ensures.done.is c.in_ok-second.ensures.done.is block damage)
     c.in_err-pages.ensures.refusal)
 

@@ -2,7 +2,7 @@ use Rattle.std.proofs.Common.{◌≡◌, ◌+◌, ◌∙◌, ℕ, ap, subst, rul
 use Rattle.std.specs.Prelude.{IfErr, not}
 use Rattle.std.proofs.lemmas.Result.{err_from_is_err_and}
 use Rattle.bay.specs.Told.{Told}
-use Rattle.change_directory.specs.LoadCalls.{Damages, IsPieceDamage, piece_of}
+use Rattle.change_directory.specs.LoadCalls.{Damages, IsPieceDamage, piece_of_pages}
 use Rattle.change_directory.specs.Slots.{AreUpTo, IsPageDamage, all_slots}
 use Rattle.change_directory.proofs.LoadSteps.{no_pages_told, page_damage, pages_told}
 use Rattle.change_directory.proofs.Orders.{none_are_up}
@@ -46,6 +46,6 @@ returns-in_err-read_pages g c =
     let e = err_from_is_err_and c.from_residual.result c.from_residual.ensures.1 in
     let refusal : IfErr c.from_residual.result (λ e. Damages (IsPageDamage c.args.copy c.args.logs.now) e (g.B.Bay.state c.args.bay.now) (g.B.Bay.state c.read_pages.new.bay)) =
     rw (e.1, e.2)
-    (damage_of_err c.in_err-read_pages.field-0.0 (λ (block : ℕ). Told s t (IsPieceDamage (piece_of c.args.copy c.args.logs.now 0 c.args.copy.dir_blocks) block)) (λ (block : ℕ). Told s t (IsPageDamage c.args.copy c.args.logs.now block))
+    (damage_of_err c.in_err-read_pages.field-0.0 (λ (block : ℕ). Told s t (IsPieceDamage (piece_of_pages c.args.copy c.args.logs.now 0 c.args.copy.dir_blocks) block)) (λ (block : ℕ). Told s t (IsPageDamage c.args.copy c.args.logs.now block))
     (λ block damage. page_damage c.args.copy c.args.logs.now s t block (c.is_none.ensures ∙ ap not c.if-is_none.false) damage)
     c.in_err-read_pages.ensures.refusal) in search rules

@@ -1,6 +1,6 @@
 use Rattle.std.proofs.Common.{ℕ, ◌+◌, ◌*◌, sym, ap, rules, arith}
 use Rattle.std.proofs.lemmas.List.{length-replicate}
-use Rattle.change_directory.specs.Works.{Reads}
+use Rattle.change_directory.specs.Works.{OnlyReads}
 use Rattle.change_directory.proofs.LoadTold.{head_told, shut_told}
 use Rattle.change_directory.proofs.Works.{one_read, reads_on, reads_fit}
 use Rattle.change_directory.proofs.slots.read_head.Goals as goal
@@ -14,12 +14,12 @@ returns-then-not-branch g c = record {
 
 pub returns-in_err-read : goal.returns-in_err-read
 returns-in_err-read g c =
-    let looked : Reads c.args.copy.slot 1 (g.B.Bay.state c.args.bay.now) (g.B.Bay.state c.is_open.new.bay) = record { calls = c.is_open.ensures.call.calls; written = c.is_open.ensures.written } in
+    let looked : OnlyReads c.args.copy.slot 1 (g.B.Bay.state c.args.bay.now) (g.B.Bay.state c.is_open.new.bay) = record { calls = c.is_open.ensures.call.calls; written = c.is_open.ensures.written } in
     let reads = reads_on looked (one_read c.read.ensures.attached (omega (arith, c.read.ensures.count)) c.read.ensures.written c.read.ensures.runs) in search rules
 
 pub returns : goal.returns
 returns g c =
-    let looked : Reads c.args.copy.slot 1 (g.B.Bay.state c.args.bay.now) (g.B.Bay.state c.is_open.new.bay) = record { calls = c.is_open.ensures.call.calls; written = c.is_open.ensures.written } in
+    let looked : OnlyReads c.args.copy.slot 1 (g.B.Bay.state c.args.bay.now) (g.B.Bay.state c.is_open.new.bay) = record { calls = c.is_open.ensures.call.calls; written = c.is_open.ensures.written } in
     record {
       reads = reads_on looked (one_read c.read.ensures.attached (omega (arith, c.read.ensures.count)) c.read.ensures.written c.read.ensures.runs);
       done = head_told c.args.copy c.args.log _ _ _ c.is_open.ensures.call.calls.runs c.read.ensures.runs c.log_place.result c.log_place.ensures

@@ -4,7 +4,7 @@ use Rattle.asm_base.specs.declared.block.Block.{Block}
 use Rattle.asm_formats.specs.Sets.{has_bit}
 use Rattle.change_directory.specs.declared.copy.DirCopy.{DirCopy}
 use Rattle.change_directory.specs.Logs.{are_pages}
-use Rattle.directory_store.specs.Commits.{Commits}
+use Rattle.directory_store.specs.Commits.{CommitsPages}
 use Rattle.directory_store.specs.Copies.{IsKept}
 use Rattle.directory_store.proofs.Rows.{all_apart, first_among, kept_still, logs_still, missed_first, named_still, no_bit, no_commits, no_copy, rest_may_put, split_first, took_first}
 use Rattle.directory_store.proofs.Steps.{empty_list}
@@ -59,5 +59,5 @@ returns-in-Err g t c = missed_first (split_first c.args.copies.now no_copy c.in-
 pub returns-in_default : goal.returns-in_default
 returns-in_default g t c =
     let s = g.B.Bay.state c.args.bay.now in
-    subst (λ (l : List DirCopy). Commits l c.args.dues.now c.args.number c.args.pages.now c.empty.result s s) (sym (empty_list c.args.copies.now (omega (arith, c.in_default.len_below))))
+    subst (λ (l : List DirCopy). CommitsPages l c.args.dues.now c.args.number c.args.pages.now c.empty.result s s) (sym (empty_list c.args.copies.now (omega (arith, c.in_default.len_below))))
     (no_commits c.args.dues.now c.args.number c.args.pages.now c.empty.result s (λ k small. ap (λ (n : ℕ). has_bit n k) c.empty.ensures ∙ no_bit k))

@@ -1,8 +1,8 @@
 use Rattle.std.proofs.Common.{◌≡◌, ◌∙◌, ap, sym, subst}
-use Rattle.file_extents.specs.group_engine.Members.{HasImage, with_disk}
+use Rattle.file_extents.specs.group_engine.Members.{HasImage, with_attached_disk}
 use Rattle.file_extents.specs.group_engine.Mounts.{MountedGroup, Takes}
 use Rattle.status_register.specs.declared.member.Member.{Member}
-use Rattle.disk_joining.specs.Attaching.{member_of}
+use Rattle.disk_joining.specs.Attaching.{member_of_image}
 use Rattle.disk_joining.specs.Taking.{TakesIn}
 use Rattle.disk_joining.proofs.Attached.{attach_taken, has_image}
 use Rattle.disk_joining.proofs.attaching.attach_image.Goals as goal
@@ -18,7 +18,7 @@ returns-then-may_attach-clause-taken g c =
     let s = g.B.Bay.state c.args.bay.now in
     let m = c.args.m.now in
     let size = c.args.image.size in
-    let eq : c.attach.new.self ≡ with_disk m (member_of m c.args.image) size = c.attach.ensures.group ∙ ap (λ (x : Member). with_disk m x size) c.member_of-member.ensures in
+    let eq : c.attach.new.self ≡ with_attached_disk m (member_of_image m c.args.image) size = c.attach.ensures.group ∙ ap (λ (x : Member). with_attached_disk m x size) c.member_of-member.ensures in
     subst (λ (n : MountedGroup). TakesIn c.args.held.now m n s s) (sym eq)
     (attach_taken c.args.held.now m s c.args.image c.if-may_attach.ensures c.requires.apart (subst (λ (n : MountedGroup). Takes n s) eq (c.attach.ensures.takes c.requires.takes)))
 

@@ -2,14 +2,14 @@ use Rattle.std.proofs.Common.{refl, sym, ◌∙◌, ap, subst}
 use Rattle.std.specs.Prelude.{IfErr}
 use Rattle.std.proofs.lemmas.Bool.{false≢true}
 use Rattle.asm_group.specs.Names.{Bytes}
-use Rattle.session.specs.Desks.{copies}
+use Rattle.session.specs.Desks.{is_copy_command}
 use Rattle.session.proofs.Desks.{answered-carried}
 use Rattle.file_commands.specs.HostCauses.{Faults, HostCause}
 use Rattle.file_commands.proofs.HostCauses.{replied}
 use Rattle.file_commands.proofs.copying.copy_file.Goals as goal
 
 pub returns-clause-answers : goal.returns-clause-answers
-returns-clause-answers g c = answered-carried c.args.text.now _ c.args.desk.now _ (rw c.requires.asked refl) refl (λ is. absurd (false≢true (sym is ∙ ap copies c.requires.asked))) c.copy-done.ensures.carries
+returns-clause-answers g c = answered-carried c.args.text.now _ c.args.desk.now _ (rw c.requires.asked refl) refl (λ is. absurd (false≢true (sym is ∙ ap is_copy_command c.requires.asked))) c.copy-done.ensures.carries
 
 pub returns-clause-cause : goal.returns-clause-cause
 returns-clause-cause g c =

@@ -3,7 +3,7 @@ use Rattle.std.proofs.lemmas.Result.{err_from_is_err_and}
 use Rattle.asm_grammar.specs.Reading.{parse, Failed, mapped}
 use Rattle.asm_grammar.proofs.Outcomes.{mapped_took}
 use Rattle.asm_world.specs.Grammar as g
-use Rattle.asm_world.specs.Meaning.{behind, disk_of, is_said}
+use Rattle.asm_world.specs.Meaning.{behind, new_disk_of, is_said}
 use Rattle.group_sql.specs.Choices.{forced_at, size_at}
 use Rattle.asm_grammar.specs.Reads.{reads}
 use Rattle.group_sql.specs.Rows.{maybe_name, maybe_size}
@@ -17,7 +17,7 @@ returns-in_err-size c =
     let q = c.named.new.place in
     let e = err_from_is_err_and c.from_residual-in_err-size.result c.from_residual-in_err-size.ensures.1 in
     let n = mapped_took behind (parse maybe_name p.rest.now p.left) c.in_ok-name.name q.rest.now q.left c.in_ok-name.ensures in
-    rw (e.1, e.2) (refuses_by c.in_err-size.field-0.0 (reads maybe_size behind q) (reads g.disk disk_of c.args.place.now)
+    rw (e.1, e.2) (refuses_by c.in_err-size.field-0.0 (reads maybe_size behind q) (reads g.disk new_disk_of c.args.place.now)
     (λ l h. rw (c.in_ok-path.ensures, n.was, failed_under behind (parse maybe_size q.rest.now q.left) l h) refl) c.in_err-size.ensures)
 
 pub returns : goal.returns

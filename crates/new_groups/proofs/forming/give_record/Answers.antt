@@ -1,6 +1,6 @@
 use Rattle.std.proofs.Common.{◌≤◌, List, length, sym, subst, ◌∙◌}
 use Rattle.std.proofs.lemmas.Result.{IfErr-weaker}
-use Rattle.status_register.specs.Rows.{AreApart}
+use Rattle.status_register.specs.Rows.{HaveOwnSlots}
 use Rattle.status_register.specs.Tallies.{HaveSlots}
 use Rattle.status_register.specs.declared.member.Member.{Member}
 use Rattle.new_groups.proofs.Formed.{disks_stay}
@@ -16,7 +16,7 @@ pub claim_first-requires-clause-few : goal.claim_first-requires-clause-few
 claim_first-requires-clause-few g c = subst (λ (l : List Member). length l ≤ 512) (sym (c.deref.ensures.value ∙ c.requires.lists.holders)) (holders_few c.args.draft.now c.requires.agrees)
 
 pub claim_first-requires-clause-apart : goal.claim_first-requires-clause-apart
-claim_first-requires-clause-apart g c = subst AreApart (sym (c.deref.ensures.value ∙ c.requires.lists.holders)) (holders_are_apart c.args.draft.now c.requires.agrees)
+claim_first-requires-clause-apart g c = subst HaveOwnSlots (sym (c.deref.ensures.value ∙ c.requires.lists.holders)) (holders_are_apart c.args.draft.now c.requires.agrees)
 
 pub write_record-requires-clause-disks : goal.write_record-requires-clause-disks
 write_record-requires-clause-disks g c = disks_stay c.args.draft.now.disks.items c.claim_first.ensures.calls.attached c.requires.disks

@@ -3,8 +3,8 @@ use Rattle.std.specs.Prelude.{IsTrue}
 use Rattle.asm_formats.specs.Following.{Holder, disks_of}
 use Rattle.asm_formats.specs.Among.{IsAmong}
 use Rattle.status_register.specs.Registered.{AreNumbered}
-use Rattle.status_register.specs.Rows.{AreApart}
-use Rattle.status_register.specs.Surveys.{is_there}
+use Rattle.status_register.specs.Rows.{HaveOwnSlots}
+use Rattle.status_register.specs.Surveys.{is_holder_there}
 use Rattle.status_register.specs.Tallies.{HaveSlots}
 use Rattle.status_register.specs.Writes.{first_register}
 use Rattle.status_register.specs.declared.member.Member.{Member}
@@ -20,14 +20,14 @@ first-requires-clause-slots g c =
     subst (λ (l : List Member). HaveSlots (g.B.Bay.state c.args.bay.now) l) (sym (c.deref.ensures.value ∙ c.requires.lists.members)) (members_slots c.args.draft.now c.requires.agrees (g.B.Bay.state c.args.bay.now) c.requires.disks)
 
 pub first-requires-clause-apart : goal.first-requires-clause-apart
-first-requires-clause-apart g c = subst AreApart (sym (c.deref.ensures.value ∙ c.requires.lists.members)) (members_are_apart c.args.draft.now c.requires.agrees)
+first-requires-clause-apart g c = subst HaveOwnSlots (sym (c.deref.ensures.value ∙ c.requires.lists.members)) (members_are_apart c.args.draft.now c.requires.agrees)
 
 pub first-requires-clause-numbers : goal.first-requires-clause-numbers
 first-requires-clause-numbers g c = subst AreNumbered (sym (c.deref.ensures.value ∙ c.requires.lists.members)) (members_numbered c.args.draft.now c.requires.agrees)
 
 pub first-requires-clause-holders : goal.first-requires-clause-holders
 first-requires-clause-holders g c =
-    subst (λ (l : List Member). (h : Holder) → IsAmong (disks_of c.args.draft.now.status.entries c.args.draft.now.status.holders) h → IsTrue (is_there l h)) (sym (c.deref.ensures.value ∙ c.requires.lists.members))
+    subst (λ (l : List Member). (h : Holder) → IsAmong (disks_of c.args.draft.now.status.entries c.args.draft.now.status.holders) h → IsTrue (is_holder_there l h)) (sym (c.deref.ensures.value ∙ c.requires.lists.members))
     (all_there c.args.draft.now c.requires.agrees)
 
 pub returns-in-Ok-clause-front : goal.returns-in-Ok-clause-front

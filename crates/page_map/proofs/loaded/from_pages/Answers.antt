@@ -2,7 +2,7 @@ use Rattle.std.proofs.Common.{◌≡◌, ◌+◌, ◌∷◌, [], ◌∙◌, ℕ,
 use Rattle.std.proofs.lemmas.List.{take_more, take_all}
 use Rattle.std.proofs.lemmas.Result.{err_from_is_err_and}
 use Rattle.allocator.specs.asm_base.declared.block.Block.{Block}
-use Rattle.page_map.specs.Loaded.{Holds}
+use Rattle.page_map.specs.Loaded.{HoldsTable}
 use Rattle.page_map.proofs.Loading.{holds_more, is_table_of, next_is_free, has_no_table, twin_cause}
 use Rattle.page_map.proofs.loaded.from_pages.Goals as goal
 
@@ -30,11 +30,11 @@ loop-page-preserved c =
     let free = next_is_free c.args.pages i blocks d c.loop-page.map c.requires.filled c.loop-page-test.true c.loop-page.invariant.units c.loop-page.invariant.holds in
     let puts = c.in_ok-put_page.ensures.ok in
     record {
-      holds = subst (λ (xs : List (ℕ × Block)). Holds xs c.put_page.new.map) (sym (take_more blocks i d c.loop-page-test.true)) (holds_more (take i blocks) c.loop-page.map c.put_page.new.map p.0 p.1 c.loop-page.invariant.holds free puts);
+      holds = subst (λ (xs : List (ℕ × Block)). HoldsTable xs c.put_page.new.map) (sym (take_more blocks i d c.loop-page-test.true)) (holds_more (take i blocks) c.loop-page.map c.put_page.new.map p.0 p.1 c.loop-page.invariant.holds free puts);
       units = puts.adds.units ∙ c.loop-page.invariant.units;
     }
 
 pub returns-clause-table : goal.returns-clause-table
 returns-clause-table c =
     is_table_of c.args.pages c.args.blocks.now c.loop-page.map c.requires.filled c.loop-page.invariant.units
-    (subst (λ (xs : List (ℕ × Block)). Holds xs c.loop-page.map) (take_all c.loop-page.page-index c.args.blocks.now c.loop-page-test.false) c.loop-page.invariant.holds)
+    (subst (λ (xs : List (ℕ × Block)). HoldsTable xs c.loop-page.map) (take_all c.loop-page.page-index c.args.blocks.now c.loop-page-test.false) c.loop-page.invariant.holds)

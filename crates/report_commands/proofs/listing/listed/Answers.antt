@@ -2,14 +2,14 @@ use Rattle.std.proofs.Common.{◌≡◌, ◌∙◌, ap, inl}
 use Rattle.std.proofs.lemmas.Result.{IfOk-weaker}
 use Rattle.asm_base.specs.declared.refusal.Refusal.{Refusal}
 use Rattle.asm_base.specs.declared.refusal.Refusal.TheVariants as cause
-use Rattle.asmcmd.specs.Texts.{ls_lines}
+use Rattle.asmcmd.specs.Texts.{ls_row_lines}
 use Rattle.session.proofs.Carrying.{if_err}
 use Rattle.report_commands.specs.Listed.{IsUnlisted}
 use Rattle.report_commands.proofs.listing.listed.Goals as goal
 
 pub returns-in-Ok-clause-lines : goal.returns-in-Ok-clause-lines
 returns-in-Ok-clause-lines c =
-    IfOk-weaker c.lines_of.result _ _ (λ lines is. (c.in-Ok.rows.items, c.in-Ok.ensures.rows, is ∙ ap (ls_lines c.args.long) c.deref.ensures.value)) c.lines_of.ensures.lines
+    IfOk-weaker c.lines_of.result _ _ (λ lines is. (c.in-Ok.rows.items, c.in-Ok.ensures.rows, is ∙ ap (ls_row_lines c.args.long) c.deref.ensures.value)) c.lines_of.ensures.lines
 
 pub returns-in-Ok-clause-cause : goal.returns-in-Ok-clause-cause
 returns-in-Ok-clause-cause c =

@@ -1,5 +1,5 @@
 use Rattle.std.specs.Option.{option_map}
-use Rattle.asm_images.specs.Bridge.{shown}
+use Rattle.asm_images.specs.Bridge.{shown_block}
 use Rattle.std.proofs.Common.{◌≡◌, ◌∙◌, rules}
 use Rattle.status_register.specs.Slots.{ShowBoth, first_gate, second_gate}
 use Rattle.status_register.proofs.Shown.{same_shown}
@@ -16,7 +16,7 @@ returns g c =
     let slot = c.args.slot in
     record {
       calls = both_read first.calls second.calls;
-      done = told_both first.calls second.calls (λ image. one ≡ shown image slot (first_gate pair)) (λ image. other ≡ shown image slot (second_gate pair)) (ShowBoth pair slot one other)
+      done = told_both first.calls second.calls (λ image. one ≡ shown_block image slot (first_gate pair)) (λ image. other ≡ shown_block image slot (second_gate pair)) (ShowBoth pair slot one other)
           (λ x y same is. is ∙ same_shown slot (second_gate pair) x y (λ k. same.byte slot k)) (λ x p q. record { first = p; second = q }) first.done second.done;
       cause = tt;
     }

@@ -3,7 +3,7 @@ use Rattle.std.proofs.lemmas.List.{take_more, take_all}
 use Rattle.bay.proofs.Calls.{stops}
 use Rattle.bay.proofs.OneCall.{cheaper, joined, more_slots, no_call}
 use Rattle.bay.proofs.Images.{same-refl, same-trans}
-use Rattle.status_register.specs.Surveys.{AreRead, none_yet, Says}
+use Rattle.status_register.specs.Surveys.{AreRead, none_yet, DisksSay}
 use Rattle.status_register.specs.declared.member.Member.{Member}
 use Rattle.status_register.proofs.Joining.{says_nothing}
 use Rattle.status_register.proofs.Tallying.{RoseAt, among_get, member_slots, adds_read, adds_says, adds_few}
@@ -16,7 +16,7 @@ loop-member-init g c =
       few = omega (arith, ap length c.empty.ensures);
       read = subst (λ (l : List Member). AreRead (RoseAt s s) [] l) (sym c.empty.ensures) none_yet;
       own = tt;
-      says = λ now holds image was. subst (λ (l : List Member). Says c.args.id l 0 None None image) (sym c.empty.ensures) (says_nothing c.args.id image);
+      says = λ now holds image was. subst (λ (l : List Member). DisksSay c.args.id l 0 None None image) (sym c.empty.ensures) (says_nothing c.args.id image);
       calls = no_call same-refl;
     }
 

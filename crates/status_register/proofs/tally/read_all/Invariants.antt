@@ -2,7 +2,7 @@ use Rattle.std.proofs.Common.{◌≤◌, ◌*◌, length, take}
 use Rattle.bay.specs.Image.{Same}
 use Rattle.bay.specs.Calls.{Calls, cost}
 use Rattle.bay.specs.Told.{Told}
-use Rattle.status_register.specs.Surveys.{AreRead, Says}
+use Rattle.status_register.specs.Surveys.{AreRead, DisksSay}
 use Rattle.status_register.specs.Tallies.{IsSlotOf}
 use Rattle.status_register.specs.Sayings.{IsOwnRecord}
 use Rattle.status_register.proofs.Tallying.{RoseAt}
@@ -13,6 +13,6 @@ invariant-loop-member g l = record {
   few : length l.tally.read ≤ l.member-index;
   read : AreRead (RoseAt (g.B.Bay.state l.fn.bay) (g.B.Bay.state l.bay)) (take l.member-index l.members) l.tally.read;
   own : IsOwnRecord l.id l.tally.status;
-  says : Told (g.B.Bay.state l.fn.bay) (g.B.Bay.state l.bay) (Says l.id l.tally.read l.tally.epoch l.tally.status l.tally.damage);
+  says : Told (g.B.Bay.state l.fn.bay) (g.B.Bay.state l.bay) (DisksSay l.id l.tally.read l.tally.epoch l.tally.status l.tally.damage);
   calls : Calls (IsSlotOf l.members) Same (cost (8 * l.member-index) 0) (g.B.Bay.state l.fn.bay) (g.B.Bay.state l.bay);
 }

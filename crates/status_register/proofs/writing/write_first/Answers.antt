@@ -1,5 +1,5 @@
 use Rattle.std.proofs.Common.{◌∙◌, List, sym, subst}
-use Rattle.status_register.specs.Rows.{AreApart}
+use Rattle.status_register.specs.Rows.{HaveOwnSlots}
 use Rattle.status_register.specs.Tallies.{HaveSlots}
 use Rattle.status_register.specs.declared.member.Member.{Member}
 use Rattle.status_register.proofs.Holding.{have_slots, holders_apart}
@@ -10,4 +10,4 @@ write_on_all-requires-clause-slots g c = subst (λ (l : List Member). HaveSlots 
     (have_slots (g.B.Bay.state c.args.bay.now) c.args.places.now c.args.status.now c.requires.slots)
 
 pub write_on_all-requires-clause-apart : goal.write_on_all-requires-clause-apart
-write_on_all-requires-clause-apart g c = subst AreApart (sym (c.members.ensures.members ∙ c.attached_to-holders.ensures)) (holders_apart c.args.places.now c.args.status.now c.requires.apart)
+write_on_all-requires-clause-apart g c = subst HaveOwnSlots (sym (c.members.ensures.members ∙ c.attached_to-holders.ensures)) (holders_apart c.args.places.now c.args.status.now c.requires.apart)

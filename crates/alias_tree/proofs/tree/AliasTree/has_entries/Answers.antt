@@ -1,7 +1,7 @@
 use Rattle.std.proofs.Common.{◌≡◌, Some, sym, subst, ◌∙◌}
 use Rattle.std.proofs.lemmas.Option.{none-some}
 use Rattle.asm_group.specs.Names.{folded_path}
-use Rattle.alias_tree.specs.Nodes.{IsTable}
+use Rattle.alias_tree.specs.Nodes.{IsNodeTable}
 use Rattle.alias_tree.specs.Trees.{number_by}
 use Rattle.alias_tree.proofs.Lookups.{there_number}
 use Rattle.alias_tree.proofs.Leading.{entries_are}
@@ -16,5 +16,5 @@ returns-in-Some c =
 
 pub returns-in-None : goal.returns-in-None
 returns-in-None c =
-    let n = there_number c.args.self.now c.args.parts.now (subst IsTable c.self.view_is c.self.invariant.0) c.requires in
+    let n = there_number c.args.self.now c.args.parts.now (subst IsNodeTable c.self.view_is c.self.invariant.0) c.requires in
     absurd (none-some n.0 (sym c.in-None.is ∙ (c.find_parts.ensures ∙ (by_folded c.args.self.now c.args.parts.now 0 ∙ n.1))))

@@ -1,11 +1,11 @@
 use Rattle.std.proofs.Common.{◌∙◌, sym}
-use Rattle.catalog.specs.Spares.{ready_tables, units_in}
+use Rattle.catalog.specs.Spares.{ready_tables, unit_maps_in}
 use Rattle.catalog.proofs.ApplyingLaws.{disks_kept, disks_made, disks_others, disks_stay, disks_taken, kept_units}
 use Rattle.catalog.proofs.catalog.Catalog.apply_disks.Goals as goal
 
 pub invariant_of-self : goal.invariant_of-self
 invariant_of-self c =
-    kept_units c.self.inside.parts c.self.inside.shape c.self.inside.units.items c.put_in.new.units.items (ready_tables c.self.inside.spare) (units_in c.self.inside.next_units) (units_in c.take.new.self) c.self.inside.spare c.args.next.now.entries c.self.invariant
+    kept_units c.self.inside.parts c.self.inside.shape c.self.inside.units.items c.put_in.new.units.items (ready_tables c.self.inside.spare) (unit_maps_in c.self.inside.next_units) (unit_maps_in c.take.new.self) c.self.inside.spare c.args.next.now.entries c.self.invariant
     (disks_taken c.args.self.now c.self.inside.parts c.self.inside.shape c.self.inside.units.items c.put_in.new.units.items (ready_tables c.self.inside.spare) c.self.inside.next_units c.in-Some.changed c.args.next.now.entries c.self.view_is c.requires c.in-Some.ensures.value c.put_in.ensures)
 
 pub returns-in-Some-clause-units : goal.returns-in-Some-clause-units

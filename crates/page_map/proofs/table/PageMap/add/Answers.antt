@@ -1,5 +1,5 @@
 use Rattle.std.proofs.Common.{◌≡◌, List, None, sym, ap, subst, ◌∙◌}
-use Rattle.allocator.specs.asm_base.Records.{Entry, record_at}
+use Rattle.allocator.specs.asm_base.Records.{DirectoryRecord, record_at}
 use Rattle.page_map.specs.Tables.{PageTable, SameTable, Adds, place_at}
 use Rattle.page_map.proofs.Adding.{added_is_table, same_is_table, free_again}
 use Rattle.page_map.proofs.table.PageMap.add.Goals as goal
@@ -33,7 +33,7 @@ invariant_of-self-in-Err c =
     let new : PageTable = record { records = c.insert_both.new.records; places = c.insert_both.new.places.entries; free = c.give.new.self } in
     let absent : place_at old.places c.args.key ≡ None = subst (λ (t : PageTable). place_at t.places c.args.key ≡ None) (sym c.self.view_is) c.requires.absent in
     let same : SameTable old new = record {
-      records = λ k. ap (λ (r : List Entry). record_at r k) c.in-Err.ensures.records;
+      records = λ k. ap (λ (r : List DirectoryRecord). record_at r k) c.in-Err.ensures.records;
       places = c.in-Err.ensures.places absent;
       free = free_again old.free c.take.new.self new.free c.in-Some.page c.in-Some.ensures.least.free c.in-Some.ensures.taken c.give.ensures.given;
       units = c.give.ensures.count ∙ c.in-Some.ensures.count;
@@ -47,7 +47,7 @@ returns-in-Err-clause-err c =
     let new : PageTable = record { records = c.insert_both.new.records; places = c.insert_both.new.places.entries; free = c.give.new.self } in
     let absent : place_at old.places c.args.key ≡ None = subst (λ (t : PageTable). place_at t.places c.args.key ≡ None) (sym c.self.view_is) c.requires.absent in
     let same : SameTable old new = record {
-      records = λ k. ap (λ (r : List Entry). record_at r k) c.in-Err.ensures.records;
+      records = λ k. ap (λ (r : List DirectoryRecord). record_at r k) c.in-Err.ensures.records;
       places = c.in-Err.ensures.places absent;
       free = free_again old.free c.take.new.self new.free c.in-Some.page c.in-Some.ensures.least.free c.in-Some.ensures.taken c.give.ensures.given;
       units = c.give.ensures.count ∙ c.in-Some.ensures.count;

@@ -1,7 +1,7 @@
 use Rattle.std.proofs.Common.{◌+◌, length, cond, true, Option, ℕ, sym, ap, ◌∙◌}
 use Rattle.std.specs.Prelude.{is_some}
-use Rattle.page_map.specs.Free.{is_free}
-use Rattle.page_map.specs.Tables.{PageTable, Removes, is_page, one_if}
+use Rattle.page_map.specs.Free.{is_page_free}
+use Rattle.page_map.specs.Tables.{PageTable, Removes, is_this_page, one_if}
 use Rattle.page_map.proofs.Adding.{removed_is_table}
 use Rattle.page_map.proofs.table.PageMap.remove.Goals as goal
 
@@ -12,7 +12,7 @@ invariant_of-self-2 c =
     let removes : Removes old new c.args.key = record {
       records = c.remove-2.ensures.updates;
       places = c.remove.ensures.updates.0;
-      free = λ p. c.give.ensures.given p ∙ ap (λ (q : Option ℕ). cond (is_page q p) true (is_free old.free p)) c.in-Some.ensures.value;
+      free = λ p. c.give.ensures.given p ∙ ap (λ (q : Option ℕ). cond (is_this_page q p) true (is_page_free old.free p)) c.in-Some.ensures.value;
       units = c.give.ensures.count;
       count = ap (λ (q : Option ℕ). length new.places + one_if (is_some q)) (sym c.in-Some.ensures.value) ∙ c.in-Some.ensures.len;
     } in

@@ -1,7 +1,7 @@
 use Rattle.std.proofs.Common.{refl, ◌∙◌, ◌++◌, ◌+◌, ◌-◌, arith, inl, inr, [], ◌∷◌, drop, take}
 use Rattle.std.proofs.lemmas.List.{append-nil}
 use Rattle.std.proofs.lemmas.Result.{err_from_is_err_and}
-use Rattle.script.specs.Scanning.{place_of}
+use Rattle.script.specs.Scanning.{place_of_state}
 use Rattle.asm_world.specs.Run.{Resting}
 use Rattle.serving.proofs.Chains.{acts-none, acts-then}
 use Rattle.serving.proofs.Pieces.{begins-none, within-rest, fresh-stands, shown-stands, ended-step, gap-step, gap-none, at-rest, at-commands, at-paths}
@@ -46,7 +46,7 @@ returns-in_err-run_command-clause-answers g c =
         time' = r.time';
         commands = i.0;
         left = drop done c.args.pending.now.items;
-        place = place_of c.loop-span.cutter.from;
+        place = place_of_state c.loop-span.cutter.from;
         knows = r.knows;
         rests = tt;
         begins = i.3;
@@ -60,7 +60,7 @@ returns-in_err-run_command-clause-answers g c =
         time' = r.time';
         commands = i.0 ++ take (done + span.at + span.len - (done + span.at)) (drop (done + span.at) c.deref-in-Some.result.now) ∷ [];
         left = drop (done + span.at + span.len) c.args.pending.now.items;
-        place = place_of c.next.new.self.from;
+        place = place_of_state c.next.new.self.from;
         knows = r.knows;
         rests = tt;
         begins = ended-step _ _ c.next.new.self.from _ c.deref.result.now c.deref-in-Some.result.now done span.at span.len (done + span.at) (done + span.at + span.len) i.0
@@ -81,7 +81,7 @@ returns-clause-answers g c =
       time' = b.2;
       commands = i.0;
       left = c.remove_front.new.bytes.items;
-      place = place_of c.without_gap.result.from;
+      place = place_of_state c.without_gap.result.from;
       knows = b.3;
       rests = refl;
       begins = gap-step _ _ c.loop-span.cutter.from c.next.new.self.from _ _ c.loop-span.done c.next.new.self.start i.0 c.in_default.ensures.from c.remove_front.ensures i.3 (c.without_gap.ensures.same _ (shown-stands _ c.deref.result.now c.loop-span.done c.next.new.self c.deref.ensures.value c.in_default.ensures.stands));

@@ -1,5 +1,5 @@
 use Rattle.std.proofs.Common.{◌≡◌, ℕ, ◌-◌, ◌≤◌, true, List, length, drop}
-use Rattle.script.specs.Scanning.{place_of, Stands}
+use Rattle.script.specs.Scanning.{place_of_state, IsCutterOf}
 use Rattle.asm_world.specs.World.{World}
 use Rattle.asm_world.specs.Run.{Resting}
 use Rattle.serving.specs.Acts.{Acts}
@@ -13,8 +13,8 @@ use Rattle.asm_world.specs.Below.{GroupBelow}
 abbrev pub invariant-loop-span : goal.invariant-loop-span
 invariant-loop-span g l =
     (commands : List (List ℕ)) × (l.done ≤ length l.pending.items)
-    × Stands (drop l.done l.pending.items) l.cutter
-    × BeginsFrom (place_of l.fn.cutter.from) l.pending.items commands (place_of l.cutter.from) (drop l.done l.pending.items)
+    × IsCutterOf (drop l.done l.pending.items) l.cutter
+    × BeginsFrom (place_of_state l.fn.cutter.from) l.pending.items commands (place_of_state l.cutter.from) (drop l.done l.pending.items)
     × ((w : World) (below : ℕ → GroupBelow) (time : ℕ) → Knows l.fn.self.desk.session w below → (w' : World) × (below' : ℕ → GroupBelow) × (time' : ℕ) × Knows l.self.desk.session w' below'
     × Acts g.C.Clock.gives (paths_on l.fn.self.desk) true commands (scene_of w below Resting time l.fn.self) (scene_of w' below' Resting time' l.self))
     × (g.K.Sink.faults l.fn.self.sink ≤ g.K.Sink.faults l.self.sink)

@@ -3,7 +3,7 @@ use Rattle.std.proofs.lemmas.List.{append-nil, take_rest}
 use Rattle.std.proofs.lemmas.Result.{err_from_is_err_and}
 use Rattle.script.specs.Script.{cut, commands_of}
 use Rattle.script.specs.declared.cutter.State.TheVariants.{Gap}
-use Rattle.script.specs.Scanning.{place_of}
+use Rattle.script.specs.Scanning.{place_of_state}
 use Rattle.asm_world.specs.Run.{Resting}
 use Rattle.serving.proofs.Chains.{acts-none, acts-then}
 use Rattle.serving.proofs.Pieces.{within-rest, fresh-stands, last-step, at-rest, at-commands, at-paths}
@@ -46,7 +46,7 @@ returns-in_err-run_command-clause-answers g c =
         phase = r.phase;
         time' = r.time';
         commands = i.0;
-        rest = cut true (place_of c.loop-span.cutter.from) (drop done c.args.pending.now);
+        rest = cut true (place_of_state c.loop-span.cutter.from) (drop done c.args.pending.now);
         knows = r.knows;
         rests = tt;
         last = i.3;
@@ -81,7 +81,7 @@ returns-clause-answers g c =
       rest = [];
       knows = b.3;
       rests = refl;
-      last = i.3 ∙ ap (λ cs. i.0 ++ cs) (ap (cut true (place_of c.loop-span.cutter.from)) (sym (take_rest c.args.pending.now c.loop-span.done)) ∙ c.in_default.ensures.none);
+      last = i.3 ∙ ap (λ cs. i.0 ++ cs) (ap (cut true (place_of_state c.loop-span.cutter.from)) (sym (take_rest c.args.pending.now c.loop-span.done)) ∙ c.in_default.ensures.none);
       all = refl;
       acts = b.4;
     }

@@ -2,7 +2,7 @@ use Rattle.std.proofs.Common.{◌≡◌, ◌∙◌, List, Option, Some, None, []
 use Rattle.bay.specs.Moments.{Ends}
 use Rattle.asm_formats.specs.Status.{Entry, Status, status_spelling}
 use Rattle.status_register.specs.Holders.{attached_to, HoldSlots, SlotsDiffer}
-use Rattle.status_register.specs.Keeping.{Keeps}
+use Rattle.status_register.specs.Keeping.{FitsRegister}
 use Rattle.status_register.specs.Reaching.{Reaches}
 use Rattle.status_register.specs.Registered.{Registered, all_placed}
 use Rattle.status_register.specs.Rows.{CallsInOrder, HaveStatus}
@@ -80,7 +80,7 @@ returns-in-Ok g c =
       calls = calls;
       history = λ slots enough before. record {
         moments = first_fits s t sound r c.requires.status ms c.requires.numbers c.requires.slots run slots before;
-        after = subst (λ (register : Registered). Keeps slots register (Some r) [] t) (sym made_is)
+        after = subst (λ (register : Registered). FitsRegister slots register (Some r) [] t) (sym made_is)
             (first_completed s t sound r c.requires.status ms c.requires.numbers c.requires.slots run slots before done enough);
       };
     }
