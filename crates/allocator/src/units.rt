@@ -51,7 +51,7 @@ impl Units {
         })
     }
 
-    /// An equal value. It, `new` and `with_unit_count` alone take memory.
+    /// An equal value. It, `new` and `resized` alone take memory.
     pub fn copy(&self) -> Result<Units, NoMemory>
         ensures { IfOk result (λ u. u ≡ self.now) }
     {

@@ -1,5 +1,5 @@
 -- A table of items is read exactly from its records, and stays one where an entry is put or removed.
-use Rattle.std.proofs.Common.{◌≡◌, ℕ, Ordering, Bool, true, false, cond, List, [], ◌∷◌, ◌++◌, map, Option, Some, None, refl, sym, ap, subst, ◌∙◌}
+use Rattle.std.proofs.Common.{◌≡◌, ℕ, Ordering, Bool, true, false, List, [], ◌∷◌, ◌++◌, map, Option, Some, None, refl, sym, ap, subst, ◌∙◌}
 use Rattle.std.specs.Prelude.{IfSome}
 use Rattle.std.specs.Cmp.{IsTotalOrder}
 use Rattle.std.specs.Ordering.{is_lt, ordering_reverse}
@@ -12,11 +12,10 @@ use Rattle.std.proofs.lemmas.Option.{none-some}
 use Rattle.asm_formats.specs.Items.{Item, Key, item_key, is_item}
 use Rattle.asm_formats.specs.Values.{value, decoded_item}
 use Rattle.asm_formats.proofs.Bodies.{item_codec}
-use Rattle.asm_base.specs.Readings.{Reading}
-use Rattle.asm_base.specs.Records.{DirectoryRecord, Ascend, add_item, all_of, ends_below, of_kinds, read_from}
+use Rattle.asm_base.specs.Records.{DirectoryRecord, Ascend, add_item, ends_below, of_kinds, read_from}
 use Rattle.asm_base.specs.Tables.{IsItemTable, entry_of_record, item_record}
-use Rattle.asm_base.proofs.Exact.{IsExact, bind_some, test_some}
-use Rattle.asm_base.proofs.Tables.{all_again, all_takes, read_again, read_found}
+use Rattle.asm_base.proofs.Exact.{bind_some}
+use Rattle.asm_base.proofs.Tables.{read_again, read_found}
 use Rattle.asm_base.proofs.Lists.{IsItem, ascend_push, insert_at_end, is_list_table}
 
 -- ---- the value of a record
@@ -33,34 +32,6 @@ item_is_decoded k bytes None found only = none (decoded_item k bytes) refl where
   none : (o : Option Item) → decoded_item k bytes ≡ o → None ≡ decoded_item k bytes
   none None e = sym e
   none (Some i) e = let f = item_codec.decoded k bytes i e in absurd (none-some i (only i f.0 f.1 f.2))
-
--- A value that is read field by field and then tested is the item that is decoded.
-pub value_is_decoded : {A : Type 0} {s : A → List ℕ} {F : A → Type 0} {r : Reading A} (test : A → Bool) (make : A → Item) → IsExact s F r → (k : Key)
-    → ((x : A) → value (make x) ≡ s x)
-    → ((x : A) → F x → test x ≡ true → (is_item (make x) ≡ true) × (item_key (make x) ≡ k))
-    → ((i : Item) → is_item i ≡ true → item_key i ≡ k → (x : A) × (make x ≡ i) × F x × (test x ≡ true))
-    → (bytes : List ℕ) → option_map make (option_and_then (λ x. cond (test x) (Some x) None) (all_of r bytes)) ≡ decoded_item k bytes
-value_is_decoded {A} {s} {F} {r} test make law k spelt allowed known bytes =
-    item_is_decoded k bytes (option_map make (option_and_then (λ x. cond (test x) (Some x) None) (all_of r bytes))) found only where
-      made : (o : Option A) (i : Item) → option_map make o ≡ Some i → (x : A) × (o ≡ Some x) × (make x ≡ i)
-      made (Some x) i e = (x, refl, cc)
-      made None i e = absurd cc
-
-      found : (i : Item) → option_map make (option_and_then (λ x. cond (test x) (Some x) None) (all_of r bytes)) ≡ Some i → (is_item i ≡ true) × (item_key i ≡ k) × (bytes ≡ value i)
-      found i e =
-          let m = made (option_and_then (λ x. cond (test x) (Some x) None) (all_of r bytes)) i e in
-          let a = bind_some (λ (x : A). cond (test x) (Some x) None) (all_of r bytes) m.0 m.1 in
-          let t = test_some (test a.0) a.0 m.0 a.2 in
-          let w = all_takes law bytes a.0 a.1 in
-          let ok = allowed a.0 w.1 t.0 in
-          let same : make a.0 ≡ i = ap make t.1 ∙ m.2 in
-          subst (λ (j : Item). (is_item j ≡ true) × (item_key j ≡ k) × (bytes ≡ value j)) same (ok.0, ok.1, w.0 ∙ sym (spelt a.0))
-
-      only : (i : Item) → is_item i ≡ true → item_key i ≡ k → bytes ≡ value i → option_map make (option_and_then (λ x. cond (test x) (Some x) None) (all_of r bytes)) ≡ Some i
-      only i ok at e =
-          let x = known i ok at in
-          let spelling : bytes ≡ s x.0 = e ∙ ap value (sym x.1) ∙ spelt x.0 in
-          rw (spelling, all_again law x.0 x.2, x.3) (ap (λ (j : Item). Some j) x.1)
 
 -- ---- entries and items
 

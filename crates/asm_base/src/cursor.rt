@@ -43,7 +43,7 @@ pub fn put_u8(to: &mut Writer, value: u8)
     put_bytes(to, &[value]);
 }
 
-#[tactic(auto, unfolding(asm_formats::specs::Bytes::number))]
+#[tactic(auto, unfolding(asm_formats::specs::Bytes::number_bytes))]
 pub fn put_u16(to: &mut Writer, value: u16)
     requires { to.old.at + 2 ≤ 4096 }
     ensures puts { PutsField to.old to.new (number_bytes w16 value) }
@@ -54,7 +54,7 @@ pub fn put_u16(to: &mut Writer, value: u16)
     put_bytes(to, &field);
 }
 
-#[tactic(auto, unfolding(asm_formats::specs::Bytes::number))]
+#[tactic(auto, unfolding(asm_formats::specs::Bytes::number_bytes))]
 pub fn put_u32(to: &mut Writer, value: u32)
     requires { to.old.at + 4 ≤ 4096 }
     ensures puts { PutsField to.old to.new (number_bytes w32 value) }
@@ -65,7 +65,7 @@ pub fn put_u32(to: &mut Writer, value: u32)
     put_bytes(to, &field);
 }
 
-#[tactic(auto, unfolding(asm_formats::specs::Bytes::number))]
+#[tactic(auto, unfolding(asm_formats::specs::Bytes::number_bytes))]
 pub fn put_u64(to: &mut Writer, value: u64)
     requires { to.old.at + 8 ≤ 4096 }
     ensures puts { PutsField to.old to.new (number_bytes w64 value) }

@@ -78,7 +78,7 @@ pub record RefusedReplyRows : Type 0 where
   pub no_name : reply_text (p.Refused [] r.NoName) ≡ codes "error 14 NoName\n"
   pub dismounted : reply_text (p.Refused [] (r.Dismounted (codes "DATA_0000"))) ≡ codes "error 32 Dismounted DATA_0000\n"
   pub has_alias : reply_text (p.Refused [] r.HasAlias) ≡ codes "error 18 HasAlias\n"
-  pub system_name : reply_text (p.Refused [] r.SystemName) ≡ codes "error 19 ListedSystemName\n"
+  pub system_name : reply_text (p.Refused [] r.SystemName) ≡ codes "error 19 SystemName\n"
   pub system_template : reply_text (p.Refused [] r.SystemTemplate) ≡ codes "error 21 SystemTemplate\n"
   pub directory_full : reply_text (p.Refused [] (r.DirectoryFull 4 3)) ≡ codes "error 26 DirectoryFull 4 3\n"
   pub missing_disks : reply_text (p.Refused [] (r.MissingDisks (codes "DATA_0001"))) ≡ codes "error 11 MissingDisks DATA_0001\n"

@@ -1,5 +1,6 @@
 -- What a creation gives of a group's shape and settings.
 use Rattle.std.specs.Prelude.{◌≡◌, ℕ, Bool, true, Option, Some, None}
+use Rattle.asm_grammar.specs.Word.{when}
 use Rattle.asm_group.specs.Shape.{Shape}
 use Rattle.template_directory.specs.asm_formats.Items.{Settings, is_item, settings_item}
 use Rattle.asm_world.specs.Settings as world
@@ -22,4 +23,4 @@ AreNew (Some c) = IsNewCreation c
 -- the shape that a value makes, where it passes
 abbrev pub shape_if : (ℕ → Bool) → (ℕ → Shape) → Option ℕ → Option Shape
 shape_if test make None = None
-shape_if test make (Some n) = world.when (test n) (make n)
+shape_if test make (Some n) = when (test n) (make n)

@@ -13,10 +13,7 @@ use crate::fields::{
 };
 use crate::templates::are_templates;
 use crate::text::{pass_name, pass_named, pass_text};
-use asm_base::{Reader, is_at_end, record_kind, take_u16, take_u32, take_u64};
-
-/// Extents in a chunk.
-const CHUNK_LEN: usize = 256;
+use asm_base::{CHUNK_LEN, Reader, is_at_end, record_kind, take_u16, take_u32, take_u64};
 
 /// Disks in a group, at most.
 const MOST_DISKS: u32 = 64;
@@ -246,7 +243,7 @@ fn pass_settings(from: &mut Reader) -> Option<()>
 
 // ---- marks
 
-#[tactic(auto, unfolding(crate::specs::Values::are_marks))]
+#[tactic(auto, unfolding(crate::specs::Values::is_marks_value))]
 fn are_marks(bytes: &[u8]) -> bool
     ensures { result ≡ is_marks_value bytes.now }
 {

@@ -69,7 +69,7 @@ pub fn is_header(header: &Header) -> bool
 }
 
 /// The same, where the numbers are those of their types.
-#[tactic(auto, unfolding(crate::specs::Readings::is_right))]
+#[tactic(auto, unfolding(crate::specs::Readings::is_right_header))]
 fn is_right(header: &Header) -> bool
     ensures { result ≡ is_right_header header.now }
 {

@@ -16,7 +16,7 @@ use Rattle.file_extents.specs.group_engine.Mounts.{MountedGroup}
 use Rattle.new_groups.specs.Causes.{IsThisRefusal, terms_of}
 use Rattle.new_groups.specs.declared.asked.Known.{Known}
 use Rattle.disk_joining.specs.AddCauses.{IsNotPrepared, IsUnfit, StandsAgainst, add_refusal, names_refusal, free_blocks, full_refusal}
-use Rattle.disk_joining.specs.AddCauses.IsNotPrepared.{by_look, by_memory}
+use Rattle.disk_joining.specs.AddCauses.IsNotPrepared.{by_refused_look, by_lack_of_memory}
 use Rattle.disk_joining.specs.Asking.{IsKnownWith, asked_disks}
 use Rattle.disk_joining.specs.declared.asked.Asked.{Asked}
 
@@ -45,7 +45,7 @@ module _ (known : Known) (m : MountedGroup) (paths : List Bytes) where
   pub look_refused : (groups : List NewFailgroup) (a : Asked) (found looked : List Looked) (refusal : r.Refusal) (s t : BayState) → a.disks.items ≡ asked_disks m groups → a.terms.items ≡ terms_of groups
       → looked ≡ found → length found ≡ length paths → AreLooked found s t → IsUnfit known m paths looked a refusal → IsNotPrepared paths groups known m refusal s t
   look_refused groups a found looked refusal s t disks terms same count are why = ⊎_elim
-      (λ (first : StandsAgainst known m paths looked a refusal). by_look (record {
+      (λ (first : StandsAgainst known m paths looked a refusal). by_refused_look (record {
         asked = a;
         disks = disks;
         terms = terms;
@@ -54,4 +54,4 @@ module _ (known : Known) (m : MountedGroup) (paths : List Bytes) where
         count = count;
         first = subst (λ (l : List Looked). StandsAgainst known m paths l a refusal) same first;
       }))
-      (λ short. by_memory short) why
+      (λ short. by_lack_of_memory short) why

@@ -1,6 +1,7 @@
 -- Which disks a statement means.
 use Rattle.std.specs.Prelude.{◌≡◌, ℕ, ◌<◌, ◌==◌, ◌&&◌, nat_lt, not, is_some, Bool, true, false, List, Option, Some, None}
 use Rattle.std.specs.List.{list_any}
+use Rattle.asm_group.specs.Modes.{is_offline}
 use Rattle.asm_group.specs.Names.{Bytes, is_same_name}
 use Rattle.asm_formats.specs.Items.{DiskInfo}
 use Rattle.asm_formats.specs.Sets.{has_bit}
@@ -9,7 +10,6 @@ use Rattle.asm_placement.specs.Modes.{serves}
 use Rattle.group_reports.specs.disk_directory.Disks.{info_at}
 use Rattle.group_reports.specs.catalog_tables.Tables.{Catalogued}
 use Rattle.record_laws.specs.group_engine.Mounts.{MountedGroup, slot_at}
-use Rattle.group_reports.specs.Disks as reports
 use Rattle.disk_modes.specs.declared.finding.GroupSort.{GroupSort}
 use Rattle.disk_modes.specs.declared.finding.GroupSort.TheVariants as sort
 
@@ -55,4 +55,4 @@ abbrev pub is_serving : MountedGroup → Entry → Bool
 is_serving m e = serves e.mode && is_attached m e.number
 
 abbrev pub is_offline_entry : Entry → Bool
-is_offline_entry e = reports.is_offline e.mode
+is_offline_entry e = is_offline e.mode

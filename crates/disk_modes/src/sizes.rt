@@ -7,15 +7,9 @@ ghost use Rattle.disk_modes.specs.Causes.{AreLargeEnough, IsFirstSmall, IsLargeE
 ghost use Rattle.disk_modes.specs.Ends.{AreUsedTo, HasEnds, IsChunkEnd, IsCopyEnd, IsHomeEnd, IsUsedTo};
 ghost use Rattle.disk_modes.specs.Sizes.{image_units, units_asked, whole_units_in};
 
-use asm_base::{DiskRef, DiskSet, Home, Homes, Refusal, Shape};
+use asm_base::{DiskRef, DiskSet, Home, Homes, LEAST_USER_UNITS, MOST_UNITS, Refusal, Shape};
 use group_reports::{Catalog, units_of};
 use record_laws::Mounted;
-
-/// The most units that a disk may have.
-const MOST_UNITS: u64 = 16_777_216;
-
-/// The units for users that a disk has at least.
-const LEAST_USER_UNITS: u64 = 16;
 
 /// What a RESIZE asks for: of some disks a size in bytes, or else that of their images.
 #[derive(Clone, Copy)]

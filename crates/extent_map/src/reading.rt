@@ -11,12 +11,9 @@ ghost use Rattle.extent_map.specs.Extents.{chunk_key};
 ghost use Rattle.record_values.specs.Values.{chunk_reading, extent_reading};
 
 use crate::chunk::Chunk;
-use asm_base::{Homes, List, NoMemory, Reader, is_at_end};
+use asm_base::{CHUNK_LEN, Homes, List, NoMemory, Reader, is_at_end};
 use record_values::take_home;
 use std::alloc::Global;
-
-/// Extents in a chunk.
-const CHUNK_LEN: usize = 256;
 
 /// The extents of a file's chunk that a value has, or None where their record isn't of the formats.
 pub fn chunk_in(

@@ -38,10 +38,6 @@ part_shorter name e = by_len (leb (length name) 30) refl where
 pub name_fits : (f : ℕ) (h : FileHead) → is_item (file_item f h) ≡ true → length h.type_name ≤ 30
 name_fits f h ok = part_is_short 30 h.type_name (file_fits f h ok).type_name
 
--- the same of a head whose fields are in the open
-pub name_fits_inside : (f : ℕ) {v h : FileHead} → v ≡ h → is_item (file_item f h) ≡ true → length v.type_name ≤ 30
-name_fits_inside f {v} {h} same ok = subst (λ (x : FileHead). length x.type_name ≤ 30) (sym same) (name_fits f h ok)
-
 -- ---- the table
 
 -- the file of a record of its kinds is read from its value

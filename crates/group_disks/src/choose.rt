@@ -8,14 +8,11 @@ ghost use Rattle.asm_group.specs.Refusal.{NoDisk, DiskTaken, TooSmall, WriteFaul
 ghost use Rattle.group_disks.specs.Probes.{IsUsableProbe, IsUnusable, SaysRefusal, size_shown};
 
 use crate::find::Probe;
-use asm_base::{DiskRef, Name, NoMemory, Refusal, Text};
+use asm_base::{DiskRef, MOST_UNITS, Name, NoMemory, Refusal, Text};
 use std::alloc::Global;
 
 /// The bytes of a unit.
 const UNIT: u64 = 1_048_576;
-
-/// The most units that a disk may have.
-const MOST_UNITS: u64 = 16_777_216;
 
 /// The units that the disk of a new group needs: those of its directory region, and 16 for users.
 const LEAST_UNITS: u32 = 25;

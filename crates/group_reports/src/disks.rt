@@ -1,6 +1,7 @@
 //! What lsdg shows of a group's disks together.
 
 ghost use Rattle.std.specs.Prelude.{◌≡◌, ◌≤◌, ◌*◌, ◌^◌, List, length, filter, slice_get};
+ghost use Rattle.asm_group.specs.Modes.{is_offline};
 ghost use Rattle.asm_group.specs.Shape.{Shape};
 ghost use Rattle.asm_formats.specs.Items.{Item};
 ghost use Rattle.asm_placement.specs.Space.{total};

@@ -177,7 +177,7 @@ fn disks_behind_kind<'a>(
 }
 
 /// A failure group with its disks, where one begins.
-#[tactic(auto, unfolding(crate::specs::Choices::group_at))]
+#[tactic(auto, unfolding(crate::specs::Choices::failgroup_at))]
 pub fn try_failgroup<'a>(
     alloc: Global,
     place: &mut Place<'a>,

@@ -74,7 +74,7 @@ fn template_words<'a>(place: &mut Place<'a>) -> Result<TemplateWords, ReadError>
 }
 
 /// What stands behind TEMPLATE: a name and the template's words.
-#[tactic(auto, unfolding(crate::specs::Choices::template_at))]
+#[tactic(auto, unfolding(crate::specs::Choices::template_with_words_at))]
 pub fn template<'a>(
     alloc: Global,
     place: &mut Place<'a>,

@@ -8,15 +8,9 @@ ghost use Rattle.new_groups.specs.Causes.{IsThisRefusal, creation_disk, creation
 use crate::places::Place;
 use crate::planned::Terms;
 use crate::refusals::too_small;
-use asm_base::{Refusal, Shape};
+use asm_base::{LEAST_USER_UNITS, MOST_UNITS, Refusal, Shape};
 use new_disks::PlannedDisk;
 use std::alloc::Global;
-
-/// The most units that a disk may have.
-const MOST_UNITS: u64 = 16_777_216;
-
-/// The units for users that a disk has at least.
-const LEAST_USER_UNITS: u64 = 16;
 
 /// The units that a disk needs: those of its directory region, and 16 for users.
 #[tactic(auto, using(asm_images::proofs::UserBytes::shape_au), unfolding(asm_formats::specs::Regions::reserved_units))]

@@ -13,7 +13,7 @@ use Rattle.page_map.specs.Tables.{PageTable, IsPageTable, Shows}
 -- an item of the formats with this key and this value
 pub record IsItemOf (k : Key) (v : List ℕ) (i : Item) : Type 0 where
   pub is : IsTrue (is_item i)
-  pub key : key i ≡ k
+  pub key : item_key i ≡ k
   pub value : value i ≡ v
 
 -- each record is one of the formats

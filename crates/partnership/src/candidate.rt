@@ -102,7 +102,7 @@ pub fn lowest(units: &Units, n: u32) -> Option<u32>
 }
 
 /// Whether a is tried before b: it is less full, or as full and of a lower number. Fills are compared by cross products.
-#[tactic(auto, unfolding(crate::specs::Candidates::is_before))]
+#[tactic(auto, unfolding(crate::specs::Candidates::is_less_full))]
 fn is_before(a: &Candidate, b: &Candidate) -> bool
     ensures { result ≡ is_less_full a.now b.now }
 {

@@ -57,7 +57,7 @@ fn first_disk(disks: &[PstEntry], room: &Room, copies: u8) -> Option<Candidate>
 }
 
 /// The disk, where it may take the first copy.
-#[tactic(auto, unfolding(crate::specs::Steps::candidate_if, crate::specs::Candidates::may_be_first))]
+#[tactic(auto, unfolding(crate::specs::Steps::candidate_if, crate::specs::Candidates::may_be_first_candidate))]
 fn first_candidate(
     disks: &[PstEntry],
     room: &Room,

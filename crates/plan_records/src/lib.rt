@@ -25,5 +25,5 @@ pub use changes::{change_copied, one_gone, one_put, put_and_gone, two_gone, two_
 pub use heads::{keys_of_file, with_alias, with_size};
 pub use new_names::{NameParts, new_name, system_path};
 pub use operations::{removal_of, shrinking};
-pub use refusals::{bad_attribute, no_memory, refusal_of};
+pub use refusals::{bad_attribute, refusal_of};
 pub use setting_records::{settings_next, settings_record, templates_record};

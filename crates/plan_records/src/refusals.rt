@@ -9,13 +9,6 @@ use alias_edits::TreeError;
 use asm_base::{NoMemory, Refusal, Text};
 use std::alloc::Global;
 
-/// Want of memory as a refusal.
-pub fn no_memory(_: NoMemory) -> Refusal
-    ensures { result ≡ WithoutMemory }
-{
-    Refusal::NoMemory
-}
-
 /// Why an edit of the tree of names is refused.
 #[tactic(auto, unfolding(asm_base::specs::Refusals::said))]
 pub fn refusal_of(error: TreeError) -> Refusal
@@ -38,6 +31,6 @@ pub fn bad_attribute(alloc: Global, name: &[u8]) -> Refusal
 {
     match Text::from_slice(alloc, name) {
         Ok(name) => Refusal::BadAttribute { name },
-        Err(error) => no_memory(error),
+        Err(NoMemory) => Refusal::NoMemory,
     }
 }

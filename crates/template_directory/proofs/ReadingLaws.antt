@@ -19,7 +19,6 @@ use Rattle.asm_base.proofs.FieldLaws.{byte_exact, flag_exact, counted_exact}
 use Rattle.asm_base.proofs.WordLaws.{stripe_exact}
 use Rattle.asm_base.proofs.NameLaws.{name_exact, text_exact, name_is_part}
 use Rattle.asm_base.proofs.Tables.{bytes_are, are_bytes_is}
-use Rattle.asm_base.proofs.ItemTables.{value_is_decoded}
 use Rattle.template_directory.specs.Tables.{Table, IsTemplateTable, records_of_templates, settings_said, table_of, templates_said}
 use Rattle.record_values.specs.Values.{templates_reading, settings_reading}
 use Rattle.record_values.proofs.Templates.{templates_decoded}

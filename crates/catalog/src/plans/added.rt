@@ -8,8 +8,9 @@ ghost use Rattle.catalog.specs.Plans.{IsAddRefusal, IsPlan, MayAdd, with_records
 ghost use Rattle.plan_records.specs.catalog_tables.Rules.{blocks_used};
 
 use crate::catalog::Catalog;
+use crate::plans::refusals::no_memory;
 use asm_base::{Change, Key, List, NoMemory, Refusal, Value};
-use plan_records::{DiskInfo, disk_record, no_memory};
+use plan_records::{DiskInfo, disk_record};
 use std::alloc::Global;
 
 impl Catalog {

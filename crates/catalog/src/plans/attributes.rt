@@ -8,8 +8,9 @@ ghost use Rattle.catalog.specs.FilePlans.{IsAttributePlan, IsAttributeRefusal};
 ghost use Rattle.catalog.specs.Plans.{IsPlan};
 
 use crate::catalog::Catalog;
+use crate::plans::refusals::no_memory;
 use asm_base::{Change, Name, NoMemory, Refusal};
-use plan_records::{Settings, bad_attribute, no_memory, one_put, settings_record, with_attribute};
+use plan_records::{Settings, bad_attribute, one_put, settings_record, with_attribute};
 use std::alloc::Global;
 
 impl Catalog {

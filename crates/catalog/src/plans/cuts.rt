@@ -8,8 +8,9 @@ ghost use Rattle.catalog.specs.ExtentPlans.{MayCut, marks_or_none, with_cut};
 ghost use Rattle.catalog.specs.Plans.{IsPlan};
 
 use crate::catalog::Catalog;
+use crate::plans::refusals::no_memory;
 use asm_base::{Change, Key, NoMemory, Refusal, Value, record_kind};
-use plan_records::{chunk_record, marks_record, no_memory, two_gone, two_put};
+use plan_records::{chunk_record, marks_record, two_gone, two_put};
 use std::alloc::Global;
 
 impl Catalog {

@@ -9,8 +9,9 @@ ghost use Rattle.catalog.specs.Plans.{IsDiskRefusal, IsPlan, LacksBlock, may_be_
 ghost use Rattle.plan_records.specs.catalog_tables.Rules.{blocks_used};
 
 use crate::catalog::Catalog;
+use crate::plans::refusals::no_memory;
 use asm_base::{Change, NoMemory, Refusal};
-use plan_records::{DiskInfo, disk_key, disk_record, no_memory, one_gone, one_put};
+use plan_records::{DiskInfo, disk_key, disk_record, one_gone, one_put};
 use std::alloc::Global;
 
 impl Catalog {

@@ -7,8 +7,12 @@ ghost use Rattle.catalog.specs.FilePlans.{IsRemovalPlan, IsSizePlan, MayGrow};
 
 use crate::catalog::Catalog;
 use crate::plans::operations::fits;
+use crate::plans::refusals::no_memory;
 use asm_base::{Change, List, NoMemory, PENDING_KEY, Refusal};
-use plan_records::{FileHead, keys_of_file, no_memory, one_put, pending_record, put_and_gone, record_of, removal_of, shrinking, two_put, with_size};
+use plan_records::{
+    FileHead, keys_of_file, one_put, pending_record, put_and_gone, record_of, removal_of,
+    shrinking, two_put, with_size,
+};
 use std::alloc::Global;
 
 impl Catalog {

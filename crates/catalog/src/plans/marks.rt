@@ -7,8 +7,9 @@ ghost use Rattle.catalog.specs.ExtentPlans.{MayMark, marks_changed, marks_or_non
 ghost use Rattle.catalog.specs.Plans.{IsPlan};
 
 use crate::catalog::Catalog;
+use crate::plans::refusals::no_memory;
 use asm_base::{Change, ExtentId, Key, NoMemory, Refusal, Value};
-use plan_records::{Marks, marks_record, no_memory, one_put};
+use plan_records::{Marks, marks_record, one_put};
 use std::alloc::Global;
 
 impl Catalog {

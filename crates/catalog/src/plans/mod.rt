@@ -11,6 +11,7 @@ mod marks;
 mod moves;
 mod names;
 mod operations;
+mod refusals;
 mod rules;
 mod templates;
 mod tree;

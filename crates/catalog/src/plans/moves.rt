@@ -10,8 +10,9 @@ ghost use Rattle.catalog.specs.Plans.{IsPlan};
 
 use crate::catalog::Catalog;
 use crate::moving::with_home;
+use crate::plans::refusals::no_memory;
 use asm_base::{Change, ExtentId, Home, Key, NoMemory, Refusal, Value};
-use plan_records::{Chunk, chunk_record, no_memory, one_put, two_put};
+use plan_records::{Chunk, chunk_record, one_put, two_put};
 use std::alloc::Global;
 
 impl Catalog {

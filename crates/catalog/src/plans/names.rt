@@ -18,8 +18,12 @@ ghost use Rattle.plan_records.specs.catalog_tables.Rules.{blocks_used};
 
 use crate::catalog::Catalog;
 use crate::new_file::NewFile;
+use crate::plans::refusals::no_memory;
 use asm_base::{Change, Key, List, Name, NoMemory, PENDING_KEY, Path, Refusal, Stripe, Value};
-use plan_records::{FileHead, NameParts, Node, TreeError, new_name, no_memory, node_record, plan_file, record_of, refusal_of, settings_next, settings_record, system_path};
+use plan_records::{
+    FileHead, NameParts, Node, TreeError, new_name, node_record, plan_file, record_of, refusal_of,
+    settings_next, settings_record, system_path,
+};
 use std::alloc::Global;
 
 impl Catalog {

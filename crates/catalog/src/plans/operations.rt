@@ -6,8 +6,9 @@ ghost use Rattle.asm_base.specs.declared.refusal.Refusal.TheVariants.{NoMemory a
 ghost use Rattle.catalog.specs.Plans.{AreOwned, IsPlan};
 
 use crate::catalog::Catalog;
+use crate::plans::refusals::no_memory;
 use asm_base::{Change, Key, NoMemory, PENDING_KEY, REBALANCE_KEY, Refusal};
-use plan_records::{Pending, no_memory, one_gone, one_put, pending_record, rebalance_record};
+use plan_records::{Pending, one_gone, one_put, pending_record, rebalance_record};
 use std::alloc::Global;
 
 impl Catalog {

@@ -8,8 +8,9 @@ ghost use Rattle.plan_records.specs.template_directory.Meant.{IsTemplateEditRefu
 ghost use Rattle.catalog.specs.Plans.{IsPlan, IsTemplatePlan};
 
 use crate::catalog::Catalog;
+use crate::plans::refusals::no_memory;
 use asm_base::{Change, NoMemory, Refusal};
-use plan_records::{Template, TemplateEdit, no_memory, one_put, templates_record};
+use plan_records::{Template, TemplateEdit, one_put, templates_record};
 use std::alloc::Global;
 
 impl Catalog {

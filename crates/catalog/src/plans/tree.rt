@@ -13,8 +13,12 @@ ghost use Rattle.plan_records.specs.catalog_tables.Rules.{blocks_used};
 ghost use Rattle.catalog.specs.TreePlans.{IsTreeFull, IsNewAlias, IsTreePlan, IsTreeRefusal, KeepsName, MayChange, MayGo, MayPutNode, aliased_head, heads_after, heads_with, heads_without, keeps_files};
 
 use crate::catalog::Catalog;
+use crate::plans::refusals::no_memory;
 use asm_base::{Change, NoMemory, NodeKind, Refusal};
-use plan_records::{Node, TreeChange, TreeEdit, TreeError, no_memory, node_key, node_record, one_gone, one_put, plan, record_of, refusal_of, two_put, with_alias};
+use plan_records::{
+    Node, TreeChange, TreeEdit, TreeError, node_key, node_record, one_gone, one_put, plan,
+    record_of, refusal_of, two_put, with_alias,
+};
 use std::alloc::Global;
 
 impl Catalog {

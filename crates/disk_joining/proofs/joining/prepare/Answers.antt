@@ -5,7 +5,7 @@ use Rattle.std.proofs.lemmas.Result.{IfErr-weaker, IfOk-weaker}
 use Rattle.asm_base.specs.Refusals.{said}
 use Rattle.asm_world.specs.NewDisks.{PlannedDisk}
 use Rattle.new_groups.proofs.Formed.{looks_none}
-use Rattle.disk_joining.specs.AddCauses.IsNotPrepared.{by_count, by_memory}
+use Rattle.disk_joining.specs.AddCauses.IsNotPrepared.{by_too_many, by_lack_of_memory}
 use Rattle.disk_joining.specs.Asking.{asked_disks}
 use Rattle.disk_joining.specs.Joiners.{are_asked}
 use Rattle.disk_joining.proofs.Unfit.{look_refused}
@@ -16,7 +16,7 @@ pub returns-in-Err-clause-looks : goal.returns-in-Err-clause-looks
 returns-in-Err-clause-looks g c = looks_none (length c.args.paths.now) _ (g.B.Bay.state c.args.bay.now)
 
 pub returns-in-Err-clause-refused : goal.returns-in-Err-clause-refused
-returns-in-Err-clause-refused g c = by_count c.in-Err.ensures.refused
+returns-in-Err-clause-refused g c = by_too_many c.in-Err.ensures.refused
 
 pub planned-requires-clause-shape : goal.planned-requires-clause-shape
 planned-requires-clause-shape g c = c.requires.whole.shape
@@ -42,4 +42,4 @@ returns-in-Ok-look_at_images-clause-refused g c =
 
 pub returns-clause-refused : goal.returns-clause-refused
 unfolding said
-returns-clause-refused g c = by_memory refl
+returns-clause-refused g c = by_lack_of_memory refl

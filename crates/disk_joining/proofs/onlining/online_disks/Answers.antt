@@ -1,7 +1,7 @@
 use Rattle.std.proofs.Common.{◌≤◌, ℕ, List, length, sym, ap, subst, ◌∙◌}
 use Rattle.disk_images.specs.Looks.{AreLooked}
 use Rattle.disk_images.specs.declared.looking.Looked.{Looked}
-use Rattle.disk_joining.specs.Causes.OnlineCause.{by_look}
+use Rattle.disk_joining.specs.Causes.OnlineCause.{by_missed_disks}
 use Rattle.disk_joining.proofs.Onlines.{causes_later, shown_are}
 use Rattle.disk_joining.proofs.Takings.{looks_taken, taken_on, takes_then}
 use Rattle.disk_joining.proofs.onlining.online_disks.Goals as goal
@@ -41,7 +41,7 @@ pub returns-clause-cause : goal.returns-clause-cause
 returns-clause-cause g c =
     let s = g.B.Bay.state c.args.bay.now in
     let t = g.B.Bay.state c.look_at_images.new.bay in
-    by_look (record {
+    by_missed_disks (record {
       looked = c.deref.result.now;
       are_looked = subst (λ (l : List Looked). AreLooked l s t) (sym c.deref.ensures.value) c.in-Ok-look_at_images.ensures.each;
       count = ap (λ (l : List Looked). length l) c.deref.ensures.value ∙ c.in-Ok-look_at_images.ensures.count;

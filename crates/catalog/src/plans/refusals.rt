@@ -1,0 +1,13 @@
+//! Want of memory as a refusal.
+
+ghost use Rattle.std.specs.Prelude.{◌≡◌};
+ghost use Rattle.asm_base.specs.declared.refusal.Refusal.TheVariants.{NoMemory as WithoutMemory};
+
+use asm_base::{NoMemory, Refusal};
+
+/// Want of memory as a refusal.
+pub(crate) fn no_memory(_: NoMemory) -> Refusal
+    ensures { result ≡ WithoutMemory }
+{
+    Refusal::NoMemory
+}
