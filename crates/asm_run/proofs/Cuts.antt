@@ -9,7 +9,7 @@ use Rattle.asm_group.specs.Names.{Bytes}
 use Rattle.asm_world.specs.Generator.{after_choices, create_file, create_group, create_image, fill_command, fills, from_zero, generated, generated_script, megabytes, next_choice, quoted, with_commas}
 use Rattle.asm_world.specs.Text.{ended, hex, hex_digit}
 use Rattle.script.specs.Script as script
-use Rattle.asm_grammar.specs.FirstWord.{opens_statement}
+use Rattle.serving.specs.asm_grammar.FirstWord.{opens_statement}
 use Rattle.script.specs.Script.{ScriptPlace, between, line, in_statement, place_of_first_byte, onto, onto_at, cut, commands_of}
 use Rattle.script.specs.Scanning.{onto_all}
 use Rattle.script.proofs.Cutting.{on_test, quote-begins, quote-goes_on, statement-goes_on}

@@ -2,7 +2,7 @@
 use Rattle.std.proofs.Common.{◌≡◌, ◌≢◌, ℕ, Bool, true, false, Option, Some, None, option_map, Result, Ok, Err, List, IfErr, refl, sym, ◌∙◌, ap, arith}
 use Rattle.std.specs.Str.Parse.{digits_value}
 use Rattle.command_line.specs.Command.{IsRead, number_in}
-use Rattle.command_line.specs.Paths.{Text, IsNumberOf}
+use Rattle.command_line.specs.Paths.{WordBytes, IsNumberOf}
 use Rattle.serving.specs.declared.stop.Stop.{Stop}
 use Rattle.serving.specs.declared.stop.Stop.TheVariants.{ReadFault, WriteFault, NoMemory, TooLong}
 use Rattle.serving.specs.Serves.{IsInputStop}
@@ -10,14 +10,14 @@ use Rattle.asm_run.specs.Headline.{number_given, status_number}
 
 -- ---- words
 
-number_is : (text : Option Text) (generate : Option ℕ) → IsNumberOf text generate → option_map (digits_value 10) text ≡ generate
+number_is : (text : Option WordBytes) (generate : Option ℕ) → IsNumberOf text generate → option_map (digits_value 10) text ≡ generate
 number_is None None is = refl
 number_is (Some text) (Some n) is = ap (λ k. Some k) (sym is.1)
 number_is None (Some n) is = absurd is
 number_is (Some text) None is = absurd is
 
 -- the number that was read is the one given
-pub given_is : (words : List Text) (generate : Option ℕ) (images : List Text) → IsRead words generate images → number_given words ≡ generate
+pub given_is : (words : List WordBytes) (generate : Option ℕ) (images : List WordBytes) → IsRead words generate images → number_given words ≡ generate
 given_is words generate images read = number_is (number_in words) generate read.taken.number
 
 pub same_number : (o : Option ℕ) (m n : ℕ) → o ≡ Some m → o ≡ Some n → m ≡ n

@@ -11,7 +11,7 @@ use Rattle.asm_world.specs.Run.{State, Resting, PrintedMove, IsGenerated, IsPrin
 use Rattle.asm_world.specs.RunLaws.{RisesFrom}
 use Rattle.asm_world.specs.World.{World}
 use Rattle.command_line.specs.Command.{number_in}
-use Rattle.command_line.specs.Paths.{Text}
+use Rattle.command_line.specs.Paths.{WordBytes}
 use Rattle.serving.specs.group_disks.Found.{Counts, counts_of}
 use Rattle.script.specs.Script.{commands_of, ended_commands}
 use Rattle.serving.specs.declared.stop.Stop.{Stop}
@@ -34,7 +34,7 @@ status_number (Err NoMemory) refused = 5
 status_number (Err TooLong) refused = 6
 
 -- the number of `--generate` among words, where it is given; what isn't a number has some value too, and such words are refused
-abbrev pub number_given : List Text → Option ℕ
+abbrev pub number_given : List WordBytes → Option ℕ
 number_given words = option_map (digits_value 10) (number_in words)
 
 -- no group is in the session, and its place is `+`

@@ -5,7 +5,7 @@ ghost use Rattle.bay.specs.Counts.{Rose};
 ghost use Rattle.asm_world.specs.Run.{AreInFull};
 ghost use Rattle.asm_world.specs.World.{World};
 ghost use Rattle.command_line.specs.Command.{IsRead, images_in};
-ghost use Rattle.command_line.specs.Paths.{Text};
+ghost use Rattle.command_line.specs.Paths.{WordBytes};
 ghost use Rattle.asm_run.specs.Headline.{IsFirstWorld, GeneratedRun, Transcript, number_given};
 
 use crate::generating::generate;
@@ -39,7 +39,7 @@ pub fn run<B: Bay, H: Host, S: Source, K: Sink, C: Clock>(
     ensures unread { (number : ℕ) → number_given (map string_bytes words.now) ≡ Some number → source.new ≡ source.old }
     ensures replies { result.replies ≡ length result.marks.items }
     ensures status { result.status ≤ 6 }
-    ensures usage { result.status ≡ 2 → (generate : Option ℕ) (images : List Text) → IsRead (map string_bytes words.now) generate images → ⊥ }
+    ensures usage { result.status ≡ 2 → (generate : Option ℕ) (images : List WordBytes) → IsRead (map string_bytes words.now) generate images → ⊥ }
     ensures named { result.status ≢ 2 → result.status ≢ 5
         → IsRead (map string_bytes words.now) (number_given (map string_bytes words.now)) (images_in (map string_bytes words.now)) }
     ensures read_fault { result.status ≡ 3 → Rose (S.faults source.old) (S.faults source.new) }

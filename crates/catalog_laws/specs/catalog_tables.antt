@@ -2,6 +2,7 @@
 pub use Rattle.catalog.specs.catalog_tables.Changing
 pub use Rattle.catalog.specs.catalog_tables.Faults
 pub use Rattle.catalog.specs.catalog_tables.Items
+pub use Rattle.catalog.specs.catalog_tables.MarkedExtents
 pub use Rattle.catalog.specs.catalog_tables.Placing
 pub use Rattle.catalog.specs.catalog_tables.Rules
 pub use Rattle.catalog.specs.catalog_tables.Tables

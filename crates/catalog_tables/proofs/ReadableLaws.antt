@@ -10,7 +10,7 @@ use Rattle.std.specs.List.Sorted.{IsStrictlySortedBy}
 use Rattle.std.proofs.lemmas.Bool.{true≢false}
 use Rattle.std.proofs.lemmas.Option.{none-some}
 use Rattle.asm_group.specs.Group.{Template}
-use Rattle.asm_formats.specs.Items.{Item, Key, Settings, file_item, chunk_item, disk_item, rebalance_item, pending_item, templates_item, node_item, settings_item, marks_item, item_key, is_item}
+use Rattle.asm_formats.specs.Items.{Item, Key, Settings, rebalance_item, pending_item, templates_item, node_item, settings_item, item_key, is_item}
 use Rattle.asm_formats.specs.Values.{decoded_item}
 use Rattle.asm_formats.proofs.Bodies.{item_codec}
 use Rattle.asm_base.specs.Records.{Ascend, DirectoryRecord, is_key, key_cmp, keys_of, of_kinds, record_at}
@@ -164,14 +164,7 @@ node_kind : IsKind nodes.is_key_of_node nodes.is_before nodes.item_of_node
 node_kind = record { entry = entry; below = λ x y e. then_equal (nat_cmp x.0 y.0) e } where
   entry : (i : Item) → nodes.is_key_of_node (item_key i) ≡ true → (x : nodes.Numbered) × (i ≡ nodes.item_of_node x)
   entry (node_item n node) e = ((n, node), refl)
-  entry (file_item f h) e = absurd cc
-  entry (chunk_item f c homes) e = absurd cc
-  entry (disk_item d info) e = absurd cc
-  entry (rebalance_item power) e = absurd cc
-  entry (pending_item op) e = absurd cc
-  entry (templates_item ts) e = absurd cc
-  entry (settings_item s) e = absurd cc
-  entry (marks_item f c marks) e = absurd cc
+  entry _ e = absurd cc
 
 marks_kind : IsKind stale.is_marks chunk_order.is_chunk_before stale.item_of_marks
 marks_kind = record { entry = marks_are_entries; below = λ x y e. ap is_lt e }
@@ -194,13 +187,7 @@ a_part : (i : Item) → templates.is_key_of_templates (item_key i) ≡ true → 
 unfolding part_item
 a_part (templates_item ts) e = (a_list ts, refl)
 a_part (settings_item s) e = (a_set s, refl)
-a_part (file_item f h) e = absurd cc
-a_part (chunk_item f c homes) e = absurd cc
-a_part (disk_item d info) e = absurd cc
-a_part (rebalance_item power) e = absurd cc
-a_part (pending_item op) e = absurd cc
-a_part (node_item n node) e = absurd cc
-a_part (marks_item f c marks) e = absurd cc
+a_part _ e = absurd cc
 
 -- a record that is there is among those of its kinds
 kept_there : (p : Key → Bool) (content : List DirectoryRecord) (k : Key) → p k ≡ true → is_some (record_at content k) ≡ true → is_some (record_at (of_kinds p content) k) ≡ true
@@ -248,13 +235,7 @@ both_there content are has =
 operation_item : (i : Item) → operations.is_operation (item_key i) ≡ true → (x : Operation) × (i ≡ item_of_operation x)
 operation_item (rebalance_item power) e = (Rebalance power, refl)
 operation_item (pending_item op) e = (PendingOne op, refl)
-operation_item (file_item f h) e = absurd cc
-operation_item (chunk_item f c homes) e = absurd cc
-operation_item (disk_item d info) e = absurd cc
-operation_item (templates_item ts) e = absurd cc
-operation_item (node_item n node) e = absurd cc
-operation_item (settings_item s) e = absurd cc
-operation_item (marks_item f c marks) e = absurd cc
+operation_item _ e = absurd cc
 
 abbrev operation_record : Operation → DirectoryRecord
 operation_record x = item_record (item_of_operation x)

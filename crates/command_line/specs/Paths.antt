@@ -5,35 +5,35 @@ use Rattle.std.specs.List.{list_any}
 use Rattle.std.specs.Str.{bytes_eq}
 use Rattle.std.specs.Str.Parse.{IsNumeral, digits_value}
 
--- the bytes of a text
-abbrev pub Text : Type 0
-Text = List ℕ
+-- the bytes of a word of the command line
+abbrev pub WordBytes : Type 0
+WordBytes = List ℕ
 
-abbrev pub texts : List (Bor Text) → List Text
+abbrev pub texts : List (Bor WordBytes) → List WordBytes
 texts = map (λ s. s.now)
 
 -- the text is the number n in decimal digits, without a sign, and n has at most 64 bits
-abbrev pub IsNumber : Text → ℕ → Type 0
+abbrev pub IsNumber : WordBytes → ℕ → Type 0
 IsNumber text n = IsNumeral 10 text × (n ≡ digits_value 10 text) × (n < 2 ^ 64)
 
 -- a path is given twice
-abbrev pub has_twice : List Text → Bool
+abbrev pub has_twice : List WordBytes → Bool
 has_twice [] = false
 has_twice (path ∷ rest) = list_any (λ other. bytes_eq other path) rest || has_twice rest
 
 -- a path has a single quote (39)
-abbrev pub has_quote : List Text → Bool
+abbrev pub has_quote : List WordBytes → Bool
 has_quote paths = list_any (λ path. list_any (λ byte. byte == 39) path) paths
 
 -- the value of `--generate`, where it is given, is the number
-abbrev pub IsNumberOf : Option Text → Option ℕ → Type 0
+abbrev pub IsNumberOf : Option WordBytes → Option ℕ → Type 0
 IsNumberOf None None = ⊤
 IsNumberOf (Some text) (Some n) = IsNumber text n
 IsNumberOf _ _ = ⊥
 
 -- these paths are taken as the images, with this number: at most 512 of them and none twice, and with a number four
 -- without a single quote
-pub record IsTaken (text : Option Text) (paths : List Text) (generate : Option ℕ) (images : List Text) : Type 0 where
+pub record IsTaken (text : Option WordBytes) (paths : List WordBytes) (generate : Option ℕ) (images : List WordBytes) : Type 0 where
   pub same : images ≡ paths
   pub number : IsNumberOf text generate
   pub few : length paths ≤ 512

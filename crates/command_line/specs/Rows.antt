@@ -4,14 +4,14 @@ use Rattle.clap.specs.Words.{fault_of}
 use Rattle.clap.specs.declared.error.kind.ErrorKind.{ErrorKind}
 use Rattle.clap.specs.declared.error.kind.ErrorKind.TheVariants as kind
 use Rattle.command_line.specs.Command.{asm_command, number_in, images_in}
-use Rattle.command_line.specs.Paths.{Text}
+use Rattle.command_line.specs.Paths.{WordBytes}
 
 -- the words have the form, with this number and these images
-abbrev pub ReadsWords : List Text → Option Text → List Text → Type 0
+abbrev pub ReadsWords : List WordBytes → Option WordBytes → List WordBytes → Type 0
 ReadsWords words number images = (fault_of asm_command words ≡ []) × (number_in words ≡ number) × (images_in words ≡ images)
 
 -- the words don't have the form, and this is why
-abbrev pub Refuses : List Text → ErrorKind → Type 0
+abbrev pub Refuses : List WordBytes → ErrorKind → Type 0
 Refuses words why = fault_of asm_command words ≡ why ∷ []
 
 pub record WordRows : Type 0 where

@@ -2,7 +2,7 @@
 ghost use Rattle.std.specs.Prelude.{◌≡◌, ◌≤◌, ℕ, false, Some, List, Option, IfOk, IsErrOf, length, map, option_map};
 ghost use Rattle.std.specs.String.{string_bytes};
 ghost use Rattle.command_line.specs.Command.{IsRead};
-ghost use Rattle.command_line.specs.Paths.{Text, IsTaken, texts, has_twice};
+ghost use Rattle.command_line.specs.Paths.{WordBytes, IsTaken, texts, has_twice};
 ghost use Rattle.command_line.specs.declared.words.WordsError.TheVariants.{Usage, NoMemory};
 
 use crate::checks::{has_quote, has_twice, read_number};
@@ -56,7 +56,7 @@ impl<T: Drop> From<AllocFailed<T>> for WordsError {
 /// Reads the words that follow the program's own name: options anywhere before a `--`, and all others as images.
 pub fn read_words(alloc: Global, words: &[String]) -> Result<Words, WordsError>
     ensures read { IfOk result (λ read. IsRead (map string_bytes words.now) read.generate (map string_bytes read.images.items)) }
-    ensures usage { IsErrOf result WordsError.Usage → (generate : Option ℕ) (images : List Text) → IsRead (map string_bytes words.now) generate images → ⊥ }
+    ensures usage { IsErrOf result WordsError.Usage → (generate : Option ℕ) (images : List WordBytes) → IsRead (map string_bytes words.now) generate images → ⊥ }
 {
     let matches = parse(alloc, words)?;
     let paths = matches.get_strs("IMAGE").unwrap_or(&[]);
@@ -66,7 +66,7 @@ pub fn read_words(alloc: Global, words: &[String]) -> Result<Words, WordsError>
 // Takes the number and the paths, where they meet what is asked of them.
 fn take(alloc: Global, number: Option<&str>, paths: &[&str]) -> Result<Words, WordsError>
     ensures taken { IfOk result (λ read. IsTaken (option_map (λ s. s.now) number.entry) (texts paths.now) read.generate (map string_bytes read.images.items)) }
-    ensures usage { IsErrOf result WordsError.Usage → (generate : Option ℕ) (images : List Text)
+    ensures usage { IsErrOf result WordsError.Usage → (generate : Option ℕ) (images : List WordBytes)
         → IsTaken (option_map (λ s. s.now) number.entry) (texts paths.now) generate images → ⊥ }
 {
     if paths.len() > MOST_IMAGES || has_twice(paths) {
@@ -86,7 +86,7 @@ fn take_generator(alloc: Global, text: &str, paths: &[&str]) -> Result<Words, Wo
     requires few { length (texts paths.now) ≤ 512 }
     requires distinct { has_twice (texts paths.now) ≡ false }
     ensures taken { IfOk result (λ read. IsTaken (Some text.now) (texts paths.now) read.generate (map string_bytes read.images.items)) }
-    ensures usage { IsErrOf result WordsError.Usage → (generate : Option ℕ) (images : List Text)
+    ensures usage { IsErrOf result WordsError.Usage → (generate : Option ℕ) (images : List WordBytes)
         → IsTaken (Some text.now) (texts paths.now) generate images → ⊥ }
 {
     let Some(seed) = read_number(text) else {

@@ -1,4 +1,7 @@
 // The disks of groups: which there are, how large they are, and whether they are online.
+//
+// Behind the refusals that are listed comes Dismounted, where a commit finds no majority. Under WAIT there come those by which
+// the last slice ends: NoSpace, Lost, ReadFault and WriteFault of a rebalance, ReadFault and WriteFault of a resync.
 ghost use Rattle.std.specs.Prelude.{◌≡◌, false};
 ghost use Rattle.asm_world.specs.Command.{Said, Asked, OfflineDisk, OnlineDisk, SetPower};
 ghost use Rattle.asm_world.specs.Language.{command_of};

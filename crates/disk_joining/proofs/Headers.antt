@@ -1,7 +1,6 @@
 -- New disks get their headers, and keep them over calls on other disks.
-use Rattle.std.proofs.Common.{◌≡◌, ◌≢◌, ⊎_elim, inl, inr, ℕ, zero, suc, ◌+◌, ◌<◌, ◌≤◌, true, ◌==◌, List, [], ◌∷◌, length, get_or, sym, ap, subst, ◌∙◌, arith}
-use Rattle.std.specs.Prelude.{not}
-use Rattle.std.proofs.lemmas.Bool.{and_parts, cases_lt, eqb-false, not-true}
+use Rattle.std.proofs.Common.{◌≡◌, ⊎_elim, inl, inr, ℕ, zero, suc, ◌+◌, ◌<◌, ◌≤◌, List, [], ◌∷◌, length, get_or, sym, ap, subst, ◌∙◌, arith}
+use Rattle.std.proofs.lemmas.Bool.{cases_lt}
 use Rattle.bay.specs.Image.{Image, window}
 use Rattle.bay.specs.Moments.{Runs}
 use Rattle.bay.specs.State.{BayState}
@@ -17,7 +16,6 @@ use Rattle.new_groups.specs.group_mount.Verdicts.{IsSlotIn}
 use Rattle.new_groups.specs.group_mount.declared.finding.Headed.{Headed}
 use Rattle.new_groups.specs.Drafts.{AreDisksApart}
 use Rattle.new_groups.specs.Forming.{Works}
-use Rattle.new_groups.specs.Tests.{are_disks_apart, is_apart}
 use Rattle.new_groups.proofs.DiskLists.{among_at}
 use Rattle.disk_joining.specs.Joiners.{AreJoiners, ShowHeaders, ShowsHeader}
 
@@ -43,26 +41,6 @@ slots_differ (k ∷ ks) apart zero (suc j) h x lt inside is also same =
     (apart.0 x among).0 (sym same ∙ ap (λ (y : Headed). y.slot) is)
 slots_differ (k ∷ ks) apart (suc i) zero h x lt inside is also same = absurd (omega arith)
 slots_differ (k ∷ ks) apart (suc i) (suc j) h x lt inside is also same = slots_differ ks apart.1 i j h x (omega arith) (omega arith) is also same
-
--- ---- how they are tried
-
-apart_from_all : (h : Headed) (ks : List Headed) → is_apart h ks ≡ true → (k : Headed) → IsAmong ks k → (k.slot ≢ h.slot) × (k.header.number ≢ h.header.number)
-apart_from_all h [] passes k among = absurd among
-apart_from_all h (x ∷ xs) passes k among =
-    let p = and_parts (not (x.slot == h.slot)) _ passes in
-    let q = and_parts (not (x.header.number == h.header.number)) _ p.1 in
-    ⊎_elim
-    (λ (e : k ≡ x). (
-      (λ same. eqb-false x.slot h.slot (not-true (x.slot == h.slot) p.0) (ap (λ (y : Headed). y.slot) (sym e) ∙ same)),
-      (λ same. eqb-false x.header.number h.header.number (not-true (x.header.number == h.header.number) q.0) (ap (λ (y : Headed). y.header.number) (sym e) ∙ same)),
-    ))
-    (λ later. apart_from_all h xs q.1 k later) among
-
-pub disks_apart : (hs : List Headed) → are_disks_apart hs ≡ true → AreDisksApart hs
-disks_apart [] passes = tt
-disks_apart (h ∷ hs) passes =
-    let p = and_parts (is_apart h hs) _ passes in
-    (apart_from_all h hs p.0, disks_apart hs p.1)
 
 -- ---- a header stays
 

@@ -1,5 +1,5 @@
 -- Disks that join a group: how they are tried, written and attached.
-use Rattle.std.proofs.Common.{◌≡◌, ⊎_elim, inl, inr, ℕ, ◌*◌, ◌<◌, true, false, ◌&&◌, ◌==◌, not, List, [], ◌∷◌, length, get_or, Option, Some, None, refl, sym, ap, subst, ◌∙◌, arith, IsSome, unwrap_or, Result, Ok, Err}
+use Rattle.std.proofs.Common.{◌≡◌, ⊎_elim, inl, inr, ℕ, ◌*◌, true, false, ◌&&◌, ◌==◌, not, List, [], ◌∷◌, length, get_or, Option, Some, None, refl, sym, ap, subst, ◌∙◌, arith, IsSome, unwrap_or, Result, Ok, Err}
 use Rattle.std.specs.Prelude.{OnOk, is_some, nat_le, slice_get}
 use Rattle.std.specs.BTreeMap.{is_at}
 use Rattle.std.specs.FinMap.{nat_cmp-IsAntisymmetric}
@@ -7,13 +7,12 @@ use Rattle.std.specs.List.{AllByRecursion}
 use Rattle.std.specs.Ordering.{nat_cmp}
 use Rattle.std.proofs.lemmas.Bool.{and_from, and_parts, eq-eqb, eqb-true, false≢true, leb-true, not-true, or_left, or_right}
 use Rattle.std.proofs.lemmas.List.Elements.{All-from_recursion}
-use Rattle.std.proofs.lemmas.Option.{same_Some, slice_get_cases, slice_get-get_or}
 use Rattle.bay.specs.State.{BayState, IsSlot, KeepsAttached}
 use Rattle.bay.specs.Moments.{Runs}
 use Rattle.bay.proofs.Calls.{on_more, widened}
 use Rattle.bay.proofs.Images.{changes-within}
 use Rattle.asm_formats.specs.Bytes.{block_size}
-use Rattle.asm_formats.specs.Header.{Header, is_header}
+use Rattle.asm_formats.specs.Header.{is_header}
 use Rattle.asm_formats.specs.Items.{DiskInfo, disk_item, is_item}
 use Rattle.asm_formats.specs.Regions.{has_region, region_end}
 use Rattle.asm_formats.specs.Status.{Entry, Status, entry_of}
@@ -26,7 +25,6 @@ use Rattle.file_extents.proofs.catalog_tables.NumberedLists.{either, number_is}
 use Rattle.disk_images.specs.Headers.{HasHeaderSlot}
 use Rattle.disk_images.specs.Looks.{AreLooked, IsLooked}
 use Rattle.disk_images.specs.declared.looking.Looked.{Looked}
-use Rattle.disk_images.specs.declared.looking.Looked.TheVariants.{Absent, Unread, Read}
 use Rattle.file_extents.proofs.extent_map.Lookups.{put_other}
 use Rattle.gate_slot.specs.Slot.{GateOf, MayClose}
 use Rattle.gate_slot.specs.declared.place.Place.{Place}
@@ -50,25 +48,11 @@ use Rattle.disk_joining.specs.Attaching.{has_disk_in_slot}
 use Rattle.disk_joining.specs.Joiners.{AreJoiners, HasEntryWithBirth, AreEntered, IsJoiner, CanJoin, are_free, are_unrecorded, is_entered, records_disk, are_entered, fits_shape, may_join}
 use Rattle.disk_joining.specs.Taking.{IsApart, TakesIn}
 use Rattle.disk_joining.specs.declared.joining.Joining.{Joining}
+use Rattle.new_groups.proofs.Passing.{apart_is, shown_in}
 use Rattle.disk_joining.proofs.Attached.{not_own}
-use Rattle.disk_joining.proofs.Headers.{disks_apart}
 use Rattle.disk_joining.proofs.Takings.{elsewhere_taken}
 
 -- ---- what is tried
-
-shown_size : (x : Looked) (size : ℕ) → shows_size (Some x) size ≡ true → (header : Option Header) × (x ≡ Read size header)
-shown_size Absent size passes = absurd (false≢true passes)
-shown_size (Unread n) size passes = absurd (false≢true passes)
-shown_size (Read n header) size passes = (header, ap (λ (k : ℕ). Read k header) (eqb-true n size passes))
-
-shown_in : (looked : List Looked) (slot size : ℕ) → shows_size (slice_get looked slot) size ≡ true → (header : Option Header) × (slot < length looked) × (get_or looked slot Absent ≡ Read size header)
-shown_in looked slot size passes = ⊎_elim
-    (λ some.
-    let there : get_or looked slot Absent ≡ some.0 = same_Some (get_or looked slot Absent) some.0 (sym (slice_get-get_or looked slot Absent some.1) ∙ some.2) in
-    let is = shown_size some.0 size (subst (λ (o : Option Looked). shows_size o size ≡ true) some.2 passes) in
-    (is.0, some.1, there ∙ is.1))
-    (λ none. absurd (false≢true (subst (λ (o : Option Looked). shows_size o size ≡ true) none.1 passes)))
-    (slice_get_cases looked slot).1
 
 module _ (m : MountedGroup) (whole : IsWhole m) (looked : List Looked) (held : List ℕ) (s t : BayState) (are : AreLooked looked s t) where
   joiner_is : (h : Headed) → fits_shape m.catalog.shape h ≡ true → (is_image_there looked held h && not (has_disk_in_slot m.disks h.slot)) ≡ true → IsJoiner held m h t
@@ -132,7 +116,7 @@ joining_may m whole found looked held j s t same are passes =
     let q = and_parts (are_free m looked held j.disks.items) _ p.1 in
     let r = and_parts (are_disks_apart j.disks.items) _ q.1 in
     record {
-      apart = disks_apart j.disks.items r.0;
+      apart = apart_is j.disks.items r.0;
       disks = joiners_are m whole looked held s t (subst (λ (l : List Looked). AreLooked l s t) (sym same) are) j.disks.items q.0;
       records = record {
         items = All-from_recursion (λ (x : Disk). is_item (disk_item x.0 x.1) ≡ true) j.records.items (items_all m.catalog.tables.disks j.records.items r.1);

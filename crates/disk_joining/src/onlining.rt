@@ -159,8 +159,8 @@ fn image_of(m: &Mounted, looked: &[Looked], held: &[u32], entry: PstEntry) -> Op
     image_from(m, looked, held, entry, 0)
 }
 
-/// Whether the disk of an entry is there: attached, and still that disk, or another image is it. Of a disk that is attached
-/// no other image is it, as no two images are one disk.
+/// Whether the disk of an entry is there: where a disk of its number is attached, its image still shows it, and else one in a slot
+/// that no group has does.
 fn is_there(m: &Mounted, looked: &[Looked], held: &[u32], entry: PstEntry) -> bool
     requires few { length looked.now ≤ 512 }
     requires small { entry.number < 64 }

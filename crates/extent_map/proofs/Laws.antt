@@ -5,7 +5,7 @@ use Rattle.std.specs.Map.{lookup, set_value}
 use Rattle.std.specs.List.{AllByRecursion}
 use Rattle.std.specs.Option.{is_some, option_map}
 use Rattle.std.proofs.lemmas.Bool.{eq-eqb, ne_eqb}
-use Rattle.asm_formats.specs.Items.{Homes, Item, file_item, chunk_item, disk_item, rebalance_item, pending_item, templates_item, node_item, settings_item, marks_item, Key, is_item}
+use Rattle.asm_formats.specs.Items.{Homes, Item, chunk_item, Key, is_item}
 use Rattle.asm_formats.specs.Values.{decoded_item}
 use Rattle.asm_base.specs.Records.{DirectoryRecord, of_kinds, read_from, Ascend, ends_below}
 use Rattle.asm_base.specs.Tables.{entry_of_record}
@@ -20,15 +20,8 @@ use Rattle.extent_map.proofs.Values.{chunk_numbered}
 -- ---- chunks and their records
 
 each_item : (i : Item) → IsKnown is_chunk item_of_chunk chunked i
-each_item (file_item f h) = inr (refl, refl)
 each_item (chunk_item f c homes) = inl (((f, c), homes), refl)
-each_item (disk_item d info) = inr (refl, refl)
-each_item (rebalance_item power) = inr (refl, refl)
-each_item (pending_item op) = inr (refl, refl)
-each_item (templates_item ts) = inr (refl, refl)
-each_item (node_item n node) = inr (refl, refl)
-each_item (settings_item s) = inr (refl, refl)
-each_item (marks_item f c marks) = inr (refl, refl)
+each_item _ = inr (refl, refl)
 
 pub chunk_entry : IsEntry item_of_chunk chunked
 chunk_entry = entry_by is_chunk item_of_chunk chunked each_item (λ x. refl)

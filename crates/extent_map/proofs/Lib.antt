@@ -4,6 +4,7 @@ pub mod Numbering
 pub mod Lookups
 pub mod Ends
 pub mod FileEnds
+pub mod FileOrder
 pub mod ChunkEnds
 pub mod CutChunks
 pub mod FoundGaps

@@ -6,7 +6,7 @@ use Rattle.std.specs.Option.{is_some, option_or, unwrap_or}
 use Rattle.std.proofs.lemmas.Bool.{and_parts, eqb-true, eq-eqb, ne_eqb}
 use Rattle.asm_group.specs.Group.{Group}
 use Rattle.asm_formats.specs.Among.{IsAmong}
-use Rattle.asm_formats.specs.Items.{Homes, Item, chunk_len, file_item, chunk_item, disk_item, rebalance_item, pending_item, templates_item, node_item, settings_item, marks_item}
+use Rattle.asm_formats.specs.Items.{Homes, Item, chunk_len, chunk_item}
 use Rattle.asm_formats.specs.Status.{Status}
 use Rattle.asm_placement.specs.Tables.{first_said, home_of, homes_in, if_is, is_extent}
 use Rattle.asm_images.specs.Describing.{DescribesGroup}
@@ -39,14 +39,7 @@ told f c (chunk_item g d homes) y e =
     let file = eqb-true g f q.0 in
     let number = eqb-true d c q.1 in
     λ j. chunk_item (file j) (number j) (p.1 j)
-told f c (file_item g h) y e = absurd cc
-told f c (disk_item d i) y e = absurd cc
-told f c (rebalance_item p) y e = absurd cc
-told f c (pending_item p) y e = absurd cc
-told f c (templates_item ts) y e = absurd cc
-told f c (node_item n m) y e = absurd cc
-told f c (settings_item s) y e = absurd cc
-told f c (marks_item g d m) y e = absurd cc
+told f c _ y e = absurd cc
 
 or_first : (a b c : Bool) → ((a || b) || c) ≡ (a || (b || c))
 or_first true b c = refl

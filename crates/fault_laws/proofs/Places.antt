@@ -1,11 +1,8 @@
 -- Homes that lie apart in the user units of the entries can be taken one after the other.
-use Rattle.std.proofs.Common.{◌≡◌, ◌⊎◌, ℕ, ◌+◌, ◌^◌, ◌<◌, ◌≤◌, Bool, true, false, cond, get_or, List, [], ◌∷◌, length, Option, Some, None, refl, sym, ap, subst, ◌∙◌, arith, inl, inr}
+use Rattle.std.proofs.Common.{◌≡◌, ◌⊎◌, ℕ, ◌+◌, ◌^◌, ◌<◌, ◌≤◌, Bool, true, false, cond, List, [], ◌∷◌, length, Option, Some, None, refl, sym, ap, subst, ◌∙◌, arith, inl, inr}
 use Rattle.std.specs.Prelude.{◌&&◌, ◌||◌, ◌==◌, not, find, flat_map, nat_le, nat_lt, slice_set}
 use Rattle.std.specs.List.{list_all, slice_get}
-use Rattle.std.proofs.lemmas.Bool.{and_parts, and_from, eqb-true, eqb-false, eq-eqb, leb-true, ltb-true}
-use Rattle.std.proofs.lemmas.List.{get_or_default}
-use Rattle.std.proofs.lemmas.Option.{slice_get_within, slice_get_read}
-use Rattle.std.proofs.Math.ListN.{length-set}
+use Rattle.std.proofs.lemmas.Bool.{and_parts, and_from, eqb-true, eq-eqb, leb-true, ltb-true}
 use Rattle.asm_group.specs.Group.{Group}
 use Rattle.asm_group.specs.Shape.{Shape}
 use Rattle.asm_formats.specs.Among.{IsAmong}
@@ -22,20 +19,8 @@ use Rattle.catalog_tables.specs.Items.{AreItemsOf}
 use Rattle.catalog_tables.specs.Placing.{HasUnits, after_homes, disk_units, entry_units, home_taken, homes_of, is_run_free, unused_maps}
 use Rattle.catalog_tables.proofs.HomeUnits.{chunks_are_homes, entry_number, is_in, set_here, set_other, taken_is, unused_at, unused_free}
 use Rattle.catalog_tables.proofs.PlacingLaws.{from_all}
-use Rattle.group_of.proofs.Runs.{AllPairs, AreWhole, DontOverlap, IsFreeIn, unused_whole}
+use Rattle.group_of.proofs.Runs.{AllPairs, AreWhole, DontOverlap, IsFreeIn, back_other, either_number, unused_whole}
 use Rattle.fault_laws.proofs.Apart.{fit}
-
-either_number : (m n : ℕ) → (m ≡ n) ⊎ (m ≡ n → ⊥)
-either_number m n = by (m == n) refl where
-  by : (b : Bool) → (m == n) ≡ b → (m ≡ n) ⊎ (m ≡ n → ⊥)
-  by true e = inl (eqb-true m n e)
-  by false e = inr (eqb-false m n e)
-
-back_other : (ms : List UnitMap) (d c : ℕ) (m new : UnitMap) → (d ≡ c → ⊥) → slice_get (slice_set ms c new) d ≡ Some m → slice_get ms d ≡ Some m
-back_other ms d c m new apart e =
-    let within : d < length ms = subst (λ (n : ℕ). d < n) (length-set ms c new) (slice_get_within (slice_set ms c new) d m e) in
-    let old : slice_get ms d ≡ Some (get_or ms d m) = slice_get_read ms (length ms) d (get_or ms d m) refl within (get_or_default ms d m (get_or ms d m) within) in
-    old ∙ sym (set_other ms d c (get_or ms d m) new apart old) ∙ e
 
 -- ---- one home is taken
 

@@ -10,7 +10,7 @@ use Rattle.asm_group.specs.declared.NodeKind.{NodeKind}
 use Rattle.asm_group.specs.declared.NodeKind.TheVariants.{Directory, System, Alias}
 use Rattle.asm_group.specs.Group.{Group}
 use Rattle.asm_formats.specs.Among.{IsAmong}
-use Rattle.asm_formats.specs.Items.{Item, Node, file_item, chunk_item, disk_item, rebalance_item, pending_item, templates_item, node_item, settings_item, marks_item}
+use Rattle.asm_formats.specs.Items.{Item, Node, node_item}
 use Rattle.asm_formats.specs.Status.{Status}
 use Rattle.asm_placement.specs.Naming.{is_kind_directory}
 use Rattle.asm_placement.specs.Tables.{first_said, if_is}
@@ -42,14 +42,7 @@ told n (node_item m x) y e =
     let p = test_some (eqb m n) x y e in
     let number = eqb-true m n p.0 in
     λ j. node_item (number j) (p.1 j)
-told n (file_item f h) y e = absurd cc
-told n (chunk_item f c homes) y e = absurd cc
-told n (disk_item d i) y e = absurd cc
-told n (rebalance_item p) y e = absurd cc
-told n (pending_item p) y e = absurd cc
-told n (templates_item ts) y e = absurd cc
-told n (settings_item s) y e = absurd cc
-told n (marks_item f c m) y e = absurd cc
+told n _ y e = absurd cc
 
 same_directory : (k : NodeKind) → nodes.kind_is_directory k ≡ is_kind_directory k
 same_directory Directory = refl

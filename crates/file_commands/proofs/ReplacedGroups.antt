@@ -1,13 +1,10 @@
 -- The world and the session where another group takes the place of the mounted one of a name.
-use Rattle.std.proofs.Common.{◌≡◌, ◌≢◌, ⊎_elim, inl, inr, ℕ, ◌==◌, Bool, true, false, cond, List, [], ◌∷◌, length, Option, Some, refl, sym, ◌∙◌, ap, subst, if◌then◌else◌}
-use Rattle.std.specs.Prelude.{unwrap_or}
+use Rattle.std.proofs.Common.{◌≡◌, ◌≢◌, ⊎_elim, inl, inr, ℕ, true, false, List, [], ◌∷◌, length, Some, refl, sym, ◌∙◌, ap, subst}
 use Rattle.std.specs.FinMap as maps
-use Rattle.std.specs.Cmp.{unsigned_tied}
-use Rattle.std.proofs.lemmas.Bool.{cases_eq, eq-eqb, false≢true, ne_eqb}
-use Rattle.std.proofs.lemmas.Cmp.{nat_cmp_total}
+use Rattle.std.proofs.lemmas.Bool.{cases_eq, false≢true}
 use Rattle.std.proofs.lemmas.List.{length-map}
 use Rattle.asm_group.specs.Group.{Group}
-use Rattle.asm_group.specs.Names.{Bytes, ByNumber, is_same_name}
+use Rattle.asm_group.specs.Names.{Bytes, is_same_name}
 use Rattle.asm_formats.specs.Among.{IsAmong}
 use Rattle.asm_world.specs.World.{SessionEntry, SessionState, World, Mounted, DismountedBy, entry_among, groups_of, is_mounted, with_dismounted, with_group}
 use Rattle.session.specs.group_engine.Making.{dismounted_by}
@@ -25,6 +22,7 @@ use Rattle.session.specs.Works.{with_state}
 use Rattle.session.proofs.Creation.{groups_after}
 use Rattle.session.proofs.EditedEntries.{one_named, paired_of, paired_torn, paired_with, same_state, with_length}
 use Rattle.session.proofs.Knowing.{cons_same, paired_among}
+use Rattle.session.proofs.ReplacedLists.{at_id, elsewhere, listed}
 
 -- The mounted group of the name was worked on: its entry, and the lists of the session before and after.
 pub record IsWorkedOn (es entries' : List SessionEntry) (groups groups' : List MountedGroup) (name : Bytes) (before after : MountedGroup) (entry : SessionEntry) : Type 0 where
@@ -35,24 +33,6 @@ pub record IsWorkedOn (es entries' : List SessionEntry) (groups groups' : List M
   pub groups_are : groups' ≡ session.with_group_named es groups name after
   pub entries_are : entries' ≡ with_state es name (state_view after)
   pub on : entry.state ≡ Mounted
-
--- ---- the lists of a world in which one id has another
-
-pub listed : (w w' : World) (id : ℕ) (list : List Group) → w'.groups ≡ maps.insert w.groups id list → ReplacesGroups w id list w'
-listed w w' id list is other =
-    ap (λ (m : ByNumber (List Group)). unwrap_or (maps.get m other) []) is
-    ∙ ap (λ (o : Option (List Group)). unwrap_or o []) (maps.get-insert nat_cmp_total w.groups id list other ∙ ap (λ (b : Bool). cond b (Some list) (maps.get w.groups other)) (unsigned_tied other id))
-    ∙ either (other == id)
-  where
-    either : (b : Bool) → unwrap_or (cond b (Some list) (maps.get w.groups other)) [] ≡ (if b then list else unwrap_or (maps.get w.groups other) [])
-    either true = refl
-    either false = refl
-
-at_id : (w w' : World) (id : ℕ) (list : List Group) → ReplacesGroups w id list w' → groups_of w' id ≡ list
-at_id w w' id list is = is id ∙ ap (λ (b : Bool). if b then list else groups_of w id) (eq-eqb id id refl)
-
-elsewhere : (w w' : World) (id : ℕ) (list : List Group) → ReplacesGroups w id list w' → (other : ℕ) → other ≢ id → groups_of w' other ≡ groups_of w other
-elsewhere w w' id list is other differ = is other ∙ ap (λ (b : Bool). if b then list else groups_of w other) (ne_eqb other id differ)
 
 -- ---- one group of the session
 

@@ -1,7 +1,7 @@
 -- The item of a file is its head, and each item of a head's key is that of a file.
 use Rattle.std.proofs.Common.{◌+◌, refl, inl, inr, arith}
 use Rattle.std.proofs.lemmas.Bool.{ne_eqb}
-use Rattle.asm_formats.specs.Items.{Item, file_item, chunk_item, disk_item, rebalance_item, pending_item, templates_item, node_item, settings_item, marks_item}
+use Rattle.asm_formats.specs.Items.{Item, file_item, chunk_item}
 use Rattle.asm_base.proofs.ItemTables.{AreEntries, IsEntry}
 use Rattle.item_table.proofs.Entries.{IsKnown, entries_by, entry_by}
 use Rattle.file_directory.specs.Files.{file_of_item, is_key_of_file, item_of_file_head}
@@ -9,13 +9,7 @@ use Rattle.file_directory.specs.Files.{file_of_item, is_key_of_file, item_of_fil
 each_item : (i : Item) → IsKnown is_key_of_file item_of_file_head file_of_item i
 each_item (file_item f h) = inl ((f, h), refl)
 each_item (chunk_item f c homes) = inr (ne_eqb (c + 1) 0 (λ same. omega (arith, same)), refl)
-each_item (disk_item d info) = inr (refl, refl)
-each_item (rebalance_item power) = inr (refl, refl)
-each_item (pending_item op) = inr (refl, refl)
-each_item (templates_item ts) = inr (refl, refl)
-each_item (node_item n node) = inr (refl, refl)
-each_item (settings_item s) = inr (refl, refl)
-each_item (marks_item f c marks) = inr (refl, refl)
+each_item _ = inr (refl, refl)
 
 pub is_file_entry : IsEntry item_of_file_head file_of_item
 is_file_entry = entry_by is_key_of_file item_of_file_head file_of_item each_item (λ x. refl)

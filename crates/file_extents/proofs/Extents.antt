@@ -1,12 +1,12 @@
 -- Extents that may be put behind those of a file, and files that have all of theirs.
-use Rattle.std.proofs.Common.{◌≡◌, ◌⊎◌, inl, inr, ℕ, zero, suc, ◌+◌, ◌*◌, ◌/◌, ◌^◌, ◌<◌, ◌≤◌, Bool, true, false, List, [], ◌∷◌, get_or, Option, Some, None, refl, sym, ap, subst, ◌∙◌, arith}
+use Rattle.std.proofs.Common.{◌≡◌, ◌⊎◌, inl, inr, ℕ, zero, suc, ◌+◌, ◌*◌, ◌/◌, ◌<◌, ◌≤◌, Bool, true, false, List, [], ◌∷◌, get_or, Option, Some, None, refl, sym, ap, subst, ◌∙◌, arith}
 use Rattle.std.specs.Bool.{OnTrue}
 use Rattle.std.specs.Prelude.{◌||◌, IsTrue, is_some, nat_lt, not, unwrap_or}
 use Rattle.std.specs.List.{list_all, prefix_len}
 use Rattle.std.proofs.Math.Nat.{eq-or-lt_of_le}
 use Rattle.std.proofs.lemmas.Bool.{and_parts, lt-ltb, true≢false}
 use Rattle.asm_formats.specs.Items.{FileHead, Homes, Pending}
-use Rattle.asm_formats.specs.Status.{Status, ascends_from, is_entry, is_status}
+use Rattle.asm_formats.specs.Status.{ascends_from}
 use Rattle.asm_placement.specs.DiskSets.{numbers}
 use Rattle.asm_placement.specs.Naming.{is_pending}
 use Rattle.asm_placement.specs.Placed.{placed_extents}
@@ -20,26 +20,14 @@ use Rattle.group_pieces.proofs.catalog.NumberedEntries.{passes_where}
 use Rattle.catalog_tables.specs.Rules.{are_marks_of, are_on_disks, are_within, are_within_head, first_wrong, has_copies, is_owned}
 use Rattle.catalog_tables.specs.Tables.{Catalogued, Tables}
 use Rattle.group_pieces.specs.group_engine.Mounts.{IsWhole, MountedGroup}
+use Rattle.group_pieces.proofs.group_engine.Records.{record_parts}
 use Rattle.file_extents.specs.Appending.{AreMarks, HasAllExtents, MayStand, are_copies, has_owner}
 use Rattle.file_extents.specs.declared.appending.Part.{Part}
 
 -- ---- the entries of a status record
 
-ascend_in : (r : Status) → is_status r ≡ true → ascends_from 0 (numbers r.entries) ≡ true
-unfolding is_status
-ascend_in r h =
-    let a = (and_parts (nat_lt r.id (2 ^ 64)) _ h).1 in
-    let b = (and_parts (nat_lt r.epoch (2 ^ 64)) _ a).1 in
-    let c = (and_parts (nat_lt r.turn (2 ^ 64)) _ b).1 in
-    let d = (and_parts (nat_lt r.births (2 ^ 64)) _ c).1 in
-    let e = (and_parts (nat_lt r.holders (2 ^ 64)) _ d).1 in
-    let f = (and_parts (nat_lt r.next_holders (2 ^ 64)) _ e).1 in
-    let g = (and_parts (nat_lt r.directories (2 ^ 64)) _ f).1 in
-    let i = (and_parts (list_all is_entry r.entries) _ g).1 in
-    (and_parts (ascends_from 0 (numbers r.entries)) _ i).0
-
 pub entries_ascend : (m : MountedGroup) → IsWhole m → IsTrue (ascends_from 0 (numbers m.register.value.entries))
-entries_ascend m whole = ascend_in m.register.value whole.status
+entries_ascend m whole = (record_parts m.register.value whole.status).order
 
 -- ---- how many extents a chunk has
 

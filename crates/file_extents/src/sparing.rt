@@ -77,7 +77,7 @@ enum Took {
     All,
     /// Its disk failed.
     Failed,
-    /// Its home isn't on units of an attached disk.
+    /// Its units don't lie on an attached disk behind the reserved ones, or the piece isn't whole sectors of them.
     Nowhere,
 }
 

@@ -18,7 +18,7 @@ use Rattle.flight_laws.specs.Agreeing.{AgreesWhole}
 use Rattle.flight_laws.specs.Leading.{ClearingLeadsOn, HeldLeadsOn, MarksLeadOn, MoveLeadsOn, RecopyLeadsOn}
 use Rattle.flight_laws.proofs.Agreeing.{agreed_copies_hold, cleared_copies_hold, none_cleared}
 use Rattle.flight_laws.proofs.Lookups.{copy_low}
-use Rattle.flight_laws.proofs.Standing.{none_irregular, none_unknown}
+use Rattle.group_engine.proofs.Described.{none_irregular, none_unknown}
 
 pub held_leads_on : (s : BayState) → HeldLeadsOn s
 held_leads_on = λ s n m put gone g kept u mounts is holds turns.

@@ -1,6 +1,5 @@
 pub mod Lookups
 pub mod Agreeing
-pub mod Standing
 pub mod Leading
 pub mod Elsewhere
 pub mod Spare

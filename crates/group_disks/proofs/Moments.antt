@@ -17,25 +17,12 @@ use Rattle.asm_formats.specs.Among.{IsAmong}
 use Rattle.asm_images.proofs.Bridges.{same_is_same, same_disk}
 use Rattle.group_disks.specs.Creating.{HasMember, CreatesGroupOn, HasNoOpenHeader, MayCreate, Founds, HasCreated, made_group}
 use Rattle.asm_images.specs.Kept.{header_in}
+use Rattle.change_directory.proofs.Runs.{widened_from}
 use Rattle.group_disks.specs.Found.{counts_of, ToldByCounts, AreAllRead, IsAboveAll}
 use Rattle.group_disks.specs.Planned.{Plan, IsGroupPlan, kept_of_plan}
 use Rattle.group_disks.specs.Stages.{MayForm, HasFormed}
 use Rattle.group_disks.proofs.Forming.{forming_creates, formed_is_held}
 use Rattle.group_disks.proofs.Outsiders.{creates_none}
-
--- a run with a larger step from such images as there may be
-widened_from : {slots : ℕ → Type 0} {step whole : Image → Image → Type 0} {a b : BayState} (P : Image → Type 0) → IsSound a → ((image : Image) → a.leaves a.calls image → P image)
-    → ((x y : Image) → P x → step x y → whole x y) → Runs slots step a b → Runs slots whole a b
-widened_from {slots} {step} {whole} {a} {b} P sound all within run = record {
-  later = run.later;
-  faults = run.faults;
-  other_faults = run.other_faults;
-  other_written = run.other_written;
-  tells = run.tells;
-  held = λ image holds. let from = run.held image holds in (from.0, from.1, within from.0 image (all from.0 (sound.held from.0 from.1)) from.2);
-  ended = run.ended;
-  moments = λ m image low high left. let from = run.moments m image low high left in (from.0, from.1, within from.0 image (all from.0 from.1) from.2);
-}
 
 pub forms_creates : {m t : BayState} (slot size : ℕ) (plan : Plan) → IsSound m → m.attached slot ≡ Some size → IsGroupPlan plan → plan.units * 1048576 ≤ size
     → Runs (IsSlot slot) (MayForm slot plan) m t → Runs (IsSlot slot) (CreatesGroupOn slot plan.id (made_group plan.name)) m t

@@ -37,6 +37,7 @@ use Rattle.status_register.specs.RegisterCalls.{HasWritten}
 use Rattle.group_engine.specs.Mounts.{MountedGroup, IsMounted, IsOwn, IsReady, IsWhole, Takes, slot_at}
 use Rattle.group_engine.specs.Own.{IsSameGroup, KeepsGroup, OnOwnDisks}
 use Rattle.group_engine.specs.declared.attached.Attached.{Attached}
+use Rattle.group_engine.specs.declared.flight.Flight.{Flight}
 use Rattle.group_engine.specs.declared.access.Access.{Access}
 use Rattle.group_engine.specs.declared.access.Access.TheVariants.{Mounted, Dismounted, Closed}
 use Rattle.group_engine.proofs.Sets.{element_small}
@@ -112,30 +113,35 @@ same_itself m = record { name = refl; id = refl; shape = refl; members = refl; d
 pub nothing_kept : (m : MountedGroup) (s : BayState) → (IsMounted m → IsWhole m) → (IsMounted m → IsReady m s) → KeepsGroup m m s s
 nothing_kept m s whole ready = record { same = same_itself m; attached = record { same = λ k. refl }; runs = nothing_own m s; whole = whole; ready = ready }
 
+-- with another move on its way, or none, the group is whole and ready as it was
+pub whole_in_flight : (m : MountedGroup) (f : Option Flight) → IsWhole m → IsWhole (record m { flight = f })
+whole_in_flight m f w = record {
+  are_tables = w.are_tables;
+  tables = w.tables;
+  shape = w.shape;
+  units = w.units;
+  status = w.status;
+  alive = w.alive;
+  written = w.written;
+  group = w.group;
+  reached = w.reached;
+  numbers = w.numbers;
+  births = w.births;
+  copies = w.copies;
+  disks = w.disks;
+}
+
+pub ready_in_flight : (m : MountedGroup) (f : Option Flight) (s : BayState) → IsReady m s → IsReady (record m { flight = f }) s
+ready_in_flight m f s r = record { store = r.store; register = r.register; sizes = r.sizes }
+
 -- the move that is on its way was given up
 pub gives_up : (m : MountedGroup) (s : BayState) → Takes m s → KeepsGroup m (record m { flight = None }) s s
 gives_up m s takes = record {
   same = record { name = refl; id = refl; shape = refl; members = refl; disks = refl; flight = inr refl };
   attached = record { same = λ k. refl };
   runs = nothing_own m s;
-  whole = λ mounted.
-      let w = (takes mounted).0 in
-      record {
-        are_tables = w.are_tables;
-        tables = w.tables;
-        shape = w.shape;
-        units = w.units;
-        status = w.status;
-        alive = w.alive;
-        written = w.written;
-        group = w.group;
-        reached = w.reached;
-        numbers = w.numbers;
-        births = w.births;
-        copies = w.copies;
-        disks = w.disks;
-      };
-  ready = λ mounted. let r = (takes mounted).1 in record { store = r.store; register = r.register; sizes = r.sizes };
+  whole = λ mounted. whole_in_flight m None (takes mounted).0;
+  ready = λ mounted. ready_in_flight m None s (takes mounted).1;
 }
 
 -- two calls, one after the other

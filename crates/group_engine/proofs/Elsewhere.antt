@@ -1,23 +1,18 @@
 -- A mounted group stays mounted over the calls of others.
-use Rattle.std.proofs.Common.{◌≡◌, ⊎_elim, ℕ, zero, suc, ◌+◌, ◌*◌, ◌≤◌, List, [], ◌∷◌, map, get_or, slice_index, inl, inr, refl, sym, ap, subst, ◌∙◌, Option, Some, None, arith, ◌==◌}
-use Rattle.std.specs.List.{range_with_len}
+use Rattle.std.proofs.Common.{◌≡◌, ⊎_elim, ℕ, ◌*◌, ◌≤◌, List, [], ◌∷◌, get_or, inl, inr, refl, sym, ap, subst, ◌∙◌, Option, Some, None, arith}
 use Rattle.std.specs.Option.{option_map}
 use Rattle.std.specs.Prelude.{IsSome, unwrap_or}
-use Rattle.std.proofs.lemmas.Bool.{cond-false, ne_eqb, true≢false}
+use Rattle.std.proofs.lemmas.Bool.{true≢false}
 use Rattle.bay.specs.Image as bay
 use Rattle.bay.specs.State.{BayState, IsSound, KeepsAttached}
 use Rattle.bay.specs.Moments.{Runs}
 use Rattle.asm_group.specs.Group.{Group}
-use Rattle.asm_formats.specs.Header.{Header}
-use Rattle.asm_formats.specs.Metadata.{Metadata, metadata, header_of}
+use Rattle.asm_formats.specs.Metadata.{header_of}
 use Rattle.asm_formats.specs.Among.{IsAmong}
-use Rattle.asm_images.specs.Bridge.{disk_bytes, disks_in}
 use Rattle.asm_images.specs.Directories.{directories}
-use Rattle.asm_images.specs.Kept.{Kept, header_in, IsHeld}
-use Rattle.asm_images.specs.Members.{Member, with_member, members_from, members, all_members, within, statuses}
-use Rattle.asm_images.specs.Register.{Fits, status}
-use Rattle.asm_images.specs.Sound.{SoundBy}
-use Rattle.asm_images.proofs.Bridges.{disks_are_listed, same_disk}
+use Rattle.asm_images.specs.Kept.{Kept, IsHeld}
+use Rattle.asm_images.specs.Members.{Member, members, within}
+use Rattle.asm_images.specs.Register.{status}
 use Rattle.asm_formats.specs.Bytes.{block_size}
 use Rattle.asm_formats.specs.Regions.{least_size, region_end}
 use Rattle.rebalance.proofs.catalog_tables.TableItems.{from_map}
@@ -34,71 +29,17 @@ use Rattle.status_register.proofs.Elsewhere as register_proofs
 use Rattle.group_engine.specs.Frames.{KeepsOwn, SameDisk, SparesDisks, SparesGroup, StaysAttached}
 use Rattle.group_engine.specs.Mounts.{MountedGroup, IsOwn, IsReady, IsWhole, Mounts, slot_at}
 use Rattle.group_engine.specs.declared.attached.Attached.{Attached}
-use Rattle.group_engine.proofs.Covering.{cover_over}
-use Rattle.group_engine.proofs.Slots.{member_seen}
-
--- a disk of another group, or of none, is no member
-no_member : (id slot : ℕ) (d : Metadata) (others : List Member) → ((h : Header) → d.header ≡ Some h → h.id ≡ id → ⊥) → with_member id slot d d.header others ≡ others
-no_member id slot d others none = go d.header refl
-  where
-    go : (o : Option Header) → d.header ≡ o → with_member id slot d o others ≡ others
-    go None is = refl
-    go (Some h) is = cond-false (h.id == id) (record { slot = slot; header = h; disk = d } ∷ others) others (ne_eqb h.id id (none h is))
-
-map_same : (ms : List Member) → map (λ (m : Member). m) ms ≡ ms
-map_same [] = refl
-map_same (m ∷ ms) = ap (λ (l : List Member). m ∷ l) (map_same ms)
-
-same_bytes : (x y : bay.Image) (slot : ℕ) → SameDisk slot x y → disk_bytes y slot ≡ disk_bytes x slot
-same_bytes x y slot same = same_disk x y slot same.size same.byte
-
--- the disk of a member stays
-member_spared : (id : ℕ) (x y : bay.Image) → SparesGroup id x y → (slot : ℕ) (h : Header) → header_in x slot ≡ Some h → h.id ≡ id → SameDisk slot x y
-member_spared id x y spares slot h is group = ⊎_elim (λ same. same) (λ none. absurd (none.0 h is group)) (spares slot)
+use Rattle.group_engine.proofs.Spared.{all_stay, member_spared, same_bytes, sound_stays}
 
 module _ (n id : ℕ) (groups : List Group) (kept : Kept) (x y : bay.Image) (spares : SparesGroup id x y) (is : IsHeld n id groups kept x) where
-  members_stay : (slot n : ℕ) → members_from id slot (map metadata (map (disk_bytes y) (range_with_len slot n))) ≡ members_from id slot (map metadata (map (disk_bytes x) (range_with_len slot n)))
-  unfolding metadata
-  members_stay slot zero = refl
-  members_stay slot (suc n) =
-      let next : suc slot ≡ slot + 1 = omega arith in
-      let rest : members_from id (suc slot) (map metadata (map (disk_bytes y) (range_with_len (slot + 1) n))) ≡ members_from id (suc slot) (map metadata (map (disk_bytes x) (range_with_len (slot + 1) n))) =
-      subst (λ (k : ℕ). members_from id k (map metadata (map (disk_bytes y) (range_with_len (slot + 1) n))) ≡ members_from id k (map metadata (map (disk_bytes x) (range_with_len (slot + 1) n)))) (sym next) (members_stay (slot + 1) n) in
-      ⊎_elim
-      (λ (same : SameDisk slot x y). λ i. with_member id slot (metadata (same_bytes x y slot same i)) (metadata (same_bytes x y slot same i)).header (rest i))
-      (λ none.
-      no_member id slot (metadata (disk_bytes y slot)) _ (λ h there named. none.1 h there named) ∙ rest
-      ∙ sym (no_member id slot (metadata (disk_bytes x slot)) _ (λ h there named. none.0 h there named)))
-      (spares slot)
-
-  all_stay : (b : ℕ) → all_members id (disks_in b y) ≡ all_members id (disks_in b x)
-  unfolding members disks_in
-  all_stay b = members_stay 0 b
-
-  sound_stays : (b : ℕ) → SoundBy id (disks_in b y) groups (Some kept.completed) kept.begun
-  sound_stays b =
-      let ms = all_members id (disks_in b x) in
-      let before = is.sound b in
-      record {
-        fits = subst (λ (l : List Member). Fits id l (Some kept.completed) kept.begun) (sym (all_stay b)) before.fits;
-        covered = λ r counts alive. cover_over id (disks_in b x) (disks_in b y) groups r (λ m. m) (record { slot = λ m. refl; header = λ m. refl }) (all_stay b ∙ sym (map_same ms)) (λ m h. refl) (λ g m h d. d)
-            (λ items f i copy inner h m fit among home.
-            let seen = member_seen id b x m among in
-            let same = same_bytes x y m.slot (member_spared id x y spares m.slot m.header seen.header seen.group) in
-            let here : get_or (disks_in b y) m.slot [] ≡ get_or (disks_in b x) m.slot [] = (disks_are_listed b m.slot y seen.slot).1 ∙ same ∙ sym (disks_are_listed b m.slot x seen.slot).1 in
-            ap (λ (l : List ℕ). slice_index l (h.unit * m.header.shape.au + inner)) here)
-            (λ s e h k. (before.covered r counts alive).entry_births s e (subst (λ (l : List Member). IsAmong (statuses id l) s) (map_same ms) h) k)
-            (before.covered r counts alive);
-      }
-
   pub spared : IsHeld n id groups kept y
   spared = record {
-    sound = sound_stays;
+    sound = λ b. sound_stays id x y spares groups (Some kept.completed) kept.begun b (is.sound b);
     standing = let s = is.standing in record {
       record_ = s.record_;
       content = s.content;
-      status_is = ap (λ (ms : List Member). status id (within kept.slots ms)) (all_stay n) ∙ s.status_is;
-      directories_is = ap (λ (ms : List Member). directories s.record_ (within kept.slots ms)) (all_stay n) ∙ s.directories_is;
+      status_is = ap (λ (ms : List Member). status id (within kept.slots ms)) (all_stay id x y spares n) ∙ s.status_is;
+      directories_is = ap (λ (ms : List Member). directories s.record_ (within kept.slots ms)) (all_stay id x y spares n) ∙ s.directories_is;
     };
     there = λ s own. let h = is.there s own in (h.0, ap header_of (same_bytes x y s (member_spared id x y spares s h.0 h.1 h.2)) ∙ h.1, h.2);
   }

@@ -13,10 +13,12 @@ pub mod Records
 pub mod Mounting
 pub mod Commits
 pub mod Unchanged
+pub mod Spared
 pub mod Elsewhere
 pub mod Beside
 pub mod Statuses
 pub mod Bytes
+pub mod Described
 pub mod Surplus
 pub mod Causes
 pub mod KeptRecords

@@ -4,3 +4,4 @@ pub use Rattle.group_engine.proofs.Bytes
 pub use Rattle.group_engine.proofs.Covering
 pub use Rattle.group_engine.proofs.Elsewhere
 pub use Rattle.group_engine.proofs.Slots
+pub use Rattle.group_engine.proofs.Spared

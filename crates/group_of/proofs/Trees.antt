@@ -11,7 +11,7 @@ use Rattle.asm_group.specs.declared.NodeKind.{NodeKind}
 use Rattle.asm_group.specs.declared.NodeKind.TheVariants.{Directory, System, Alias}
 use Rattle.asm_group.specs.Names.{Bytes, Path, folded}
 use Rattle.asm_formats.specs.Among.{IsAmong}
-use Rattle.asm_formats.specs.Items.{FileHead, Item, Node, item_key, file_item, chunk_item, disk_item, rebalance_item, pending_item, templates_item, node_item, settings_item, marks_item}
+use Rattle.asm_formats.specs.Items.{FileHead, Item, Node, item_key, node_item}
 use Rattle.asm_formats.specs.Nodes.{entry_of_node}
 use Rattle.asm_placement.specs.Naming.{is_kind_directory, is_named_as, names_back}
 use Rattle.asm_placement.specs.Tables.{first_said, head_of, if_is}
@@ -58,14 +58,7 @@ told parent name (node_item n node) z e =
     let q = and_parts (eqb node.parent parent) (bytes_eq (folded node.name) name) p.0 in
     subst (λ (y : ℕ × Node). Told parent name (node_item n node) y) p.1
     (record { is = refl; parent_is = eqb-true node.parent parent q.0; name_is = (bytes_eq-Decides (folded node.name) name).0 q.1 })
-told parent name (file_item f h) z e = absurd cc
-told parent name (chunk_item f c homes) z e = absurd cc
-told parent name (disk_item d i) z e = absurd cc
-told parent name (rebalance_item p) z e = absurd cc
-told parent name (pending_item p) z e = absurd cc
-told parent name (templates_item ts) z e = absurd cc
-told parent name (settings_item s) z e = absurd cc
-told parent name (marks_item f c m) z e = absurd cc
+told parent name _ z e = absurd cc
 
 module _ (t : Tables) (items : List Item) (a : AreTables t) (is : AreItemsOf t items) where
   node_there : (n : ℕ) (node : Node) → node_at t.nodes n ≡ Some node → IsAmong items (node_item n node)

@@ -42,36 +42,6 @@ use Rattle.group_pieces.proofs.Rewritten.{bytes_mount}
 use Rattle.group_pieces.proofs.Targeting.{says_extent}
 use Rattle.group_pieces.proofs.Written.{writes_more}
 
--- a group with another move on its way is mounted as it was
-pub flight_mounts : (n : ℕ) (m : MountedGroup) (s : BayState) (g : Group) (kept : Kept) (f : Option Flight) → Mounts n m s g kept → Mounts n (record m { flight = f }) s g kept
-flight_mounts n m s g kept f mounts =
-    let w = mounts.whole in
-    let r = mounts.ready in
-    record {
-      whole = record {
-        are_tables = w.are_tables;
-        tables = w.tables;
-        shape = w.shape;
-        units = w.units;
-        status = w.status;
-        alive = w.alive;
-        written = w.written;
-        group = w.group;
-        reached = w.reached;
-        numbers = w.numbers;
-        births = w.births;
-        copies = w.copies;
-        disks = w.disks;
-      };
-      ready = record { store = r.store; register = r.register; sizes = r.sizes };
-      represents = record { name = mounts.represents.name; shape = mounts.represents.shape; describes = mounts.represents.describes };
-      own = mounts.own;
-      completed = mounts.completed;
-      begun = mounts.begun;
-      register = mounts.register;
-      now = mounts.now;
-    }
-
 -- where no byte changes the disks are the same
 nothing_changed : (region : ℕ → ℕ → Type 0) (y z : bay.Image) → ((slot k : ℕ) → region slot k → ⊥) → ChangesOnly region y z → Same y z
 nothing_changed region y z none change = record { size = change.size; byte = λ slot k. change.byte slot k (none slot k) }

@@ -14,6 +14,7 @@ use Rattle.record_laws.specs.group_engine.Commits.{StandsIn}
 use Rattle.record_laws.specs.group_engine.Making.{IsShut}
 use Rattle.record_laws.specs.group_engine.Mounts.{IsMounted, IsReady, IsWhole, MountedGroup}
 use Rattle.record_laws.proofs.group_engine.Standings.{stands_at_rest}
+use Rattle.record_laws.proofs.Attaching.{other_flights_mount}
 use Rattle.group_pieces.specs.declared.writing.WriteError.{WriteError}
 use Rattle.group_pieces.specs.declared.writing.WriteError.TheVariants as error
 use Rattle.group_pieces.specs.Bytes.{WritesBytes}
@@ -23,7 +24,7 @@ use Rattle.group_pieces.specs.Held.{FlightIsSpare, IsWritten, PieceHeld, PieceSt
 use Rattle.group_pieces.specs.Usable.{FitsExtent, places_at}
 use Rattle.group_pieces.specs.Written.{MovedBytes}
 use Rattle.group_pieces.proofs.Behind.{piece_unwritten}
-use Rattle.group_pieces.proofs.Flying.{flight_mounts, flying_moments, flying_mounts, has_still}
+use Rattle.group_pieces.proofs.Flying.{flying_moments, flying_mounts, has_still}
 use Rattle.group_pieces.proofs.Holding.{held_failing}
 use Rattle.group_pieces.proofs.Steps.{mounted_stays, shut_stays}
 
@@ -66,7 +67,7 @@ module _ (m : MountedGroup) (flown : Option Flight) (s t u v : BayState) (x : Ex
   is_written n g kept is =
       let there = writes.mounted n g kept is.mounts in
       record {
-        mounts = flight_mounts n m u (piece_freed x inner (length bytes) g) kept flown (flying_mounts n m t u (piece_freed x inner (length bytes) g) kept there x inner (length bytes) piece is.spare flies);
+        mounts = other_flights_mount u n m (piece_freed x inner (length bytes) g) kept flown (flying_mounts n m t u (piece_freed x inner (length bytes) g) kept there x inner (length bytes) piece is.spare flies);
         piece = piece;
         has = has_still m t there.whole there.ready x inner (length bytes) piece is.spare bytes failed u refl has flies;
         serving = serving;

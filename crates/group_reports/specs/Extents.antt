@@ -1,5 +1,5 @@
 -- The extents of a group's files, by its tables.
-use Rattle.std.specs.Prelude.{ℕ, suc, ◌*◌, ◌^◌, Bool, false, ◌&&◌, ◌||◌, ◌==◌, not, nat_lt, List, [], ◌∷◌, length, flat_map, find, sum_by, count_by, if◌then◌else◌, Option, Some, None}
+use Rattle.std.specs.Prelude.{ℕ, suc, ◌*◌, ◌^◌, Bool, ◌&&◌, ◌||◌, ◌==◌, not, nat_lt, List, [], ◌∷◌, length, flat_map, find, sum_by, count_by, if◌then◌else◌, Option, Some, None}
 use Rattle.std.specs.Option.{is_some, option_map}
 use Rattle.asm_formats.specs.Status.{Entry}
 use Rattle.asm_formats.specs.Items.{FileHead, Home, Homes, Item, chunk_len}
@@ -8,6 +8,7 @@ use Rattle.asm_placement.specs.Placed.{Placed, placed}
 use Rattle.asm_placement.specs.Copies.{home}
 use Rattle.catalog_laws.specs.extent_map.Extents.{Chunked, has_home}
 use Rattle.file_directory.specs.Files.{head_at}
+use Rattle.catalog_laws.specs.catalog_tables.MarkedExtents.{is_home_on_disk}
 use Rattle.catalog_laws.specs.catalog_tables.Placing.{homes_of}
 use Rattle.catalog_laws.specs.catalog_tables.Rules.{marks_of}
 use Rattle.catalog_laws.specs.catalog_tables.Tables.{Catalogued}
@@ -62,14 +63,9 @@ checked_of es xs = record { extents = length xs; not_full = count_by (lacks es) 
 
 -- ---- what is lost with a disk
 
--- the home is on the disk
-abbrev pub stands_on_disk : ℕ → Option Home → Bool
-stands_on_disk d None = false
-stands_on_disk d (Some h) = h.disk == d
-
 -- copy k is current, and not on the disk
 abbrev pub is_kept_elsewhere : List Entry → ℕ → Extent → ℕ → Bool
-is_kept_elsewhere es d x k = is_current_at es x k && not (stands_on_disk d (home (copy_of x k)))
+is_kept_elsewhere es d x k = is_current_at es x k && not (is_home_on_disk d (home (copy_of x k)))
 
 -- some copy of the extent passes
 abbrev pub has_copy : (ℕ → Bool) → Extent → Bool

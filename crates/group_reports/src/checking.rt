@@ -5,7 +5,8 @@ ghost use Rattle.std.specs.List.{find};
 ghost use Rattle.extent_copies.specs.Extents.{copy_of};
 ghost use Rattle.extent_copies.specs.Usable.{first_passing, is_current_at};
 ghost use Rattle.asm_placement.specs.Copies.{home};
-ghost use Rattle.group_reports.specs.Extents.{all_extents, checked_of, chunk_extents, extent_there, extents_from, first_lost, has_copy, is_kept_elsewhere, is_only_on, stands_on_disk, with_extent_if_any};
+ghost use Rattle.catalog_laws.specs.catalog_tables.MarkedExtents.{is_home_on_disk};
+ghost use Rattle.group_reports.specs.Extents.{all_extents, checked_of, chunk_extents, extent_there, extents_from, first_lost, has_copy, is_kept_elsewhere, is_only_on, with_extent_if_any};
 
 use crate::extents::{extent_there, most_chunks};
 use asm_base::{Home, Homes};
@@ -261,7 +262,7 @@ fn is_copy_elsewhere(disks: &[PstEntry], disk: u8, extent: &Extent, copy: u8) ->
 }
 
 fn lies_on(disk: u8, home: Option<Home>) -> bool
-    ensures { result ≡ stands_on_disk disk home }
+    ensures { result ≡ is_home_on_disk disk home }
 {
     match home {
         None => false,

@@ -1,12 +1,10 @@
 -- What an edit of a mounted group was, as the world's.
-use Rattle.std.proofs.Common.{◌≡◌, ◌≢◌, ⊎_elim, inl, inr, ℕ, ◌≤◌, ◌==◌, Bool, true, false, cond, List, [], ◌∷◌, length, Option, Some, None, Result, Ok, Err, refl, sym, ◌∙◌, ap, subst, arith, if◌then◌else◌}
+use Rattle.std.proofs.Common.{◌≡◌, ◌≢◌, ⊎_elim, inl, inr, ℕ, ◌≤◌, Bool, true, false, List, [], ◌∷◌, length, Option, Some, None, Result, Ok, Err, refl, sym, ◌∙◌, ap, subst, arith}
 use Rattle.std.specs.Prelude.{IfErr, OnOk, unwrap_or}
 use Rattle.std.specs.FinMap as maps
 use Rattle.std.specs.Str.{bytes_eq}
 use Rattle.std.specs.Cmp.Lexicographic.{bytes_decides}
-use Rattle.std.specs.Cmp.{unsigned_tied}
-use Rattle.std.proofs.lemmas.Bool.{cases_eq, eq-eqb, false≢true, ne_eqb, true≢false}
-use Rattle.std.proofs.lemmas.Cmp.{nat_cmp_total}
+use Rattle.std.proofs.lemmas.Bool.{cases_eq, false≢true, true≢false}
 use Rattle.std.proofs.lemmas.List.{length-map}
 use Rattle.bay.specs.Image.{Same}
 use Rattle.bay.specs.Moments.{Runs}
@@ -16,7 +14,7 @@ use Rattle.asm_base.specs.declared.refusal.DiskRef.TheVariants as disk
 use Rattle.asm_base.specs.declared.refusal.Refusal.{Refusal}
 use Rattle.asm_base.specs.declared.refusal.Refusal.TheVariants as cause
 use Rattle.asm_group.specs.Group.{Group}
-use Rattle.asm_group.specs.Names.{Bytes, ByNumber, is_same_name}
+use Rattle.asm_group.specs.Names.{Bytes, is_same_name}
 use Rattle.asm_group.specs.Refusal as r
 use Rattle.asm_formats.specs.Among.{IsAmong}
 use Rattle.asm_world.specs.Below.{GroupBelow}
@@ -70,6 +68,7 @@ use Rattle.name_commands.proofs.EditPlans.{IsRefusedBy, as_is, planned, planned_
 use Rattle.session.proofs.EditedEntries.{one_named, paired_of, paired_torn, paired_with, same_group, same_state, with_length}
 use Rattle.session.proofs.Knowing.{cons_same, none_told, paired_among}
 use Rattle.session.proofs.Outcomes.{none_read, served, unread}
+use Rattle.session.proofs.ReplacedLists.{at_id, elsewhere, listed}
 use Rattle.name_commands.proofs.RefusedEdits.{edits, no_counts, short, unmet}
 
 -- ---- the group of the name
@@ -90,23 +89,6 @@ reply_of (Err refusal) = Refused [] (said (λ _. []) refusal)
 get_only : (o : Option (List Group)) (g : Group) → unwrap_or o [] ≡ g ∷ [] → o ≡ Some (g ∷ [])
 get_only None g is = absurd cc
 get_only (Some list) g is = ap (λ (l : List Group). Some l) is
-
--- the lists of a world in which one id has another
-listed : (w w' : World) (id : ℕ) (list : List Group) → w'.groups ≡ maps.insert w.groups id list → ReplacesGroups w id list w'
-listed w w' id list is other =
-    ap (λ (m : ByNumber (List Group)). unwrap_or (maps.get m other) []) is
-    ∙ ap (λ (o : Option (List Group)). unwrap_or o []) (maps.get-insert nat_cmp_total w.groups id list other ∙ ap (λ (b : Bool). cond b (Some list) (maps.get w.groups other)) (unsigned_tied other id))
-    ∙ either (other == id)
-  where
-    either : (b : Bool) → unwrap_or (cond b (Some list) (maps.get w.groups other)) [] ≡ (if b then list else unwrap_or (maps.get w.groups other) [])
-    either true = refl
-    either false = refl
-
-at_id : (w w' : World) (id : ℕ) (list : List Group) → ReplacesGroups w id list w' → groups_of w' id ≡ list
-at_id w w' id list is = is id ∙ ap (λ (b : Bool). if b then list else groups_of w id) (eq-eqb id id refl)
-
-elsewhere : (w w' : World) (id : ℕ) (list : List Group) → ReplacesGroups w id list w' → (other : ℕ) → other ≢ id → groups_of w' other ≡ groups_of w other
-elsewhere w w' id list is other differ = is other ∙ ap (λ (b : Bool). if b then list else groups_of w other) (ne_eqb other id differ)
 
 module _ (paths : List Bytes) (text name : Bytes) (edit : GroupEdit) (allowed : is_group_edit edit ≡ true) (w : World) (below : ℕ → GroupBelow) (asks : AsksForEdit w.place (meaning text) name edit)
     (was now : Roster) (same_given : now.given ≡ was.given) (entries' : List SessionEntry) (s t : BayState) (sound : IsSound s) (later : IsSound t)

@@ -49,7 +49,7 @@ shown_size Absent size passes = absurd (false≢true passes)
 shown_size (Unread n) size passes = absurd (false≢true passes)
 shown_size (Read n header) size passes = (header, ap (λ (k : ℕ). Read k header) (eqb-true n size passes))
 
-shown_in : (looked : List Looked) (slot size : ℕ) → shows_size (slice_get looked slot) size ≡ true → (header : Option Header) × (slot < length looked) × (get_or looked slot Absent ≡ Read size header)
+pub shown_in : (looked : List Looked) (slot size : ℕ) → shows_size (slice_get looked slot) size ≡ true → (header : Option Header) × (slot < length looked) × (get_or looked slot Absent ≡ Read size header)
 shown_in looked slot size passes = ⊎_elim
     (λ some.
     let there : get_or looked slot Absent ≡ some.0 = same_Some (get_or looked slot Absent) some.0 (sym (slice_get-get_or looked slot Absent some.1) ∙ some.2) in
@@ -85,7 +85,7 @@ apart_one h (x ∷ xs) passes k among =
     ))
     (λ later. apart_one h xs q.1 k later) among
 
-apart_is : (hs : List Headed) → are_disks_apart hs ≡ true → AreDisksApart hs
+pub apart_is : (hs : List Headed) → are_disks_apart hs ≡ true → AreDisksApart hs
 apart_is [] passes = tt
 apart_is (h ∷ hs) passes =
     let p = and_parts (is_apart h hs) _ passes in

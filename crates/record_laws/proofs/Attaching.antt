@@ -28,6 +28,7 @@ use Rattle.status_register.proofs.Meeting.{enough_there, found}
 use Rattle.group_engine.specs.Members.{with_attached_disk, without_attached_disk}
 use Rattle.group_engine.specs.Mounts.{AreOwn, IsReady, IsWhole, MountedGroup, Mounts}
 use Rattle.group_engine.specs.declared.attached.Attached.{Attached}
+use Rattle.group_engine.proofs.Causes.{ready_in_flight, whole_in_flight}
 use Rattle.group_engine.proofs.Members.{set_or_was}
 use Rattle.group_engine.proofs.Renewing.{among_some}
 use Rattle.group_engine.proofs.Slots.{member_there}
@@ -194,22 +195,8 @@ detached_adds_none m d slot has =
 
 pub other_flights_mount : (s : BayState) → OtherFlightsMount s
 other_flights_mount s n m g kept f mounts = record {
-  whole = let w = mounts.whole in record {
-    are_tables = w.are_tables;
-    tables = w.tables;
-    shape = w.shape;
-    units = w.units;
-    status = w.status;
-    alive = w.alive;
-    written = w.written;
-    group = w.group;
-    reached = w.reached;
-    numbers = w.numbers;
-    births = w.births;
-    copies = w.copies;
-    disks = w.disks;
-  };
-  ready = let r = mounts.ready in record { store = r.store; register = r.register; sizes = r.sizes };
+  whole = whole_in_flight m f mounts.whole;
+  ready = ready_in_flight m f s mounts.ready;
   represents = let r = mounts.represents in record { name = r.name; shape = r.shape; describes = r.describes };
   own = mounts.own;
   completed = mounts.completed;

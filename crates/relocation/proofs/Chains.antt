@@ -20,14 +20,14 @@ use Rattle.resync.specs.group_engine.Commits.{StatusCause}
 use Rattle.resync.specs.group_engine.Copying as engine
 use Rattle.resync.specs.group_engine.Members.{HasFailed, LetsGo, LettingCause}
 use Rattle.resync.specs.group_engine.Making.{IsShut}
-use Rattle.resync.specs.group_engine.Mounts.{IsMounted, IsOwn, IsReady, IsWhole, MountedGroup, Takes, slot_at}
+use Rattle.resync.specs.group_engine.Mounts.{IsMounted, IsOwn, IsWhole, MountedGroup, Takes, slot_at}
 use Rattle.resync.specs.group_engine.Own.{KeepsGroup}
 use Rattle.resync.specs.group_engine.Pending.{GoesOn}
 use Rattle.resync.specs.group_engine.declared.access.Access.{Access}
 use Rattle.resync.specs.group_engine.declared.access.Access.TheVariants as access
 use Rattle.resync.specs.group_engine.declared.attached.Attached.{Attached}
 use Rattle.resync.specs.group_engine.declared.flight.Flight.{Flight}
-use Rattle.resync.proofs.group_engine.Causes.{nothing_own}
+use Rattle.resync.proofs.group_engine.Causes.{nothing_own, ready_in_flight, whole_in_flight}
 use Rattle.resync.proofs.group_engine.Members.{cause_lets, keeps_lets, lets_join, letting_on}
 use Rattle.resync.specs.group_pieces.Faults.{RoseOnDisk}
 use Rattle.resync.proofs.file_extents.Chains.{kept}
@@ -55,24 +55,8 @@ other_flight m f s takes = record {
   own = λ slot of. of;
   attached = record { same = λ k. refl };
   runs = nothing_own m s;
-  whole = λ mounted.
-      let w = (takes mounted).0 in
-      record {
-        are_tables = w.are_tables;
-        tables = w.tables;
-        shape = w.shape;
-        units = w.units;
-        status = w.status;
-        alive = w.alive;
-        written = w.written;
-        group = w.group;
-        reached = w.reached;
-        numbers = w.numbers;
-        births = w.births;
-        copies = w.copies;
-        disks = w.disks;
-      };
-  ready = λ mounted. let r = (takes mounted).1 in record { store = r.store; register = r.register; sizes = r.sizes };
+  whole = λ mounted. whole_in_flight m f (takes mounted).0;
+  ready = λ mounted. ready_in_flight m f s (takes mounted).1;
 }
 
 module _ (m new : MountedGroup) (f : Option Flight) (is : new ≡ record m { flight = f }) where

@@ -4,6 +4,7 @@ pub mod Programs
 pub mod Reads
 pub mod Serves
 pub mod Stops
+pub mod asm_grammar
 pub mod group_disks
 pub mod group_engine
 pub mod group_mount

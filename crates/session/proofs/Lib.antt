@@ -16,6 +16,7 @@ pub mod Languages
 pub mod Outcomes
 pub mod Outs
 pub mod Ready
+pub mod ReplacedLists
 pub mod Slots
 pub mod Spellings
 pub mod Telling

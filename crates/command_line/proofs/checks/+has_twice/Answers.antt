@@ -1,14 +1,14 @@
 use Rattle.std.proofs.Common.{◌≡◌, ◌∙◌, Bool, ◌||◌, List, ◌∷◌, Bor, ap, sym}
 use Rattle.std.specs.List.{list_any}
 use Rattle.std.specs.Str.{bytes_eq}
-use Rattle.command_line.specs.Paths.{Text, has_twice, texts}
+use Rattle.command_line.specs.Paths.{WordBytes, has_twice, texts}
 use Rattle.command_line.proofs.Texts.{any_text}
 use Rattle.command_line.proofs.checks.+has_twice.Goals as goal
 
 -- the first path, by whether it is among the rest
-twice_by : (paths rest : List (Bor Text)) (first : Bor Text) (is : Bool) → paths ≡ first ∷ rest → is ≡ list_any (λ other. bytes_eq other.now first.now) rest
+twice_by : (paths rest : List (Bor WordBytes)) (first : Bor WordBytes) (is : Bool) → paths ≡ first ∷ rest → is ≡ list_any (λ other. bytes_eq other.now first.now) rest
     → has_twice (texts paths) ≡ (is || has_twice (texts rest))
-twice_by paths rest first is split any = ap (λ (xs : List (Bor Text)). has_twice (texts xs)) split
+twice_by paths rest first is split any = ap (λ (xs : List (Bor WordBytes)). has_twice (texts xs)) split
     ∙ ap (λ (b : Bool). b || has_twice (texts rest)) (sym (any ∙ any_text first.now rest))
 
 pub returns-then-contains : goal.returns-then-contains

@@ -1,4 +1,4 @@
--- What the tables of a described group are known to keep, by the group's items.
+-- What the items of a group say of its disks and homes, by its tables.
 use Rattle.std.proofs.Common.{◌≡◌, ℕ, suc, ◌+◌, ◌*◌, ◌/◌, ◌%◌, ◌<◌, Bool, true, List, [], ◌∷◌, length, get_or, Option, Some, None, refl, sym, ap, ◌∙◌, arith}
 use Rattle.std.specs.List.{list_all}
 use Rattle.std.specs.Option.{unwrap_or}
@@ -8,14 +8,14 @@ use Rattle.asm_formats.specs.Status as status
 use Rattle.asm_base.specs.Chunks.{Chunk, chunk_cmp}
 use Rattle.asm_placement.specs.Naming.{is_birth}
 use Rattle.asm_images.specs.Describing.{AreRegular, has_info_in_items}
-use Rattle.extent_map.specs.Extents.{Chunked, chunk_at}
-use Rattle.extent_map.proofs.Laws.{chunk_total, same_chunk}
-use Rattle.extent_map.proofs.Numbering.{size_of}
-use Rattle.catalog_tables.specs.Items.{AreItemsOf}
-use Rattle.catalog_tables.specs.Rules as rules
-use Rattle.catalog_tables.specs.Rules.{AreOnRegular, are_on_regular, first_unknown, homes_at, is_on_regular, is_regular_chunk}
-use Rattle.catalog_tables.specs.Tables.{AreTables, Tables}
-use Rattle.catalog_tables.proofs.EntryLaws.{holds_all, none_wrong}
+use Rattle.rebalance.specs.extent_map.Extents.{Chunked, chunk_at}
+use Rattle.rebalance.proofs.extent_map.Laws.{chunk_total, same_chunk}
+use Rattle.rebalance.proofs.extent_map.Numbering.{size_of}
+use Rattle.rebalance.specs.catalog_tables.Items.{AreItemsOf}
+use Rattle.rebalance.specs.catalog_tables.Rules as rules
+use Rattle.rebalance.specs.catalog_tables.Rules.{AreOnRegular, are_on_regular, first_unknown, homes_at, is_on_regular, is_regular_chunk}
+use Rattle.rebalance.specs.catalog_tables.Tables.{AreTables, Tables}
+use Rattle.rebalance.proofs.catalog_tables.EntryLaws.{holds_all, none_wrong}
 use Rattle.group_of.proofs.Extents.{home_by}
 use Rattle.group_of.proofs.Says.{infos_are}
 
