@@ -1,10 +1,9 @@
 -- The nodes of records that describe a group keep the rule of the tree.
-use Rattle.std.proofs.Common.{◌≡◌, ℕ, zero, suc, Bool, eqb, List, [], ◌∷◌, length, map, Option, Some, None, refl, sym, ap, subst, ◌∙◌}
+use Rattle.std.proofs.Common.{◌≡◌, ℕ, zero, suc, Bool, eqb, List, length, map, Option, Some, None, refl, sym, ap, subst, ◌∙◌}
 use Rattle.std.specs.Prelude.{◌||◌}
 use Rattle.std.specs.List.Sorted.{IsStrictlySortedBy}
-use Rattle.std.specs.Option.{option_or}
 use Rattle.std.specs.Ordering.{nat_cmp}
-use Rattle.std.proofs.lemmas.Bool.{eqb-true, eq-eqb}
+use Rattle.std.proofs.lemmas.Bool.{eq-eqb}
 use Rattle.std.proofs.lemmas.Cmp.{nat_cmp_total}
 use Rattle.asm_group.specs.declared.NodeKind.{NodeKind}
 use Rattle.asm_group.specs.declared.NodeKind.TheVariants.{Directory, System, Alias}
@@ -13,36 +12,19 @@ use Rattle.asm_formats.specs.Among.{IsAmong}
 use Rattle.asm_formats.specs.Items.{Item, Node, node_item}
 use Rattle.asm_formats.specs.Status.{Status}
 use Rattle.asm_placement.specs.Naming.{is_kind_directory}
-use Rattle.asm_placement.specs.Tables.{first_said, if_is}
 use Rattle.asm_images.specs.Describing.{DescribesGroup}
 use Rattle.asm_images.specs.Tables.{node_of}
 use Rattle.asm_images.specs.Tree as images
 use Rattle.asm_base.specs.Records.{DirectoryRecord, key_cmp, keys_of, of_kinds}
 use Rattle.asm_base.specs.Tables.{IsItemTable}
-use Rattle.asm_base.proofs.Exact.{some_is, test_some}
+use Rattle.asm_base.proofs.Exact.{some_is}
 use Rattle.alias_tree.specs.Nodes as nodes
 use Rattle.alias_tree.specs.Nodes.{Numbered, node_at}
 use Rattle.alias_tree.proofs.Keeping.{short_way}
 use Rattle.catalog_tables.specs.Items.{AreItemsIn}
 use Rattle.catalog_tables.proofs.TableItems.{among_found, found_is, numbers_exact}
+use Rattle.group_of.proofs.Says.{node_said, node_told, tells_node}
 use Rattle.fault_laws.proofs.Records.{back, into, said_by}
-
-abbrev tells_node : ℕ → Item → Option Node
-tells_node n (node_item m node) = if_is (eqb m n) node
-tells_node n _ = None
-
-node_said : (items : List Item) (n : ℕ) → node_of items n ≡ first_said (tells_node n) items
-unfolding node_of
-node_said [] n = refl
-node_said (node_item m node ∷ items) n = ap (option_or (if_is (eqb m n) node)) (node_said items n)
-node_said (i ∷ items) n = node_said items n
-
-told : (n : ℕ) (i : Item) (y : Node) → tells_node n i ≡ Some y → i ≡ node_item n y
-told n (node_item m x) y e =
-    let p = test_some (eqb m n) x y e in
-    let number = eqb-true m n p.0 in
-    λ j. node_item (number j) (p.1 j)
-told n _ y e = absurd cc
 
 same_directory : (k : NodeKind) → nodes.kind_is_directory k ≡ is_kind_directory k
 same_directory Directory = refl
@@ -60,7 +42,7 @@ module _ (content : List DirectoryRecord) (items : List Item) (sorted : IsStrict
 
     only : (j : Item) (z : Node) → IsAmong items j → tells_node n j ≡ Some z → node_at table n ≡ Some z
     only j z h e =
-        let b = back content items sorted are nodes.item_of_node nodes.is_key_of_node table same fits.1 (node_item n z) (subst (λ (i : Item). IsAmong items i) (told n j z e) h) refl in
+        let b = back content items sorted are nodes.item_of_node nodes.is_key_of_node table same fits.1 (node_item n z) (subst (λ (i : Item). IsAmong items i) (node_told n j z e) h) refl in
         let one : (n, z) ≡ b.0 = some_is (n, z) b.0 (ap nodes.node_of_item b.2) in
         among_found nat_cmp nat_cmp_total numbers_exact table (n, z) fits.0 (subst (λ (x : Numbered). IsAmong table x) (sym one) b.1)
 

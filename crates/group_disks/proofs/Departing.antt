@@ -1,8 +1,7 @@
 -- What a disk that changes leaves of the ids that its header doesn't name afterwards.
-use Rattle.std.proofs.Common.{◌≡◌, ◌≢◌, ⊎_elim, ℕ, zero, suc, ◌<◌, ◌≤◌, false, List, [], ◌∷◌, length, set, get_or, refl, sym, ap, subst, ◌∙◌, Option, None, Some, arith}
+use Rattle.std.proofs.Common.{◌≡◌, ◌≢◌, ⊎_elim, ℕ, ◌<◌, ◌≤◌, false, List, [], length, get_or, sym, ap, subst, ◌∙◌, Option, None, Some, arith}
 use Rattle.std.specs.Prelude.{nat_le, ◌&&◌}
 use Rattle.std.proofs.lemmas.Bool.{cases_lt, cond-false, and_right}
-use Rattle.std.proofs.lemmas.Option.{none-some}
 use Rattle.std.proofs.lemmas.List.{get_or-set_same, get_or-set_other, length-set, get_or-map, length-map}
 use Rattle.std.proofs.Math.Seq.{map-set_same}
 use Rattle.bay.specs.Image as bay
@@ -14,26 +13,20 @@ use Rattle.asm_formats.specs.Metadata.{Metadata, metadata, header_of}
 use Rattle.asm_formats.specs.Places.{SameElsewhere}
 use Rattle.asm_formats.specs.Status.{Status}
 use Rattle.asm_formats.specs.Among.{IsAmong}
-use Rattle.asm_images.specs.Members.{ImageBytes, Member, members, metadata_of, all_members, written, IsOutside}
+use Rattle.asm_images.specs.Members.{ImageBytes, Member, members, metadata_of, all_members, written}
 use Rattle.asm_images.specs.Bridge.{disk_bytes, disks_in, ChangesSlot}
 use Rattle.asm_images.specs.Sound.{SoundBy}
 use Rattle.asm_images.proofs.Members.{member_is, among_members}
-use Rattle.asm_images.proofs.Joining.{leave_keeps, outside_keeps}
 use Rattle.asm_images.proofs.Describing.{spare_keeps}
-use Rattle.asm_images.proofs.Outsiders.{other_header_is_elsewhere}
 use Rattle.asm_images.proofs.UserBytes.{metadata_write_keeps_copies}
 use Rattle.asm_images.proofs.Bridges.{disks_are_listed, slot_change, beyond_is_unseen}
+use Rattle.group_mount.proofs.disk_images.Departing.{departs as image_departs}
 use Rattle.group_disks.specs.Creating.{HasMember}
 
 -- a shut gate shows no header
 pub shut_header : (bytes : List ℕ) → is_open bytes header_gate ≡ false → header_of bytes ≡ None
 shut_header bytes shut =
     cond-false (nat_le least_size (length bytes) && is_open bytes header_gate) (decoded_header (block bytes 1)) None (and_right (nat_le least_size (length bytes)) (is_open bytes header_gate) shut)
-
-set_twice : {A : Type 0} (xs : List A) (i : ℕ) (y z : A) → set (set xs i y) i z ≡ set xs i z
-set_twice [] i y z = refl
-set_twice (x ∷ xs) zero y z = refl
-set_twice {A} (x ∷ xs) (suc i) y z = ap (λ (l : List A). x ∷ l) (set_twice xs i y z)
 
 -- the header names another id, or there is none
 abbrev pub NamesOther : ℕ → List ℕ → Type 0
@@ -45,42 +38,9 @@ module _ (id : ℕ) (old : ImageBytes) (groups : List Group) (slot : ℕ) (insid
   abbrev before : List ℕ
   before = get_or old slot []
 
-  -- with the gate of its header shut
-  abbrev shut : List ℕ
-  shut = set before 0 0
-
-  is_shut : (l : List ℕ) → is_open (set l 0 0) header_gate ≡ false
-  is_shut [] = refl
-  is_shut (b ∷ bs) = refl
-
-  only_gate : SameElsewhere before shut 0 1
-  only_gate = record {
-    size = length-set before 0 0;
-    before = λ k lt. absurd (omega arith);
-    behind = λ k le. get_or-set_other before 0 k 0 0 (λ e. omega (arith, e, le));
-  }
-
-  without_header : (metadata shut).header ≡ None
-  unfolding metadata
-  without_header = shut_header shut (is_shut before)
-
-  outside_then : IsOutside (all_members id (written old slot shut)) slot
-  outside_then m h at =
-      let is = member_is id (written old slot shut) m h in
-      let here : get_or (written old slot shut) m.slot [] ≡ shut = ap (λ (k : ℕ). get_or (written old slot shut) k []) at ∙ get_or-set_same old slot shut [] inside in
-      none-some m.header (sym (shut_header shut (is_shut before)) ∙ ap header_of (sym here) ∙ is.header)
-
   pub departs : (bytes : List ℕ) (completed : Option Status) (begun : List Status) → NamesOther id bytes → SoundBy id old groups completed begun → SoundBy id (written old slot bytes) groups completed begun
-  unfolding metadata
   departs bytes completed begun other sound =
-      let left : SoundBy id (written old slot shut) groups completed begun = leave_keeps id old groups completed begun sound slot shut (record {
-        inside = inside;
-        closed = without_header;
-        copies = metadata_write_keeps_copies id old groups completed begun sound slot shut 0 1 inside only_gate (λ m h at. omega arith);
-      }) in
-      let after : SoundBy id (written (written old slot shut) slot bytes) groups completed begun =
-      outside_keeps id (written old slot shut) groups completed begun left slot bytes (other_header_is_elsewhere id (written old slot shut) slot bytes outside_then other) in
-      subst (λ (image : ImageBytes). SoundBy id image groups completed begun) (set_twice old slot shut bytes) after
+      image_departs id old (record { slots = 0; id = id; groups = groups; completed = completed; begun = begun }) sound slot inside bytes other
 
   -- a member elsewhere was one before
   pub stays_member : (bytes : List ℕ) (m : Member) → m.slot ≢ slot → IsAmong (all_members id (written old slot bytes)) m → (n : Member) × IsAmong (all_members id old) n

@@ -27,3 +27,4 @@ pub mod Recovered
 pub mod LeftGroups
 pub mod catalog_tables
 pub mod directory_store
+pub mod disk_images

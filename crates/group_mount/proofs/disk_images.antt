@@ -1,0 +1,2 @@
+-- What crates above cite of the proofs of `disk_images`.
+pub use Rattle.disk_images.proofs.Departing
