@@ -21,7 +21,7 @@ pub struct Trace {
     is_complete: bool,
 }
 
-// A copy of bytes, empty where there is no memory.
+// A copy of bytes.
 fn copy_of(alloc: Global, bytes: &[u8]) -> Result<Vec<u8>, AllocError> {
     bytes.to_vec(alloc)
 }
