@@ -18,6 +18,7 @@ pub mod Prepares
 pub mod Taking
 pub mod Leaving
 pub mod MountCauses
+pub mod GroupCalls
 pub mod attribute_values
 pub mod catalog_tables
 pub mod disk_directory

@@ -1,19 +1,12 @@
 // A group is created on one disk.
-ghost use Rattle.std.specs.Prelude.{◌≡◌, ◌≤◌, ◌<◌, [], All, None, IsTrue, IsSome, is_ok, map, length, IfErr, IfOk, IfSome, OnOk, MatchOption};
+ghost use Rattle.std.specs.Prelude.{◌≡◌, ◌≤◌, ◌<◌, [], IsTrue, map, length, IfErr, IfOk};
 ghost use Rattle.asm_group.specs.Names.{is_name};
 ghost use Rattle.std.specs.String.{string_bytes};
-ghost use Rattle.bay.specs.Image.{Same};
-ghost use Rattle.bay.specs.Moments.{Runs};
-ghost use Rattle.bay.specs.Counts.{last_count};
 ghost use Rattle.asm_base.specs.Refusals.{said};
 ghost use Rattle.asm_group.specs.Refusal.{NoMemory};
 ghost use Rattle.asm_formats.specs.Regions.{most_units};
-ghost use Rattle.group_disks.specs.Found.{counts_of, AreIdsRead, IsAboveAll, RefusalCause, IsEarly};
-ghost use Rattle.group_disks.specs.Creating.{HasCreated, made_group};
-ghost use Rattle.group_disks.specs.FirstParts.{IsNewlyMounted, MountsNew};
 ghost use Rattle.group_disks.specs.Gives.{FormsGroup};
-ghost use Rattle.group_disks.specs.Holding.{SparesHeld};
-ghost use Rattle.group_engine.specs.Frames.{StaysAttached};
+ghost use Rattle.group_disks.specs.GroupCalls.{CreatesGroup};
 ghost use Rattle.group_disks.specs.Planned.{IsGroupPlan};
 ghost use Rattle.group_disks.specs.Prepares.{IsMadeReady, Prepares};
 ghost use Rattle.group_disks.specs.Ready.{AreBodies, HasRoom};
@@ -50,24 +43,8 @@ pub fn create_group<B: Bay>(
     requires few { length paths.now ≤ 512 }
     requires name { IsTrue (is_name name.now) }
     requires none { ids.old.items ≡ [] }
-    ensures ids { AreIdsRead ids.new.items (counts_of (B.state bay.old)) (counts_of (B.state bay.new)) }
-    ensures cause { IfErr result.1 (λ refusal. RefusalCause (map string_bytes paths.now) path.now (said (λ _. []) refusal) (counts_of (B.state bay.old)) (counts_of (B.state bay.new))) }
-    ensures given { OnOk result.1 (IsSome result.0) }
-    ensures early { IfErr result.1 (λ refusal. IsEarly (said (λ _. []) refusal) → result.0 ≡ None) }
-    ensures above { IfSome result.0 (λ id. id < last_count → IsAboveAll (map string_bytes paths.now) id (counts_of (B.state bay.old)) (counts_of (B.state bay.new))) }
-    ensures floor { IfSome result.0 (λ id. floor ≤ id) }
-    ensures above_read { IfSome result.0 (λ id. id < last_count → All (λ other. other < id) ids.new.items) }
-    ensures moments { MatchOption result.0
-        (Runs (λ slot. slot < length paths.now) Same (B.state bay.old) (B.state bay.new))
-        (λ id. HasCreated (length paths.now) id (made_group name.now) (is_ok result.1) (B.state bay.old) (B.state bay.new)) }
-    // The new group takes calls, on a disk that no other group holds.
-    ensures mounted { IfOk result.1 (λ m. IsNewlyMounted held.now name.now result.0 m (B.state bay.new)) }
-    // Its tables are those of the new group, and it is mounted on the disks as they are, where no disk was a member of its id
-    // before.
-    ensures stands { IfOk result.1 (λ m. MountsNew (length paths.now) (made_group name.now) m (B.state bay.old) (B.state bay.new)) }
-    // Of other groups nothing changes: what was attached stays so, and the disks in these slots do.
-    ensures attached { StaysAttached (B.state bay.old) (B.state bay.new) }
-    ensures spares { SparesHeld held.now (length paths.now) (B.state bay.old) (B.state bay.new) }
+    ensures { CreatesGroup (record { slots = length paths.now; paths = map string_bytes paths.now; path = path.now; name = name.now; floor = floor }) held.now result ids.new.items
+        (B.state bay.old) (B.state bay.new) }
 {
     match prepare(alloc, bay, paths, name, path, floor, ids) {
         Ok(

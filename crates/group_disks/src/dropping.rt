@@ -1,8 +1,8 @@
 //! A group is dropped: its record is marked gone, and its disks lose their headers.
-ghost use Rattle.std.specs.Prelude.{◌≡◌, ◌⊎◌, ◌<◌, false, true, IfErr, IsTrue, OnOk};
-ghost use Rattle.group_disks.specs.Dropping.{AreOut, ClosesHeaders, ClosesHeaderAt, DropGroupCause, HasFile, HasNoFile, HaveHeaders};
-ghost use Rattle.group_engine.specs.Mounts.{IsMounted, Takes};
-ghost use Rattle.group_engine.specs.Own.{KeepsGroup};
+ghost use Rattle.std.specs.Prelude.{◌≡◌, ◌<◌, false, true};
+ghost use Rattle.group_disks.specs.Dropping.{ClosesHeaders, ClosesHeaderAt, HasFile, HasNoFile, HaveHeaders};
+ghost use Rattle.group_disks.specs.GroupCalls.{DropsGroup};
+ghost use Rattle.group_engine.specs.Mounts.{Takes};
 
 use asm_base::Refusal;
 use bay::Bay;
@@ -50,14 +50,7 @@ fn close_all<B: Bay>(m: &Mounted, bay: &mut B)
 /// go with it, and Dismounted where too few disks took the record. NoMemory comes of a group that is closed.
 pub fn drop_group<B: Bay>(m: &mut Mounted, bay: &mut B, contents: bool) -> Result<(), Refusal>
     requires takes { Takes m.old (B.state bay.old) }
-    // Only disks of the group change.
-    ensures keeps { KeepsGroup m.old m.new (B.state bay.old) (B.state bay.new) }
-    ensures cause { IfErr result (DropGroupCause m.old contents m.new (B.state bay.old) (B.state bay.new)) }
-    ensures empty { OnOk result (IsTrue contents ⊎ HasNoFile m.old) }
-    // The record is marked gone, and the group takes no calls.
-    ensures marked { OnOk result (m.new.register.value.gone ≡ true) }
-    ensures gone { OnOk result (IsMounted m.new → ⊥) }
-    ensures out { OnOk result (AreOut m.old 64 (B.state bay.old) (B.state bay.new)) }
+    ensures { DropsGroup m.old contents result m.new (B.state bay.old) (B.state bay.new) }
 {
     m.takes_calls()?;
     if !contents && has_file(m) {

@@ -1,11 +1,9 @@
 //! A group is found by its name and mounted: its record is claimed and written anew, and what a stop left undone is ended.
-ghost use Rattle.std.specs.Prelude.{◌≡◌, ◌≤◌, None, length, IfErr, IfOk, OnOk};
-ghost use Rattle.group_engine.specs.Frames.{StaysAttached};
+ghost use Rattle.std.specs.Prelude.{◌≡◌, ◌≤◌, None, length, OnOk};
 ghost use Rattle.group_engine.specs.Mounts.{IsMounted, IsWhole, Takes};
 ghost use Rattle.group_disks.specs.Bringing.{BringsCopiesUp};
-ghost use Rattle.group_disks.specs.Holding.{SparesHeld};
-ghost use Rattle.group_disks.specs.Leaving.{LeavesRefused, WasMounted};
-ghost use Rattle.group_disks.specs.Mounting.{HaveDiskNumbers, IsMountedBy, IsMountCause, IsRecovered, by_number, mounted_of};
+ghost use Rattle.group_disks.specs.GroupCalls.{MountsByName};
+ghost use Rattle.group_disks.specs.Mounting.{HaveDiskNumbers, by_number, mounted_of};
 ghost use Rattle.group_disks.specs.Taking.{TakesOver};
 
 use crate::bringing::{bring_all, named_disks};
@@ -118,21 +116,8 @@ pub fn mount_group<B: Bay>(
     held: &[u32],
 ) -> Result<Mounted, MountError>
     requires few { length paths.now ≤ 512 }
-    ensures mounted { IfOk result (λ m. IsMountedBy name.now held.now m (B.state bay.new)) }
-    // The record that was read is written anew, and each directory copy that it named on a disk that was read is named again.
-    ensures taken { IfOk result (λ m. IsRecovered B.state name.now (length paths.now) held.now option now m (B.state bay.old) (B.state bay.new)) }
-    // What a stop left undone is ended.
-    ensures ended { IfOk result (λ m. m.catalog.tables.operations.pending ≡ None) }
-    ensures cause { IfErr result (IsMountCause B.state name.now (length paths.now) held.now option (B.state bay.old) (B.state bay.new)) }
-    // Of other groups nothing changes: what was attached stays so, and the disks in these slots do.
-    ensures attached { StaysAttached (B.state bay.old) (B.state bay.new) }
-    ensures spares { SparesHeld held.now (length paths.now) (B.state bay.old) (B.state bay.new) }
-    // A refusal for what was found or read leaves all as it was, and at each moment of a claim the images stand for groups of before.
-    // Behind the record each image is held for the group that was mounted, and disks of its id's members alone change.
-    ensures refused { IfErr result (LeavesRefused B.state name.now (length paths.now) held.now option (B.state bay.old) (B.state bay.new)) }
-    // With its record anew one of these groups was mounted on the disks as they were. It went on from there: since then each image
-    // is held for it alone, and it is mounted on the disks as they are. Over all of it disks of its id's members alone change.
-    ensures mounts { IfOk result (λ m. WasMounted B.state name.now (length paths.now) held.now option m (B.state bay.old) (B.state bay.new)) }
+    ensures { MountsByName B.state name.now (length paths.now) held.now option now result
+        (B.state bay.old) (B.state bay.new) }
 {
     let taken = take_over(alloc, bay, paths, name, option, now, held)?;
     let named = taken.named;
