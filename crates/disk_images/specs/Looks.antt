@@ -1,11 +1,13 @@
 -- What looks at images show.
-use Rattle.std.specs.Prelude.{◌≡◌, ℕ, ◌+◌, ◌<◌, ◌≤◌, List, length, get_or, Option, Some, IsTrue}
+use Rattle.std.specs.Prelude.{◌≡◌, ℕ, ◌+◌, ◌<◌, ◌≤◌, List, length, get_or, Option, Result, Some, IfOk, IsErrOf, IsTrue}
 use Rattle.std.specs.Option.{ForSome}
-use Rattle.bay.specs.Image.{Image, Same}
-use Rattle.bay.specs.State.{BayState}
+use Rattle.bay.specs.Image.{Image, Same, window}
+use Rattle.bay.specs.State.{BayState, IsSlot, KeepsAttached}
 use Rattle.bay.specs.Counts.{Rose}
-use Rattle.bay.specs.Moments.{Runs, NowOnly}
-use Rattle.asm_formats.specs.Header.{Header, is_header}
+use Rattle.bay.specs.Moments.{Runs, Holds, NowOnly}
+use Rattle.bay.specs.declared.fault.BayError.{BayError}
+use Rattle.bay.specs.declared.fault.BayError.TheVariants.{Fault}
+use Rattle.asm_formats.specs.Header.{Header, decoded_header, is_header}
 use Rattle.asm_formats.specs.Regions.{least_size}
 use Rattle.asm_images.specs.Kept.{header_in}
 use Rattle.disk_images.specs.declared.looking.Looked.{Looked}
@@ -28,6 +30,40 @@ HeaderIs slot header old new = header_in new slot ≡ header
 pub record IsAllowed (size : ℕ) (h : Header) : Type 0 where
   pub header : IsTrue (is_header h)
   pub long : least_size ≤ size
+
+-- ---- the open header of one disk
+
+-- the disk in the slot holds this open header
+abbrev pub IsHeaderHeld : ℕ → Option Header → BayState → BayState → Type 0
+IsHeaderHeld slot header s t = Holds (HeaderIs slot header) s t
+
+-- each image that a stop may leave now has it
+abbrev pub IsHeaderLeft : ℕ → Option Header → BayState → BayState → Type 0
+IsHeaderLeft slot header s t = NowOnly t (λ image. header_in image slot ≡ header)
+
+-- the block behind the header's gate is the spelling of this one, or of none
+abbrev pub IsDecoded : ℕ → Option Header → BayState → BayState → Type 0
+IsDecoded slot header s t =
+    ForSome s.holds (λ image. header ≡ decoded_header (window (image.byte slot) 4096 4096))
+
+-- So many calls at most read the header of the attached disk of a slot.
+pub record ReadsHeader (slot most : ℕ) (may : Header → Type 0)
+    (shows : Option Header → BayState → BayState → Type 0)
+    (result : Result (Option Header) BayError) (s t : BayState) : Type 0 where
+  -- the same disks stay attached, and none changes
+  pub attached : KeepsAttached s t
+  pub runs : Runs (IsSlot slot) Same s t
+  pub calls : t.calls ≤ s.calls + most
+  -- nothing is written
+  pub written : t.written slot ≡ s.written slot
+  -- at Ok this is what was read
+  pub header : IfOk result (λ header. shows header s t)
+  -- whatever the disk holds, it is one that may be
+  pub allowed : IfOk result (λ header. ForSome header may)
+  -- it fails only where the slot failed, or for want of memory
+  pub cause : IsErrOf result Fault → Rose (s.faults slot) (t.faults slot)
+
+-- ---- what looks have shown
 
 -- An image that was read: it is attached with its size, and each image that a stop may leave now has this open header.
 pub record IsRead (slot size : ℕ) (header : Option Header) (s : BayState) : Type 0 where

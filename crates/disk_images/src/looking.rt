@@ -1,14 +1,8 @@
 // Looks at images: each is attached, synced, and its header is read.
-ghost use Rattle.std.specs.Prelude.{◌≡◌, ◌≤◌, ◌<◌, ◌+◌, ◌*◌, ◌∷◌, ◌++◌, [], Some, length, IfOk, OnOk, IsSome, IsErrOf, IsTrue};
-ghost use Rattle.std.specs.Option.{ForSome};
-ghost use Rattle.bay.specs.Image.{Same, window};
-ghost use Rattle.bay.specs.State.{IsSlot, KeepsAttached, size_of};
-ghost use Rattle.bay.specs.Counts.{Rose};
-ghost use Rattle.bay.specs.Moments.{Runs, Holds, NowOnly};
-ghost use Rattle.bay.specs.declared.fault.BayError.TheVariants.{Fault};
-ghost use Rattle.asm_formats.specs.Header.{decoded_header, is_header};
-ghost use Rattle.asm_images.specs.Kept.{header_in};
-ghost use Rattle.disk_images.specs.Looks.{Looks, IsAllowed, HeaderIs, IsLooked, AreLooked};
+ghost use Rattle.std.specs.Prelude.{◌≡◌, ◌≤◌, ◌<◌, ◌*◌, ◌∷◌, ◌++◌, [], Some, length, IfOk, OnOk, IsSome, IsTrue};
+ghost use Rattle.bay.specs.State.{IsSlot, size_of};
+ghost use Rattle.asm_formats.specs.Header.{is_header};
+ghost use Rattle.disk_images.specs.Looks.{Looks, IsAllowed, IsDecoded, IsHeaderHeld, IsHeaderLeft, IsLooked, AreLooked, ReadsHeader};
 
 use bay::{Bay, BayError, Fault};
 use disk_forming::header_slot;
@@ -84,13 +78,7 @@ fn settled_header<B: Bay>(
     size: u64,
 ) -> Result<Option<Header>, BayError>
     requires attached { (B.state bay.old).attached slot ≡ Some size }
-    ensures attached { KeepsAttached (B.state bay.old) (B.state bay.new) }
-    ensures calls { (B.state bay.new).calls ≤ (B.state bay.old).calls + 3 }
-    ensures written { (B.state bay.new).written slot ≡ (B.state bay.old).written slot }
-    ensures runs { Runs (IsSlot slot) Same (B.state bay.old) (B.state bay.new) }
-    ensures header { IfOk result (λ header. NowOnly (B.state bay.new) (λ image. header_in image slot ≡ header)) }
-    ensures allowed { IfOk result (λ header. ForSome header (IsAllowed size)) }
-    ensures cause { IsErrOf result BayError.Fault → Rose ((B.state bay.old).faults slot) ((B.state bay.new).faults slot) }
+    ensures { ReadsHeader slot 3 (IsAllowed size) (IsHeaderLeft slot) result (B.state bay.old) (B.state bay.new) }
 {
     match bay.sync(slot) {
         Ok(()) => read_header(alloc, bay, slot, size),
@@ -98,21 +86,15 @@ fn settled_header<B: Bay>(
     }
 }
 
-/// The open header that the disk holds.
-fn read_header<B: Bay>(
+/// The open header of the disk of a slot, which has so many bytes, as the disk holds it.
+pub fn read_header<B: Bay>(
     alloc: Global,
     bay: &mut B,
     slot: u32,
     size: u64,
 ) -> Result<Option<Header>, BayError>
     requires attached { (B.state bay.old).attached slot ≡ Some size }
-    ensures attached { KeepsAttached (B.state bay.old) (B.state bay.new) }
-    ensures calls { (B.state bay.new).calls ≤ (B.state bay.old).calls + 2 }
-    ensures written { (B.state bay.new).written slot ≡ (B.state bay.old).written slot }
-    ensures runs { Runs (IsSlot slot) Same (B.state bay.old) (B.state bay.new) }
-    ensures header { IfOk result (λ header. Holds (HeaderIs slot header) (B.state bay.old) (B.state bay.new)) }
-    ensures allowed { IfOk result (λ header. ForSome header (IsAllowed size)) }
-    ensures cause { IsErrOf result BayError.Fault → Rose ((B.state bay.old).faults slot) ((B.state bay.new).faults slot) }
+    ensures { ReadsHeader slot 2 (IsAllowed size) (IsHeaderHeld slot) result (B.state bay.old) (B.state bay.new) }
 {
     if size < LEAST_SIZE {
         return Ok(None);
@@ -128,13 +110,7 @@ fn read_header<B: Bay>(
 fn read_body<B: Bay>(alloc: Global, bay: &mut B, slot: u32) -> Result<Option<Header>, BayError>
     requires attached { IsSome ((B.state bay.old).attached slot) }
     requires long { 8192 ≤ size_of (B.state bay.old) slot }
-    ensures attached { KeepsAttached (B.state bay.old) (B.state bay.new) }
-    ensures calls { (B.state bay.new).calls ≤ (B.state bay.old).calls + 1 }
-    ensures written { (B.state bay.new).written slot ≡ (B.state bay.old).written slot }
-    ensures runs { Runs (IsSlot slot) Same (B.state bay.old) (B.state bay.new) }
-    ensures header { IfOk result (λ header. ForSome (B.state bay.old).holds (λ image. header ≡ decoded_header (window (image.byte slot) 4096 4096))) }
-    ensures allowed { IfOk result (λ header. ForSome header (λ h. IsTrue (is_header h))) }
-    ensures cause { IsErrOf result BayError.Fault → Rose ((B.state bay.old).faults slot) ((B.state bay.new).faults slot) }
+    ensures { ReadsHeader slot 1 (λ header. IsTrue (is_header header)) (IsDecoded slot) result (B.state bay.old) (B.state bay.new) }
 {
     let mut block = Block::zeros();
     if bay.read(slot, BLOCK, &mut block.bytes[..]).is_err() {

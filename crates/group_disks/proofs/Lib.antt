@@ -10,7 +10,6 @@ pub mod FirstMember
 pub mod FirstDisk
 pub mod Forming
 pub mod Told
-pub mod Headers
 pub mod Looking
 pub mod Choosing
 pub mod Moments

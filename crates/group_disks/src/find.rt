@@ -1,16 +1,13 @@
 // What the images hold: the headers of all that can be had.
-ghost use Rattle.std.specs.Prelude.{◌≡◌, ◌≤◌, ◌<◌, [], ℕ, Some, length, map, IfOk, IsSome, MatchOption};
+ghost use Rattle.std.specs.Prelude.{◌≡◌, ◌≤◌, ◌<◌, [], ℕ, length, map, IfOk, MatchOption};
 ghost use Rattle.std.specs.String.{string_bytes};
-ghost use Rattle.bay.specs.State.{size_of};
 ghost use Rattle.group_disks.specs.Found.{counts_of, IsSlotOfPath};
-ghost use Rattle.group_disks.specs.Looks.{IsDecoded, IsHeaderTold, LooksAt, LooksAtAll, Notes, ReadsDisk};
+ghost use Rattle.group_disks.specs.Looks.{LooksAt, LooksAtAll, Notes};
 ghost use Rattle.group_disks.specs.Probes.{IsShown};
 
-use asm_base::{BLOCK, Block, LEAST_SIZE, NoMemory};
-use bay::{Bay, BayError, Fault};
-use disk_forming::header_slot;
-use gate_slot::is_open;
-use group_mount::{Header, decode};
+use asm_base::NoMemory;
+use bay::{Bay, BayError};
+use group_mount::read_header;
 use std::alloc::Global;
 
 /// What a look at an image has shown. Sizes are in bytes.
@@ -98,41 +95,5 @@ fn look<B: Bay>(alloc: Global, bay: &mut B, slot: u32, path: &str) -> Result<Pro
         Ok(None) => Ok(Probe::Read { size, id: None }),
         Err(BayError::Fault) => Ok(Probe::Unread { size }),
         Err(BayError::NoMemory) => Err(NoMemory),
-    }
-}
-
-/// The open header of the disk of a slot, which has so many bytes.
-pub fn read_header<B: Bay>(
-    alloc: Global,
-    bay: &mut B,
-    slot: u32,
-    size: u64,
-) -> Result<Option<Header>, BayError>
-    requires attached { (B.state bay.old).attached slot ≡ Some size }
-    ensures { ReadsDisk slot 2 (IsHeaderTold slot) result (B.state bay.old) (B.state bay.new) }
-{
-    if size < LEAST_SIZE {
-        return Ok(None);
-    }
-    match is_open(bay, slot, header_slot(4096)) {
-        Ok(true) => read_body(alloc, bay, slot),
-        Ok(false) => Ok(None),
-        Err(Fault) => Err(BayError::Fault),
-    }
-}
-
-/// The header behind an open gate.
-fn read_body<B: Bay>(alloc: Global, bay: &mut B, slot: u32) -> Result<Option<Header>, BayError>
-    requires attached { IsSome ((B.state bay.old).attached slot) }
-    requires long { 8192 ≤ size_of (B.state bay.old) slot }
-    ensures { ReadsDisk slot 1 (IsDecoded slot) result (B.state bay.old) (B.state bay.new) }
-{
-    let mut block = Block::zeros();
-    if bay.read(slot, BLOCK, &mut block.bytes[..]).is_err() {
-        return Err(BayError::Fault);
-    }
-    match decode(alloc, &block) {
-        Ok(header) => Ok(header),
-        Err(NoMemory) => Err(BayError::NoMemory),
     }
 }
