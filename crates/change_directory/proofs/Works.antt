@@ -1,10 +1,10 @@
 -- Calls on a copy's disk, put together.
 use Rattle.std.proofs.Common.{◌≡◌, ℕ, ◌+◌, ◌≤◌, ◌∙◌, Some, List, length, refl, subst, arith}
-use Rattle.std.specs.Prelude.{Result, Ok, Err, IfOk, OnOk, OnErr, IsErrOf}
+use Rattle.std.specs.Prelude.{Result, Ok, Err, OnOk, OnErr, IsErrOf}
 use Rattle.bay.specs.Image.{Image, Same, ChangesOnly, Range, Puts}
 use Rattle.bay.specs.State.{BayState, IsSound, IsSlot, KeepsAttached}
 use Rattle.bay.specs.Counts.{Rose}
-use Rattle.bay.specs.Moments.{Runs, Ends, Holds, Durable, Joins}
+use Rattle.bay.specs.Moments.{Runs, Ends, Holds, Joins}
 use Rattle.bay.specs.Calls.{Cost, Calls, Call, ChangesEachImage, Held, Settles, both_costs, cost}
 use Rattle.bay.proofs.Calls.{attached-trans, both_done, stops, synced}
 use Rattle.bay.proofs.Images.{same-refl, same-trans, changes-same, changes-trans}
@@ -93,15 +93,6 @@ then_synced {result = Err e} {slot = slot} follows call more = record {
   done = tt;
   cause = omega (arith, call.calls.runs.faults slot, more.cause);
 }
-
--- what such a call has done, in two clauses
-pub ends_of : {T E : Type 0} (result : Result T E) (slot : ℕ) (change : Image → Image → Type 0) (a b : BayState) → IfOk result (λ value. DoneSynced slot change value a b) → OnOk result (Ends change a b)
-ends_of (Ok value) slot change a b done = done.ends
-ends_of (Err e) slot change a b done = tt
-
-pub durable_of : {T E : Type 0} (result : Result T E) (slot : ℕ) (change : Image → Image → Type 0) (a b : BayState) → IfOk result (λ value. DoneSynced slot change value a b) → OnOk result (Durable slot b)
-durable_of (Ok value) slot change a b done = done.durable
-durable_of (Err e) slot change a b done = tt
 
 -- a call that ended well, its value left out
 pub went_held : {T E : Type 0} {value : T} {slot : ℕ} {step change : Image → Image → Type 0} {most : Cost} {a b : BayState}

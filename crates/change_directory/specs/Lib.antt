@@ -9,3 +9,4 @@ pub mod Slots
 pub mod StoreLaws
 pub mod Works
 pub mod LoadCalls
+pub mod CopyCalls

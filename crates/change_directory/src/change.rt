@@ -1,15 +1,12 @@
 // A commit: the changed pages are put into the spare log slot.
-ghost use Rattle.std.specs.Prelude.{◌≡◌, ◌≤◌, ◌<◌, ◌+◌, ◌-◌, ◌*◌, ◌^◌, OnOk, OnErr, IsTrue, length};
-ghost use Rattle.std.specs.List.{list_all};
-ghost use Rattle.bay.specs.State.{KeepsAttached, IsSlot};
-ghost use Rattle.bay.specs.Counts.{Rose};
-ghost use Rattle.bay.specs.Moments.{Runs, Ends, NowOnly};
+ghost use Rattle.std.specs.Prelude.{◌≤◌, ◌<◌, ◌+◌, ◌-◌, ◌*◌, ◌^◌, IsTrue, length};
+ghost use Rattle.bay.specs.Moments.{NowOnly};
 ghost use Rattle.bay.specs.Calls.{Call, ChangesEachImage, cost};
-ghost use Rattle.asm_formats.specs.Content.{is_page};
 ghost use Rattle.asm_formats.specs.Logs.{head_of_log, is_log_head};
 ghost use Rattle.change_directory.specs.Places.{IsCopy};
-ghost use Rattle.change_directory.specs.Logs.{AreLogsSettled, log_of, bytes_of_page};
-ghost use Rattle.change_directory.specs.Changes.{IsAtHome, DecodesIn, IsAbove, MayLog, HasLogged, MayCommit, HasCommitted};
+ghost use Rattle.change_directory.specs.CopyCalls.{LogsCommit};
+ghost use Rattle.change_directory.specs.Logs.{AreLogsSettled, log_of};
+ghost use Rattle.change_directory.specs.Changes.{IsAtHome, IsAbove, MayLog, HasLogged};
 
 use crate::copy::{DirCopy, log_place};
 use crate::head::{LOG_BODY, fill_body};
@@ -34,16 +31,7 @@ pub fn commit<B: Bay>(
     requires home { NowOnly (B.state bay.old) (IsAtHome copy) }
     // So are both log slots.
     requires logs { AreLogsSettled copy (B.state bay.old) }
-    ensures attached { KeepsAttached (B.state bay.old) (B.state bay.new) }
-    ensures calls { (B.state bay.new).calls ≤ (B.state bay.old).calls + 11 }
-    ensures written { (B.state bay.new).written copy.slot ≤ (B.state bay.old).written copy.slot + 2 * copy.sector + (length pages.now + 1) * 4096 }
-    ensures runs { Runs (IsSlot copy.slot) (MayLog copy number pages.now) (B.state bay.old) (B.state bay.new) }
-    ensures done { OnOk result (Ends (HasLogged copy number pages.now) (B.state bay.old) (B.state bay.new)) }
-    ensures content { number < 2 ^ 64 - 1 → IsTrue (list_all (λ p. is_page (bytes_of_page p)) pages.now) → NowOnly (B.state bay.old) (DecodesIn copy)
-        → Runs (IsSlot copy.slot) (MayCommit copy (log_of number pages.now)) (B.state bay.old) (B.state bay.new) }
-    ensures committed { number < 2 ^ 64 - 1 → IsTrue (list_all (λ p. is_page (bytes_of_page p)) pages.now) → NowOnly (B.state bay.old) (DecodesIn copy)
-        → OnOk result (Ends (HasCommitted copy (log_of number pages.now)) (B.state bay.old) (B.state bay.new)) }
-    ensures cause { OnErr result (Rose ((B.state bay.old).faults copy.slot) ((B.state bay.new).faults copy.slot)) }
+    ensures { LogsCommit result copy number pages.now (B.state bay.old) (B.state bay.new) }
 {
     put_log(bay, copy, number, pages)
 }

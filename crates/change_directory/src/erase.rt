@@ -1,14 +1,12 @@
 // A format: both log slots are closed, and the pages are zeroed.
-ghost use Rattle.std.specs.Prelude.{◌≡◌, ◌≤◌, ◌<◌, ◌+◌, ◌*◌, ◌/◌, OnOk, OnErr, length, get_or, ℕ};
+ghost use Rattle.std.specs.Prelude.{◌≡◌, ◌<◌, ◌+◌, ◌*◌, ◌/◌, length, get_or, ℕ};
 ghost use Rattle.bay.specs.Image.{ChangesOnly};
-ghost use Rattle.bay.specs.State.{KeepsAttached, IsSlot};
-ghost use Rattle.bay.specs.Counts.{Rose};
-ghost use Rattle.bay.specs.Moments.{Runs, Ends, Durable, NowOnly};
+ghost use Rattle.bay.specs.Moments.{Ends};
 ghost use Rattle.bay.specs.Calls.{Call, ChangesEachImage, Held, cost};
 ghost use Rattle.change_directory.specs.Places.{IsCopy, HomesAt};
-ghost use Rattle.change_directory.specs.Changes.{IsAtHome, DecodesIn};
-ghost use Rattle.change_directory.specs.Formatting.{HasShutSpare, HasShut, MayFormat, HasFormatted, Zeroes, MayLoseContent, ShutsSafely, FormatsSafely};
+ghost use Rattle.change_directory.specs.Formatting.{HasShutSpare, HasShut, HasFormatted, Zeroes, ShutsSafely, FormatsSafely};
 ghost use Rattle.change_directory.specs.Works.{DoneSynced};
+ghost use Rattle.change_directory.specs.CopyCalls.{FormatsCopy};
 
 use crate::copy::{DirCopy, LogSlot, log_place, other_slot};
 use crate::spare::spare_slot;
@@ -29,15 +27,7 @@ const LOG_BLOCKS: u32 = 65;
 /// pages. The content stays until it is gone.
 pub fn format<B: Bay>(bay: &mut B, copy: DirCopy) -> Result<(), Fault>
     requires { IsCopy (B.state bay.old) copy }
-    ensures attached { KeepsAttached (B.state bay.old) (B.state bay.new) }
-    ensures calls { (B.state bay.new).calls ≤ (B.state bay.old).calls + (copy.dir_blocks * 4096) / 262144 + 14 }
-    ensures written { (B.state bay.new).written copy.slot ≤ (B.state bay.old).written copy.slot + 2 * copy.sector + copy.dir_blocks * 4096 }
-    ensures runs { Runs (IsSlot copy.slot) (MayFormat copy) (B.state bay.old) (B.state bay.new) }
-    ensures content { NowOnly (B.state bay.old) (DecodesIn copy) → NowOnly (B.state bay.old) (IsAtHome copy)
-        → Runs (IsSlot copy.slot) (MayLoseContent copy) (B.state bay.old) (B.state bay.new) }
-    ensures done { OnOk result (Ends (HasFormatted copy) (B.state bay.old) (B.state bay.new)) }
-    ensures durable { OnOk result (Durable copy.slot (B.state bay.new)) }
-    ensures cause { OnErr result (Rose ((B.state bay.old).faults copy.slot) ((B.state bay.new).faults copy.slot)) }
+    ensures { FormatsCopy result copy (B.state bay.old) (B.state bay.new) }
 {
     erase(bay, copy)
 }

@@ -1,14 +1,13 @@
 // A checkpoint: pages are written home.
-ghost use Rattle.std.specs.Prelude.{◌≡◌, ◌≤◌, ◌<◌, ◌+◌, ◌*◌, OnOk, OnErr, IsTrue, length, take};
+ghost use Rattle.std.specs.Prelude.{◌≡◌, ◌≤◌, ◌<◌, ◌+◌, ◌*◌, IsTrue, length, take};
 ghost use Rattle.bay.specs.Image.{ChangesOnly};
-ghost use Rattle.bay.specs.State.{KeepsAttached, IsSlot};
-ghost use Rattle.bay.specs.Counts.{Rose};
-ghost use Rattle.bay.specs.Moments.{Runs, Ends, Durable, NowOnly};
+ghost use Rattle.bay.specs.Moments.{NowOnly};
 ghost use Rattle.bay.specs.Calls.{Call, Held, cost};
 ghost use Rattle.change_directory.specs.Places.{IsCopy};
 ghost use Rattle.change_directory.specs.Logs.{are_pages};
-ghost use Rattle.change_directory.specs.Homes.{HomesOf, HasHomed, AreDue, KeepsContent, is_row, first_number};
+ghost use Rattle.change_directory.specs.Homes.{HomesOf, HasHomed, AreDue, is_row, first_number};
 ghost use Rattle.change_directory.specs.Works.{DoneSynced};
+ghost use Rattle.change_directory.specs.CopyCalls.{BringsHome};
 
 use crate::copy::DirCopy;
 use crate::pages::gather;
@@ -27,14 +26,7 @@ pub fn checkpoint<B: Bay>(bay: &mut B, copy: DirCopy, pages: &[(u32, Block)]) ->
     // Ascending, and below the copy's number of pages.
     requires pages { IsTrue (are_pages copy.dir_blocks pages.now) }
     requires due { NowOnly (B.state bay.old) (AreDue copy pages.now) }
-    ensures attached { KeepsAttached (B.state bay.old) (B.state bay.new) }
-    ensures calls { (B.state bay.new).calls ≤ (B.state bay.old).calls + length pages.now + 1 }
-    ensures written { (B.state bay.new).written copy.slot ≤ (B.state bay.old).written copy.slot + length pages.now * 4096 }
-    ensures runs { Runs (IsSlot copy.slot) (ChangesOnly (HomesOf copy pages.now)) (B.state bay.old) (B.state bay.new) }
-    ensures content { Runs (IsSlot copy.slot) (KeepsContent copy) (B.state bay.old) (B.state bay.new) }
-    ensures done { OnOk result (Ends (HasHomed copy pages.now) (B.state bay.old) (B.state bay.new)) }
-    ensures durable { OnOk result (Durable copy.slot (B.state bay.new)) }
-    ensures cause { OnErr result (Rose ((B.state bay.old).faults copy.slot) ((B.state bay.new).faults copy.slot)) }
+    ensures { BringsHome result copy pages.now (B.state bay.old) (B.state bay.new) }
 {
     write_synced(bay, copy, pages)
 }

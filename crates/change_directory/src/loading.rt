@@ -1,17 +1,11 @@
 // A load: a directory copy is read whole.
-ghost use Rattle.std.specs.Prelude.{◌≡◌, ◌≤◌, ◌<◌, ◌+◌, ◌*◌, ◌/◌, ◌∷◌, [], true, false, length, IfOk, OnOk, IfErr, IfSome, IsErrOf};
+ghost use Rattle.std.specs.Prelude.{◌≡◌, ◌≤◌, ◌<◌, ◌+◌, ◌*◌, ◌/◌, ◌∷◌, [], true, false, length, OnOk, IfErr, IfSome, IsErrOf};
 ghost use Rattle.std.specs.Option.{option_or};
-ghost use Rattle.bay.specs.Image.{Same};
-ghost use Rattle.bay.specs.State.{KeepsAttached, IsSlot};
-ghost use Rattle.bay.specs.Counts.{Rose};
-ghost use Rattle.bay.specs.Moments.{Runs};
 ghost use Rattle.asm_formats.specs.Regions.{page_home};
 ghost use Rattle.asm_formats.specs.Content.{is_empty_page, is_page};
-ghost use Rattle.asm_formats.specs.Damage.{directory_damage};
 ghost use Rattle.change_directory.specs.Places.{IsCopy};
-ghost use Rattle.change_directory.specs.Changes.{copy_disk_bytes};
-ghost use Rattle.bay.specs.Told.{Told};
-ghost use Rattle.change_directory.specs.Loads.{AreInOrder, IsLoaded, damaged_block};
+ghost use Rattle.change_directory.specs.CopyCalls.{LoadsCopy};
+ghost use Rattle.change_directory.specs.Loads.{damaged_block};
 ghost use Rattle.change_directory.specs.Slots.{AreTaken, GoesUpTo, IsPageDamage, TakesUpPages, all_slots, cut, damage_of, damaged_page, filled, open_log_number};
 ghost use Rattle.change_directory.specs.LoadCalls.{Damages, IsPieceDamage, LoadCall, PagesAreRead, TakesPiece, piece_of_pages};
 ghost use Rattle.change_directory.specs.declared.loading.LoadFault.TheVariants.{Fault as DiskFault, NoMemory as OutOfMemory};
@@ -71,15 +65,7 @@ impl From<NoMemory> for LoadFault {
 /// Reads a copy: its commit number, and its pages with the images of the open log slots in their place. It writes nothing.
 pub fn load<B: Bay>(alloc: Global, bay: &mut B, copy: DirCopy) -> Result<Pages, LoadFault>
     requires { IsCopy (B.state bay.old) copy }
-    ensures loaded { IfOk result (λ pages. Told (B.state bay.old) (B.state bay.new) (IsLoaded copy pages)) }
-    ensures order { IfOk result (AreInOrder copy.dir_blocks) }
-    ensures whole { OnOk result (Told (B.state bay.old) (B.state bay.new) (λ image. directory_damage copy.dir_blocks (copy_disk_bytes copy image) ≡ None)) }
-    ensures damage { IfErr result (λ e. IfSome (damaged_block e) (λ block. Told (B.state bay.old) (B.state bay.new) (λ image. directory_damage copy.dir_blocks (copy_disk_bytes copy image) ≡ Some block))) }
-    ensures attached { KeepsAttached (B.state bay.old) (B.state bay.new) }
-    ensures calls { (B.state bay.new).calls ≤ (B.state bay.old).calls + copy.dir_blocks / 64 + 7 }
-    ensures written { (B.state bay.new).written copy.slot ≡ (B.state bay.old).written copy.slot }
-    ensures runs { Runs (IsSlot copy.slot) Same (B.state bay.old) (B.state bay.new) }
-    ensures cause { IsErrOf result LoadFault.Fault → Rose ((B.state bay.old).faults copy.slot) ((B.state bay.new).faults copy.slot) }
+    ensures { LoadsCopy result copy (B.state bay.old) (B.state bay.new) }
 {
     let first = read_log(alloc, bay, copy, LogSlot::First)?;
     let second = read_log(alloc, bay, copy, LogSlot::Second)?;

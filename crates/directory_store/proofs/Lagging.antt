@@ -8,10 +8,8 @@ use Rattle.std.proofs.lemmas.Option.{none-some}
 use Rattle.bay.specs.Image.{Image, Same, ChangesOnly, window}
 use Rattle.bay.specs.State.{BayState, IsSound, IsSlot, KeepsAttached}
 use Rattle.bay.specs.Moments.{Runs, Ends, Durable, NowOnly}
-use Rattle.bay.specs.Calls.{Calls, cost}
-use Rattle.bay.proofs.Calls.{attached-trans, both_done, goes_on, stops, widened}
-use Rattle.bay.proofs.Images.{changes-same, changes-trans, same-trans, window-same}
-use Rattle.bay.proofs.OneCall.{of_parts}
+use Rattle.bay.proofs.Calls.{both_done, goes_on, stops, widened}
+use Rattle.bay.proofs.Images.{changes-same, changes-trans, window-same}
 use Rattle.asm_group.specs.Names.{Bytes}
 use Rattle.asm_base.specs.declared.block.Block.{Block}
 use Rattle.asm_formats.specs.Damage.{directory_damage}
@@ -27,6 +25,7 @@ use Rattle.change_directory.specs.Loads.{IsLoaded, commit_if_any, due_page, fill
 use Rattle.change_directory.specs.Logs.{are_pages}
 use Rattle.asm_base.specs.Blocks.{image_of_page}
 use Rattle.change_directory.specs.Places.{IsCopy}
+use Rattle.change_directory.specs.Works.{OnlyReads}
 use Rattle.change_directory.specs.StoreLaws.{HasDue, HasOpen, HasRegion, IsReadAs, IsShaped, RegionOf, SameCopy, due_images, shown_by}
 use Rattle.bay.specs.Told.{Told}
 use Rattle.change_directory.proofs.Keeping.{keeps_content}
@@ -34,6 +33,7 @@ use Rattle.change_directory.proofs.Loaded.{loaded_is_content, loaded_is_due}
 use Rattle.change_directory.proofs.Regions.{steps_stay_inside}
 use Rattle.change_directory.proofs.Runs.{same_disk, same_content}
 use Rattle.change_directory.proofs.Usable.{still_copy}
+use Rattle.change_directory.proofs.Works.{one_read, reads_fit, reads_on}
 use Rattle.directory_store.specs.Copies.{MayMakeCopy}
 use Rattle.directory_store.specs.Copying.{IsReadable, IsRenewable, MayRenewCopy}
 use Rattle.directory_store.specs.Renewals.{ReadsDue}
@@ -230,9 +230,8 @@ module _ (copy : DirCopy) where
 
 -- a sync, and then a read of the copy
 pub synced_reads : (copy : DirCopy) {a b c : BayState} → KeepsAttached a b → b.calls ≤ a.calls + 1 → b.written copy.slot ≡ a.written copy.slot → Runs (IsSlot copy.slot) Same a b
-    → KeepsAttached b c → c.calls ≤ b.calls + copy.dir_blocks / 64 + 7 → c.written copy.slot ≡ b.written copy.slot → Runs (IsSlot copy.slot) Same b c
-    → Calls (IsSlot copy.slot) Same (cost (copy.dir_blocks / 64 + 8) 0) a c
-synced_reads copy one synced same run two read still next = of_parts (copy.dir_blocks / 64 + 8) 0 (attached-trans one two) (omega (arith, synced, read)) (omega (arith, same, still)) (goes_on same-trans run (stops run) next)
+    → OnlyReads copy.slot (copy.dir_blocks / 64 + 7) b c → OnlyReads copy.slot (copy.dir_blocks / 64 + 8) a c
+synced_reads copy attached calls written run reads = reads_fit (omega arith) (reads_on (one_read attached calls written run) reads)
 
 -- the due pages of a copy were read
 module _ {copy : DirCopy} {list : Vec (ℕ × Block) Global} {due : List (ℕ × Block)} (is : due ≡ list.items) {s t : BayState} (sound : IsSound t) (here : IsCopy s copy)
