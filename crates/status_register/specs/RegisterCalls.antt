@@ -57,14 +57,7 @@ pub record ClaimsEpoch (survey : Surveyed) (result : Result Registered SurveyErr
 -- The epoch after those of a survey was claimed, and this is the register that it gives.
 pub record ClaimsNext (survey : Surveyed) (result : Result Registered SurveyError)
     (s t : BayState) : Type 0 where
-  -- by those that took the claim
-  pub answer : IsClaimAnswer survey result s t
-  -- the claim is put on the members in some order
-  pub calls : Calls (IsSlotOf survey.members)
-      (PutsRow (claim_gate survey.id) survey.members (claim_spelling (claim_of survey)))
-      (cost_of_puts (length survey.members)) s t
-  -- at each moment the disks fit the history that they did
-  pub history : KeepsHistory survey s t
+  pub claim : ClaimsEpoch survey result s t
   -- the register may be written
   pub ready : IfOk result (λ register. IsRegisterReady register t)
   -- the attached disks are enough for its record
