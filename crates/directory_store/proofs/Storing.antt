@@ -32,8 +32,10 @@ use Rattle.directory_store.specs.Answers.{IsFirstRefusal, NoCalls, store_error_o
 use Rattle.directory_store.specs.Commits.{CommitsPages}
 use Rattle.directory_store.specs.Contents.{ArePutItems}
 use Rattle.directory_store.specs.Copies.{AreCopiesApart, AreKept, AreNamedCopies, Earlier, HasOnlyFailedCopies, HaveEither, IsSlotOfCopy, MayPutOn, RegionsOf, WritesFew, calls_for, due_of}
+use Rattle.directory_store.specs.StoreCalls.{CommitsRecords}
 use Rattle.directory_store.specs.Stores.{Stored, IsEmpty, Keeps, HaveRecords, HaveEitherRecords, off, others, without}
 use Rattle.directory_store.specs.declared.due.Due.{Due}
+use Rattle.directory_store.specs.declared.error.StoreError.TheVariants.{NoMemory}
 use Rattle.directory_store.proofs.Records.{items_after, pages_decode, is_head, has_records}
 use Rattle.directory_store.proofs.CopyLaws.{region_is_same}
 use Rattle.directory_store.proofs.Steps.{shaped}
@@ -135,6 +137,26 @@ kept_have_records stored s keeps = record {
 
 pub unchanged_moments : (old new : Stored) (s : BayState) → Keeps old s → LeavesOnly s s (HaveEitherRecords old new)
 unchanged_moments old new s keeps = leaves_begin (record { now = λ x left c among. inl ((kept_have_records old s keeps).now x left c among) })
+
+-- a change is refused for want of memory, before any call
+pub refused_unchanged : (store : Stored) (put : List DirectoryRecord) (gone : List Key) (s : BayState) → Keeps store s → CommitsRecords store store put gone (Err NoMemory) s s
+refused_unchanged store put gone s keeps = record {
+  after = tt;
+  after_gone = tt;
+  copies = tt;
+  some = tt;
+  full = tt;
+  fits = tt;
+  refused = record { table = record { records = λ k. refl; places = λ k. refl; free = λ k. refl; units = refl; count = refl }; number = refl; copies = refl; due = refl; calls = no_calls s };
+  failed = tt;
+  moments = unchanged_moments store store s keeps;
+  kept = keeps;
+  done = kept_have_records store s keeps;
+  attached = record { same = λ k. refl };
+  calls = omega arith;
+  written = λ copy among. omega arith;
+  runs = started (λ x. record { size = λ k. refl; byte = λ k j outside. refl });
+}
 
 -- ---- a commit
 

@@ -10,5 +10,6 @@ pub mod Laws
 pub mod Commits
 pub mod Making
 pub mod Renewals
+pub mod StoreCalls
 pub mod change_directory
 pub mod page_map

@@ -39,7 +39,8 @@ use Rattle.status_register.proofs.RowFits.{AreLong}
 use Rattle.status_register.proofs.Taking.{status_gate_either}
 use Rattle.status_register.proofs.Telling.{slots_long}
 use Rattle.group_engine.specs.Becoming.{LeadsToGroup}
-use Rattle.group_engine.specs.Changes.{AreAfter, AppliesChange, CommitsRecords}
+use Rattle.directory_store.specs.StoreCalls.{AreAfter, CommitsRecords}
+use Rattle.group_engine.specs.Changes.{AppliesChange}
 use Rattle.group_engine.specs.Commits.{LeadsTo, StandsIn}
 use Rattle.status_register.specs.RegisterCalls.{HasWritten}
 use Rattle.group_engine.specs.Dropping.{WritesFewer}

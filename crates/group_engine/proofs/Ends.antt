@@ -17,7 +17,8 @@ use Rattle.directory_store.specs.declared.error.StoreError.TheVariants.{Gone}
 use Rattle.status_register.specs.Registered.{Registered}
 use Rattle.status_register.specs.Writes.{after_write}
 use Rattle.status_register.specs.declared.error.Dead.{Dead}
-use Rattle.group_engine.specs.Changes.{AppliesChange, CommitsRecords, IsAsBefore}
+use Rattle.directory_store.specs.StoreCalls.{CommitsRecords}
+use Rattle.group_engine.specs.Changes.{AppliesChange, IsAsBefore}
 use Rattle.group_engine.specs.Commits.{CommitCause, CommitsChange, IsDismountedBy, IsIdle, IsIdleBut, IsLostIn, KeepsRecord, turns_at_most}
 use Rattle.group_engine.specs.Dropping.{WritesFewer}
 use Rattle.group_engine.specs.Mounts.{IsMounted, IsOwn, IsReady, IsWhole, MountedGroup}

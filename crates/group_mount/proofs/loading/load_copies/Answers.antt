@@ -41,7 +41,7 @@ pub returns-in-Ok-clause-runs : goal.returns-in-Ok-clause-runs
 returns-in-Ok-clause-runs g c =
     let s = c.args.survey.now in
     let same = c.deref.ensures.value ∙ c.in_ok-copies.ensures ∙ (λ i. named_copies c.args.id (c.seen.ensures i) (c.value.ensures i) c.args.headed.now) in
-    on_more (λ slot of. copies_in c.args.id s.read s.value c.args.headed.now slot (subst (λ (l : List DirCopy). IsSlotOfCopy l slot) same of)) c.load.ensures.runs
+    on_more (λ slot of. copies_in c.args.id s.read s.value c.args.headed.now slot (subst (λ (l : List DirCopy). IsSlotOfCopy l slot) same of)) c.load.ensures.calls.runs
 
 pub returns-clause-cause : goal.returns-clause-cause
 returns-clause-cause g c =
@@ -54,4 +54,4 @@ pub returns-clause-runs : goal.returns-clause-runs
 returns-clause-runs g c =
     let s = c.args.survey.now in
     let same = c.deref.ensures.value ∙ c.in_ok-copies.ensures ∙ (λ i. named_copies c.args.id (c.seen.ensures i) (c.value.ensures i) c.args.headed.now) in
-    on_more (λ slot of. copies_in c.args.id s.read s.value c.args.headed.now slot (subst (λ (l : List DirCopy). IsSlotOfCopy l slot) same of)) c.load.ensures.runs
+    on_more (λ slot of. copies_in c.args.id s.read s.value c.args.headed.now slot (subst (λ (l : List DirCopy). IsSlotOfCopy l slot) same of)) c.load.ensures.calls.runs

@@ -3,7 +3,7 @@ use Rattle.bay.specs.State.{IsSound}
 use Rattle.directory_store.specs.declared.error.StoreError.{StoreError}
 use Rattle.directory_store.specs.declared.error.StoreError.TheVariants.{Full, NoMemory}
 use Rattle.asm_base.specs.declared.refusal.Refusal.TheVariants as cause
-use Rattle.group_engine.specs.Changes.{CommitsRecords}
+use Rattle.directory_store.specs.StoreCalls.{CommitsRecords}
 use Rattle.group_engine.specs.Commits.{CommitsChange}
 use Rattle.group_engine.specs.Mounts.{IsMounted, IsReady, IsWhole, MountedGroup}
 use Rattle.group_engine.proofs.Ends.{ends_all, ends_dead, ends_fewer, ends_gone, ends_unchanged}
