@@ -17,12 +17,12 @@ use Rattle.catalog.specs.asm_placement.Tables.{first_said, head_of, homes_in, if
 use Rattle.catalog.specs.asm_base.Records.{Ascend}
 use Rattle.catalog.proofs.asm_base.Exact.{bind_some, some_is, test_some}
 use Rattle.catalog.proofs.asm_base.ItemTables.{IsEntry}
-use Rattle.catalog.specs.file_directory.Entries.{is_file_entry as head_entry}
-use Rattle.catalog.specs.staleness_directory.MarkEntries.{is_marks_entry as marks_entry}
+use Rattle.catalog.specs.file_directory.Entries.{file_entries as head_laws}
+use Rattle.catalog.specs.staleness_directory.MarkEntries.{marks_entries as marks_laws}
 use Rattle.catalog.specs.asm_base.Chunks as chunk_order
 use Rattle.catalog.specs.file_directory.Files as files
 use Rattle.catalog.specs.extent_map.Extents as extents
-use Rattle.catalog.proofs.extent_map.Laws.{chunk_entry, chunk_total}
+use Rattle.catalog.proofs.extent_map.Laws.{chunk_entries as chunk_laws, chunk_total}
 use Rattle.catalog.specs.staleness_directory.Marks as stale
 use Rattle.catalog.specs.catalog_tables.Tables.{AreTables, Tables, item_at}
 use Rattle.catalog.specs.catalog_tables.Rules.{marks_of}
@@ -156,13 +156,13 @@ module _ (t : Tables) (items : List Item) (a : AreTables t) (is : AreItemsOf t i
   chunk_entries = record { into = λ x h. item_there (extents.item_of_chunk x) (a_chunk x h refl); back = λ x h. chunk_back x (is.to_table (extents.item_of_chunk x) h) }
 
   pub heads_are : (f : ℕ) → head_of items f ≡ files.head_at t.files f
-  heads_are f = head_said items f ∙ looks_up head_entry nat_cmp nat_cmp_total numbers_exact (λ (f g : ℕ). eqb g f) same_number t.files items a.files.0 head_entries f
+  heads_are f = head_said items f ∙ looks_up head_laws.0 nat_cmp nat_cmp_total numbers_exact (λ (f g : ℕ). eqb g f) same_number t.files items a.files.0 head_entries f
 
   pub homes_are : (f c : ℕ) → homes_in items f c ≡ extents.chunk_at t.extents (f, c)
-  homes_are f c = homes_said items f c ∙ looks_up chunk_entry chunk_order.chunk_cmp chunk_total chunks_exact is_chunk_at same_chunk t.extents items a.extents.0.0 chunk_entries (f, c)
+  homes_are f c = homes_said items f c ∙ looks_up chunk_laws.0 chunk_order.chunk_cmp chunk_total chunks_exact is_chunk_at same_chunk t.extents items a.extents.0.0 chunk_entries (f, c)
 
   pub marks_are : (f c : ℕ) → marks_in items f c ≡ stale.marks_at t.stale (f, c)
-  marks_are f c = marks_said items f c ∙ looks_up marks_entry chunk_order.chunk_cmp chunk_total chunks_exact is_chunk_at same_chunk t.stale items a.stale.0 marks_entries (f, c)
+  marks_are f c = marks_said items f c ∙ looks_up marks_laws.0 chunk_order.chunk_cmp chunk_total chunks_exact is_chunk_at same_chunk t.stale items a.stale.0 marks_entries (f, c)
 
   pub stale_are : (f i k : ℕ) → is_stale items f i k ≡ has_bit (marks_of t f i) k
   unfolding is_stale

@@ -20,7 +20,7 @@ use Rattle.catalog.specs.asm_base.Records.{Ascend}
 use Rattle.catalog.specs.file_directory.Files.{head_at}
 use Rattle.catalog.specs.extent_map.Extents.{Chunked, IsNumbered, chunked, item_of_chunk}
 use Rattle.catalog.specs.asm_base.Chunks.{Chunk, is_chunk_before}
-use Rattle.catalog.proofs.extent_map.Laws.{chunk_entry, table_numbered}
+use Rattle.catalog.proofs.extent_map.Laws.{chunk_entries as chunk_laws, table_numbered}
 use Rattle.catalog.specs.catalog_tables.Tables.{AreTables, Tables}
 use Rattle.catalog.specs.catalog_tables.Placing.{homes_of}
 use Rattle.catalog.specs.catalog_tables.Items.{AreItemsOf, SayTables, chunk_copies}
@@ -117,7 +117,7 @@ the_entry : (i : Item) → is_chunk i ≡ true → (x : Chunked) × (item_of_chu
 the_entry i e = by (chunked i) refl e where
   by : (o : Option Chunked) → chunked i ≡ o → is_some o ≡ true → (x : Chunked) × (item_of_chunk x ≡ i)
   by None is e = absurd cc
-  by (Some x) is e = (x, chunk_entry.there i x is)
+  by (Some x) is e = (x, chunk_laws.0.there i x is)
 
 module _ (t : Tables) (items : List Item) (a : AreTables t) (is : AreItemsOf t items) where
   chunks_are : filter is_chunk items ≡ map item_of_chunk t.extents

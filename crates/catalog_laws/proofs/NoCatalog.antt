@@ -2,6 +2,7 @@
 use Rattle.std.proofs.Common.{◌≡◌, ℕ, Bool, true, false, List, [], ◌∷◌, Option, Some, None, refl, sym, ap, subst, ◌∙◌, arith, inl, inr}
 use Rattle.std.specs.Prelude.{not, find}
 use Rattle.std.specs.List.{AllByRecursion, list_all}
+use Rattle.std.specs.Ordering.{nat_cmp}
 use Rattle.std.proofs.lemmas.Bool.{and_parts, true≢false}
 use Rattle.std.proofs.lemmas.Option.{none-some}
 use Rattle.asm_group.specs.Shape.{Shape}
@@ -44,13 +45,13 @@ same_of r t u e f = some_is t u (sym e ∙ f)
 -- the tables of some records are the only ones
 same_tables : (content : List DirectoryRecord) (t u : Tables) → AreTables t → HasRecords content t → AreTables u → HasRecords content u → t ≡ u
 same_tables content t u a h b g = λ i. record {
-  files = same_of (read_from files.is_key_of_file files.add_file_record [] content) t.files u.files (file_laws.table_again content _ t.files refl a.files h.files) (file_laws.table_again content _ u.files refl b.files g.files) i;
+  files = same_of (read_from files.is_key_of_file (files.add_record nat_cmp files.file_of_item) [] content) t.files u.files (file_laws.table_again content _ t.files refl a.files h.files) (file_laws.table_again content _ u.files refl b.files g.files) i;
   extents = same_of (extents.without_gap (read_from extents.is_chunk extents.add_chunk_record [] content)) t.extents u.extents (extent_laws.table_again content _ t.extents refl a.extents h.extents) (extent_laws.table_again content _ u.extents refl b.extents g.extents) i;
   nodes = same_of (read_from nodes.is_key_of_node (add_item nodes.is_before (entry_of_record nodes.node_of_item)) [] content) t.nodes u.nodes (node_laws.nodes_again content _ refl t.nodes a.nodes.items h.nodes) (node_laws.nodes_again content _ refl u.nodes b.nodes.items g.nodes) i;
   templates = same_of (templates.table_of (of_kinds templates.is_key_of_templates content)) t.templates u.templates (template_laws.table_again (of_kinds templates.is_key_of_templates content) _ t.templates refl a.templates h.templates) (template_laws.table_again (of_kinds templates.is_key_of_templates content) _ u.templates refl b.templates g.templates) i;
-  stale = same_of (read_from stale.is_marks stale.add_marks_record [] content) t.stale u.stale (stale_laws.table_again content _ t.stale refl a.stale h.stale) (stale_laws.table_again content _ u.stale refl b.stale g.stale) i;
+  stale = same_of (read_from stale.is_marks (stale.add_record chunk_order.chunk_cmp stale.marks_of_item) [] content) t.stale u.stale (stale_laws.table_again content _ t.stale refl a.stale h.stale) (stale_laws.table_again content _ u.stale refl b.stale g.stale) i;
   operations = same_of (read_from operations.is_operation operation_readings.add_operation_record operations.nothing_begun content) t.operations u.operations (operation_laws.table_again content _ t.operations refl a.operations h.operations) (operation_laws.table_again content _ u.operations refl b.operations g.operations) i;
-  disks = same_of (read_from disks.is_key_of_disk disks.add_disk_record [] content) t.disks u.disks (disk_laws.table_again content _ t.disks refl a.disks h.disks) (disk_laws.table_again content _ u.disks refl b.disks g.disks) i;
+  disks = same_of (read_from disks.is_key_of_disk (disks.add_record nat_cmp disks.disk_of_item) [] content) t.disks u.disks (disk_laws.table_again content _ t.disks refl a.disks h.disks) (disk_laws.table_again content _ u.disks refl b.disks g.disks) i;
 }
 
 -- ---- rules of the tables
@@ -109,7 +110,7 @@ no_loose content u n b g f =
 no_chunk_gap : (content : List DirectoryRecord) (u : Tables) (at : chunk_order.Chunk) → AreTables u → HasRecords content u → HasGap content at → ⊥
 no_chunk_gap content u at b g h =
     let read = read_from extents.is_chunk extents.add_chunk_record [] content in
-    let same : h.table ≡ u.extents = same_of read h.table u.extents (items_again extent_laws.chunk_entry extents.is_chunk chunk_order.is_chunk_before content read h.table refl h.items h.same) (items_again extent_laws.chunk_entry extents.is_chunk chunk_order.is_chunk_before content read u.extents refl b.extents.0 g.extents) in
+    let same : h.table ≡ u.extents = same_of read h.table u.extents (items_again extent_laws.chunk_entries.0 extents.is_chunk chunk_order.is_chunk_before content read h.table refl h.items h.same) (items_again extent_laws.chunk_entries.0 extents.is_chunk chunk_order.is_chunk_before content read u.extents refl b.extents.0 g.extents) in
     no_gap None u.extents at (subst (λ (t : List extents.Chunked). gap_from None t ≡ Some at) same h.gap) b.extents.1
 
 -- ---- records that must be there

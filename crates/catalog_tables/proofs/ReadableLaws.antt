@@ -17,7 +17,7 @@ use Rattle.asm_base.specs.Records.{Ascend, DirectoryRecord, is_key, key_cmp, key
 use Rattle.asm_base.specs.Tables.{IsItemTable, item_record}
 use Rattle.asm_base.specs.Chunks as chunk_order
 use Rattle.file_directory.specs.Files as files
-use Rattle.file_directory.specs.Entries.{are_file_entries as files_are_entries}
+use Rattle.file_directory.specs.Entries.{file_entries}
 use Rattle.extent_map.specs.Extents as extents
 use Rattle.extent_map.specs.Faults.{IsWithoutGap}
 use Rattle.extent_map.proofs.Laws.{chunk_entries}
@@ -25,13 +25,13 @@ use Rattle.alias_tree.specs.Nodes as nodes
 use Rattle.alias_tree.specs.Faults.{IsWithoutFault}
 use Rattle.template_directory.specs.Tables as templates
 use Rattle.staleness_directory.specs.Marks as stale
-use Rattle.staleness_directory.specs.MarkEntries.{are_marks_entries as marks_are_entries}
+use Rattle.staleness_directory.specs.MarkEntries.{marks_entries}
 use Rattle.operations_directory.specs.Operations as operations
 use Rattle.operations_directory.specs.Readings.{item_of_operation}
 use Rattle.operations_directory.specs.declared.reading.Operation.{Operation}
 use Rattle.operations_directory.specs.declared.reading.Operation.TheVariants.{Rebalance, Pending as PendingOne}
 use Rattle.disk_directory.specs.Disks as disks
-use Rattle.disk_directory.specs.DiskEntries.{are_disk_entries as disks_are_entries}
+use Rattle.disk_directory.specs.DiskEntries.{disk_entries}
 use Rattle.catalog_tables.specs.Tables.{first_unreadable}
 use Rattle.catalog_tables.specs.Faults.{settings_key, templates_key}
 use Rattle.catalog_tables.specs.Readable.{AreReadable, HasNeeded}
@@ -145,7 +145,7 @@ module _ {K T : Type 0} {p : Key → Bool} {is_below : K → K → Bool} {item_o
 -- ---- the kinds
 
 file_kind : IsKind files.is_key_of_file files.is_lower_file files.item_of_file_head
-file_kind = record { entry = files_are_entries; below = λ x y e. then_equal (nat_cmp x.0 y.0) e }
+file_kind = record { entry = file_entries.1; below = λ x y e. then_equal (nat_cmp x.0 y.0) e }
 
 -- chunk c has the number c + 1 in its key
 next_cmp : (c d : ℕ) → nat_cmp (c + 1) (d + 1) ≡ nat_cmp c d
@@ -156,7 +156,7 @@ next_cmp c d = by (nat_cmp c d) refl where
   by Greater e = grind (arith, e)
 
 chunk_kind : IsKind extents.is_chunk chunk_order.is_chunk_before extents.item_of_chunk
-chunk_kind = record { entry = chunk_entries; below = below } where
+chunk_kind = record { entry = chunk_entries.1; below = below } where
   below : (x y : extents.Chunked) → key_cmp (item_key (extents.item_of_chunk x)) (item_key (extents.item_of_chunk y)) ≡ Less → chunk_order.is_chunk_before x.0 y.0 ≡ true
   below x y e = ap is_lt (ap (ordering_then (nat_cmp x.0.0 y.0.0)) (sym (next_cmp x.0.1 y.0.1)) ∙ e)
 
@@ -167,10 +167,10 @@ node_kind = record { entry = entry; below = λ x y e. then_equal (nat_cmp x.0 y.
   entry _ e = absurd cc
 
 marks_kind : IsKind stale.is_marks chunk_order.is_chunk_before stale.item_of_marks
-marks_kind = record { entry = marks_are_entries; below = λ x y e. ap is_lt e }
+marks_kind = record { entry = marks_entries.1; below = λ x y e. ap is_lt e }
 
 disk_kind : IsKind disks.is_key_of_disk disks.is_lower_disk disks.item_of_disk
-disk_kind = record { entry = disks_are_entries; below = λ x y e. then_equal (nat_cmp x.0 y.0) e }
+disk_kind = record { entry = disk_entries.1; below = λ x y e. then_equal (nat_cmp x.0 y.0) e }
 
 -- ---- templates and settings
 

@@ -16,8 +16,8 @@ use Rattle.asm_base.proofs.ItemTables.{entry_is_read}
 use Rattle.record_values.specs.Values.{disk_reading}
 use Rattle.record_values.proofs.Disks.{disk_decoded}
 use Rattle.item_table.proofs.Laws as tables
-use Rattle.disk_directory.specs.DiskEntries.{is_disk_entry}
-use Rattle.disk_directory.specs.Disks.{Disk, IsDiskTable, add_disk_record, disk_of_item, info_at, is_key_of_disk, item_of_disk, record_of_disk, disk_value_at, with_info, without_disk}
+use Rattle.disk_directory.specs.DiskEntries.{disk_entries}
+use Rattle.disk_directory.specs.Disks.{Disk, IsDiskTable, add_record, disk_of_item, info_at, is_key_of_disk, item_of_disk, record_of_disk, disk_value_at, with_info, without_disk}
 
 -- the disk of a record of its kind is read from its value
 pub info_is_read : (k : Key) (bytes : List ℕ) → is_key_of_disk k ≡ true → entry_of_record disk_of_item (k, bytes) ≡ option_map (λ d. (k.a, d)) (all_of disk_reading bytes)
@@ -25,7 +25,7 @@ info_is_read k bytes mine =
     let p = and_parts (eqb k.kind 2) _ mine in
     let q = and_parts (eqb k.b 0) (ltb k.a 64) p.1 in
     let same : record { kind = 2; a = k.a; b = 0 } ≡ k = λ i. record { kind = sym (eqb-true k.kind 2 p.0) i; a = k.a; b = sym (eqb-true k.b 0 q.0) i } in
-    entry_is_read is_disk_entry (disk_item k.a) (λ d. (k.a, d)) (λ d. refl) (k, bytes) (all_of disk_reading bytes) (disk_decoded k.a bytes (ltb-true k.a 64 q.1) ∙ ap (λ (j : Key). decoded_item j bytes) same)
+    entry_is_read disk_entries.0 (disk_item k.a) (λ d. (k.a, d)) (λ d. refl) (k, bytes) (all_of disk_reading bytes) (disk_decoded k.a bytes (ltb-true k.a 64 q.1) ∙ ap (λ (j : Key). decoded_item j bytes) same)
 
 -- a table with another record of a disk, or without it
 pub put_keeps_table : (disks : List Disk) (n : ℕ) (d : DiskInfo) → is_item (disk_item n d) ≡ true → IsDiskTable disks → IsDiskTable (with_info disks n d)
@@ -38,11 +38,11 @@ pub record_gone : (old new : List Disk) (n : ℕ) → ((d : ℕ) → info_at new
     → (d : ℕ) → disk_value_at new d ≡ cond (is_at (nat_cmp n) d) None (disk_value_at old d)
 record_gone old new n all d = tables.record_gone nat_cmp item_of_disk old new n all d
 
-pub table_found : (records : List DirectoryRecord) (read : Option (List Disk)) → read ≡ read_from is_key_of_disk add_disk_record [] records → IfSome read (λ t. IsDiskTable t × (of_kinds is_key_of_disk records ≡ map record_of_disk t))
-table_found records read e = tables.table_found is_disk_entry is_key_of_disk nat_cmp records read e
+pub table_found : (records : List DirectoryRecord) (read : Option (List Disk)) → read ≡ read_from is_key_of_disk (add_record nat_cmp disk_of_item) [] records → IfSome read (λ t. IsDiskTable t × (of_kinds is_key_of_disk records ≡ map record_of_disk t))
+table_found records read e = tables.table_found disk_entries.0 is_key_of_disk nat_cmp records read e
 
-pub table_again : (records : List DirectoryRecord) (read : Option (List Disk)) (t : List Disk) → read ≡ read_from is_key_of_disk add_disk_record [] records → IsDiskTable t → of_kinds is_key_of_disk records ≡ map record_of_disk t → read ≡ Some t
-table_again records read t e fits same = tables.table_again is_disk_entry is_key_of_disk nat_cmp records read t e fits same
+pub table_again : (records : List DirectoryRecord) (read : Option (List Disk)) (t : List Disk) → read ≡ read_from is_key_of_disk (add_record nat_cmp disk_of_item) [] records → IsDiskTable t → of_kinds is_key_of_disk records ≡ map record_of_disk t → read ≡ Some t
+table_again records read t e fits same = tables.table_again disk_entries.0 is_key_of_disk nat_cmp records read t e fits same
 
 pub is_allowed_item : (d birth : ℕ) (name failgroup : List ℕ) → birth < 2 ^ 64 → is_item (disk_item d (record { birth = birth; name = name; failgroup = failgroup })) ≡ (ltb d 64 && (is_name name && is_name failgroup))
 unfolding is_item

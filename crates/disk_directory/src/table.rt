@@ -9,7 +9,7 @@ ghost use Rattle.asm_base.specs.Tables.{entry_of_record};
 ghost use Rattle.record_values.specs.Values.{disk_reading};
 ghost use Rattle.disk_directory.specs.Disks as disks;
 ghost use Rattle.disk_directory.specs.Disks.{disk_of_item, is_key_of_disk};
-ghost use Rattle.disk_directory.specs.DiskEntries.{are_disk_entries, is_disk_entry};
+ghost use Rattle.disk_directory.specs.DiskEntries.{disk_entries};
 
 use crate::disk_info::DiskInfo;
 use asm_base::{Key, NoMemory, Reader, Value, is_at_end, record_kind, take_u64};
@@ -48,9 +48,9 @@ impl Listed<u32> for DiskInfo {
         self.copy()
     }
 
-    ghost is_entry = { is_disk_entry };
+    ghost is_entry = { disk_entries.0 };
 
-    ghost are_entries = { are_disk_entries };
+    ghost are_entries = { disk_entries.1 };
 
     ghost exact = { nat_cmp-IsAntisymmetric };
 }

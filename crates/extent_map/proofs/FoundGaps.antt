@@ -7,11 +7,11 @@ use Rattle.asm_base.proofs.ItemTables.{items_again, items_found}
 use Rattle.extent_map.specs.Extents.{Chunked, add_chunk_record, has_no_gap, is_chunk, opened, stands_at}
 use Rattle.asm_base.specs.Chunks.{Chunk, is_chunk_before}
 use Rattle.extent_map.specs.Faults.{HasGap, IsWithoutGap, gap_from}
-use Rattle.extent_map.proofs.Laws.{chunk_entry}
+use Rattle.extent_map.proofs.Laws.{chunk_entries}
 
 pub gap_is : (records : List DirectoryRecord) (read : Option (List Chunked)) (t : List Chunked) (at : Chunk) → read ≡ read_from is_chunk add_chunk_record [] records → read ≡ Some t → gap_from None t ≡ Some at → HasGap records at
 gap_is records read t at e some gap =
-    let f = items_found chunk_entry is_chunk is_chunk_before records (Some t) (sym some ∙ e) in
+    let f = items_found chunk_entries.0 is_chunk is_chunk_before records (Some t) (sym some ∙ e) in
     record { table = t; items = f.0; same = f.1; gap = gap }
 
 none_gap : (past : Option Chunk) (t : List Chunked) → gap_from past t ≡ None → has_no_gap past t ≡ true
@@ -23,8 +23,8 @@ none_gap past (x ∷ t) e = by (stands_at past x) refl (none_gap (opened x) t) w
 
 pub no_gap_is : (records : List DirectoryRecord) (read : Option (List Chunked)) (t : List Chunked) → read ≡ read_from is_chunk add_chunk_record [] records → read ≡ Some t → gap_from None t ≡ None → IsWithoutGap records
 no_gap_is records read t e some none u fits same =
-    let again = items_again chunk_entry is_chunk is_chunk_before records read u e fits same in
+    let again = items_again chunk_entries.0 is_chunk is_chunk_before records read u e fits same in
     subst (λ (v : List Chunked). has_no_gap None v ≡ true) (some_is t u (sym some ∙ again)) (none_gap None t none)
 
 pub no_table_is : (records : List DirectoryRecord) (read : Option (List Chunked)) → read ≡ read_from is_chunk add_chunk_record [] records → read ≡ None → IsWithoutGap records
-no_table_is records read e none u fits same = absurd (none-some u (sym none ∙ items_again chunk_entry is_chunk is_chunk_before records read u e fits same))
+no_table_is records read e none u fits same = absurd (none-some u (sym none ∙ items_again chunk_entries.0 is_chunk is_chunk_before records read u e fits same))

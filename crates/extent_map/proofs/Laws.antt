@@ -11,7 +11,7 @@ use Rattle.asm_base.specs.Records.{DirectoryRecord, of_kinds, read_from, Ascend,
 use Rattle.asm_base.specs.Tables.{entry_of_record}
 use Rattle.asm_base.proofs.Exact.{bind_some, test_some}
 use Rattle.asm_base.proofs.ItemTables.{AreEntries, IsEntry, entry_is_read, entry_taken, items_found, items_again}
-use Rattle.item_table.proofs.Entries.{IsKnown, entries_by, entry_by}
+use Rattle.item_table.proofs.Entries.{IsKnown, entry_laws}
 use Rattle.extent_map.specs.Extents.{absent_homes, Chunked, IsNumbered, IsExtentTable, add_chunk_record, chunk_key, chunked, has_no_gap, chunk_at, is_chunk, item_of_chunk, record_of_chunk, with_chunk, with_extent, without_gap}
 use Rattle.asm_base.specs.Chunks.{chunk_cmp, is_chunk_before}
 pub use Rattle.asm_base.proofs.Chunks.{chunk_total, same_chunk}
@@ -23,11 +23,8 @@ each_item : (i : Item) → IsKnown is_chunk item_of_chunk chunked i
 each_item (chunk_item f c homes) = inl (((f, c), homes), refl)
 each_item _ = inr (refl, refl)
 
-pub chunk_entry : IsEntry item_of_chunk chunked
-chunk_entry = entry_by is_chunk item_of_chunk chunked each_item (λ x. refl)
-
-pub chunk_entries : AreEntries is_chunk item_of_chunk
-chunk_entries = entries_by is_chunk item_of_chunk chunked each_item
+pub chunk_entries : IsEntry item_of_chunk chunked × AreEntries is_chunk item_of_chunk
+chunk_entries = entry_laws is_chunk item_of_chunk chunked each_item (λ x. refl)
 
 -- ---- one record more
 
@@ -45,13 +42,13 @@ mine f c k at =
 pub entry_read : (k : Key) (f c : ℕ) → chunk_key f c ≡ k → (v bytes : List ℕ) (read : Option (List Homes)) → bytes ≡ v → option_map (chunk_item f c) read ≡ decoded_item (chunk_key f c) bytes
     → entry_of_record chunked (k, v) ≡ option_map (λ homes. ((f, c), homes)) read
 entry_read k f c at v bytes read is e =
-    entry_is_read chunk_entry (chunk_item f c) (λ homes. ((f, c), homes)) (λ homes. refl) (k, v) read (e ∙ ap (decoded_item (chunk_key f c)) is ∙ ap (λ (j : Key). decoded_item j v) at)
+    entry_is_read chunk_entries.0 (chunk_item f c) (λ homes. ((f, c), homes)) (λ homes. refl) (k, v) read (e ∙ ap (decoded_item (chunk_key f c)) is ∙ ap (λ (j : Key). decoded_item j v) at)
 
 pub taken_step : (items new : List Chunked) (k : Key) (f c : ℕ) → chunk_key f c ≡ k → (v bytes : List ℕ) (homes : List Homes) → bytes ≡ v → Ascend is_chunk_before items
     → option_map (chunk_item f c) (Some homes) ≡ decoded_item (chunk_key f c) bytes → ends_below is_chunk_before items (f, c) ≡ true → new ≡ with_chunk items (f, c) homes
     → (cond (is_chunk k) (add_chunk_record items (k, v)) (Some items) ≡ Some new) × Ascend is_chunk_before new
 taken_step items new k f c at v bytes homes is up read ends put =
-    let t = entry_taken chunk_entry chunk_cmp chunk_total items new (k, v) ((f, c), homes) up (entry_read k f c at v bytes (Some homes) is read) ends put in
+    let t = entry_taken chunk_entries.0 chunk_cmp chunk_total items new (k, v) ((f, c), homes) up (entry_read k f c at v bytes (Some homes) is read) ends put in
     (rw (mine f c k at) t.0, t.1)
 
 pub not_chunk : (items : List Chunked) (k : Key) (f c : ℕ) → chunk_key f c ≡ k → (v bytes : List ℕ) → bytes ≡ v → option_map (chunk_item f c) None ≡ decoded_item (chunk_key f c) bytes
@@ -69,12 +66,12 @@ table_found records None e = tt
 table_found records (Some t) e =
     let b = bind_some (λ (u : List Chunked). cond (has_no_gap None u) (Some u) None) (read_from is_chunk add_chunk_record [] records) t (sym e) in
     let g = test_some (has_no_gap None b.0) b.0 t b.2 in
-    let f = items_found chunk_entry is_chunk is_chunk_before records (Some b.0) (sym b.1) in
+    let f = items_found chunk_entries.0 is_chunk is_chunk_before records (Some b.0) (sym b.1) in
     subst (λ (u : List Chunked). IsExtentTable u × (of_kinds is_chunk records ≡ map record_of_chunk u)) g.1 ((f.0, g.0), f.1)
 
 pub table_again : (records : List DirectoryRecord) (read : Option (List Chunked)) (t : List Chunked) → read ≡ without_gap (read_from is_chunk add_chunk_record [] records) → IsExtentTable t → of_kinds is_chunk records ≡ map record_of_chunk t → read ≡ Some t
 table_again records read t e fits same =
-    let all = items_again chunk_entry is_chunk is_chunk_before records (read_from is_chunk add_chunk_record [] records) t refl fits.0 same in
+    let all = items_again chunk_entries.0 is_chunk is_chunk_before records (read_from is_chunk add_chunk_record [] records) t refl fits.0 same in
     e ∙ rw (all, fits.1) refl
 
 -- each chunk of a table has a number with room in its key

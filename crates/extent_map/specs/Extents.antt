@@ -7,24 +7,14 @@ use Rattle.std.specs.Option.{is_some, option_and_then, unwrap_or}
 use Rattle.asm_formats.specs.Items.{Homes, Item, chunk_item, chunk_len, is_homes, Key, files_kind}
 use Rattle.asm_base.specs.Records.{DirectoryRecord}
 use Rattle.asm_base.specs.Chunks.{Chunk, chunk_cmp}
-use Rattle.item_table.specs.Tables.{IsTable as IsKeyTable, add_record as key_add, at_key, from_key, record_of as key_record, with_key, without_key}
+use Rattle.item_table.specs.Tables.{IsTable as IsKeyTable, add_record as key_add, record_of as key_record}
+
+-- the extents of a chunk, the table with other extents of it or without it, and the chunks from one on, in order
+pub use Rattle.item_table.specs.Chunks.{at_chunk as chunk_at, with_chunk, without_chunk, from_chunk as chunks_from}
 
 -- a chunk's extents, each with the homes of three copies
 abbrev pub Chunked : Type 0
 Chunked = Chunk × List Homes
-
-abbrev pub chunk_at : List Chunked → Chunk → Option (List Homes)
-chunk_at table chunk = at_key chunk_cmp table chunk
-
-abbrev pub with_chunk : List Chunked → Chunk → List Homes → List Chunked
-with_chunk table chunk homes = with_key chunk_cmp table chunk homes
-
-abbrev pub without_chunk : List Chunked → Chunk → List Chunked
-without_chunk table chunk = without_key chunk_cmp table chunk
-
--- the chunks from this one on, in order
-abbrev pub chunks_from : List Chunked → Chunk → List Chunked
-chunks_from table chunk = from_key chunk_cmp table chunk
 
 -- ---- extents
 

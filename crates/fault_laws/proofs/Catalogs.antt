@@ -1,8 +1,10 @@
 -- Records that describe a group have a catalog.
 use Rattle.std.proofs.Common.{◌≡◌, true, List, [], map, Option, Some, None, refl, inl, inr}
 use Rattle.std.specs.Prelude.{IfSome, is_some}
+use Rattle.std.specs.Ordering.{nat_cmp}
 use Rattle.asm_group.specs.Group.{Group}
 use Rattle.asm_formats.specs.Status.{Status}
+use Rattle.asm_base.specs.Chunks.{chunk_cmp}
 use Rattle.asm_base.specs.Records.{DirectoryRecord, add_item, of_kinds, read_from, record_at}
 use Rattle.asm_base.specs.Tables.{IsItemTable, entry_of_record}
 use Rattle.file_directory.specs.Files as files
@@ -52,7 +54,7 @@ module _ (r : Status) (content : List DirectoryRecord) (g : Group) (i : Describe
   -- ---- each table is made of the records
 
   abbrev files_in : Option (List files.NumberedFile)
-  files_in = read_from files.is_key_of_file files.add_file_record [] content
+  files_in = read_from files.is_key_of_file (files.add_record nat_cmp files.file_of_item) [] content
 
   files_there : (t : List files.NumberedFile) × files.IsFileTable t × (of_kinds files.is_key_of_file content ≡ map files.record_of_file t)
   files_there = is_read files.IsFileTable (λ t. of_kinds files.is_key_of_file content ≡ map files.record_of_file t) files_in
@@ -85,7 +87,7 @@ module _ (r : Status) (content : List DirectoryRecord) (g : Group) (i : Describe
       (template_laws.table_found (of_kinds templates.is_key_of_templates content) templates_in refl)
 
   abbrev marks_in : Option (List stale.Marked)
-  marks_in = read_from stale.is_marks stale.add_marks_record [] content
+  marks_in = read_from stale.is_marks (stale.add_record chunk_cmp stale.marks_of_item) [] content
 
   marks_there : (t : List stale.Marked) × stale.IsMarkTable t × (of_kinds stale.is_marks content ≡ map stale.record_of_marks t)
   marks_there = is_read stale.IsMarkTable (λ t. of_kinds stale.is_marks content ≡ map stale.record_of_marks t) marks_in
@@ -99,7 +101,7 @@ module _ (r : Status) (content : List DirectoryRecord) (g : Group) (i : Describe
       (operations_read content operations_in are (λ t fits same. operation_laws.table_again content operations_in t refl fits same)) (operation_laws.table_found content operations_in refl)
 
   abbrev disks_in : Option (List disks.Disk)
-  disks_in = read_from disks.is_key_of_disk disks.add_disk_record [] content
+  disks_in = read_from disks.is_key_of_disk (disks.add_record nat_cmp disks.disk_of_item) [] content
 
   disks_there : (t : List disks.Disk) × disks.IsDiskTable t × (of_kinds disks.is_key_of_disk content ≡ map disks.record_of_disk t)
   disks_there = is_read disks.IsDiskTable (λ t. of_kinds disks.is_key_of_disk content ≡ map disks.record_of_disk t) disks_in

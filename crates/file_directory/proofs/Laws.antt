@@ -17,8 +17,8 @@ use Rattle.asm_base.proofs.ItemTables.{entry_is_read}
 use Rattle.record_values.specs.Values.{file_reading}
 use Rattle.record_values.proofs.Files.{file_decoded, file_fits}
 use Rattle.item_table.proofs.Laws as tables
-use Rattle.file_directory.specs.Files.{NumberedFile, IsFileTable, add_file_record, file_of_item, is_key_of_file, item_of_file_head, record_of_file, with_head, without_head}
-use Rattle.file_directory.specs.Entries.{is_file_entry}
+use Rattle.file_directory.specs.Files.{NumberedFile, IsFileTable, add_record, file_of_item, is_key_of_file, item_of_file_head, record_of_file, with_head, without_head}
+use Rattle.file_directory.specs.Entries.{file_entries}
 
 -- ---- what a file's record may be
 
@@ -45,7 +45,7 @@ pub file_is_read : (k : Key) (bytes : List ℕ) → k.a < 2 ^ 32 → is_key_of_f
 file_is_read k bytes lt mine =
     let p = and_parts (eqb k.kind 1) (eqb k.b 0) mine in
     let same : record { kind = 1; a = k.a; b = 0 } ≡ k = λ i. record { kind = sym (eqb-true k.kind 1 p.0) i; a = k.a; b = sym (eqb-true k.b 0 p.1) i } in
-    entry_is_read is_file_entry (file_item k.a) (λ h. (k.a, h)) (λ h. refl) (k, bytes) (all_of file_reading bytes) (file_decoded k.a bytes lt ∙ ap (λ (j : Key). decoded_item j bytes) same)
+    entry_is_read file_entries.0 (file_item k.a) (λ h. (k.a, h)) (λ h. refl) (k, bytes) (all_of file_reading bytes) (file_decoded k.a bytes lt ∙ ap (λ (j : Key). decoded_item j bytes) same)
 
 -- a table with another head of a file, or without it
 pub put_keeps_table : (files : List NumberedFile) (f : ℕ) (h : FileHead) → is_item (file_item f h) ≡ true → IsFileTable files → IsFileTable (with_head files f h)
@@ -54,11 +54,11 @@ put_keeps_table files f h ok t = tables.put_keeps_table nat_cmp_total nat_cmp-Is
 pub remove_keeps_table : (files : List NumberedFile) (f : ℕ) → IsFileTable files → IsFileTable (without_head files f)
 remove_keeps_table files f t = tables.remove_keeps_table nat_cmp_total item_of_file_head files f t
 
-pub table_found : (records : List DirectoryRecord) (read : Option (List NumberedFile)) → read ≡ read_from is_key_of_file add_file_record [] records → IfSome read (λ t. IsFileTable t × (of_kinds is_key_of_file records ≡ map record_of_file t))
-table_found records read e = tables.table_found is_file_entry is_key_of_file nat_cmp records read e
+pub table_found : (records : List DirectoryRecord) (read : Option (List NumberedFile)) → read ≡ read_from is_key_of_file (add_record nat_cmp file_of_item) [] records → IfSome read (λ t. IsFileTable t × (of_kinds is_key_of_file records ≡ map record_of_file t))
+table_found records read e = tables.table_found file_entries.0 is_key_of_file nat_cmp records read e
 
-pub table_again : (records : List DirectoryRecord) (read : Option (List NumberedFile)) (t : List NumberedFile) → read ≡ read_from is_key_of_file add_file_record [] records → IsFileTable t → of_kinds is_key_of_file records ≡ map record_of_file t → read ≡ Some t
-table_again records read t e fits same = tables.table_again is_file_entry is_key_of_file nat_cmp records read t e fits same
+pub table_again : (records : List DirectoryRecord) (read : Option (List NumberedFile)) (t : List NumberedFile) → read ≡ read_from is_key_of_file (add_record nat_cmp file_of_item) [] records → IsFileTable t → of_kinds is_key_of_file records ≡ map record_of_file t → read ≡ Some t
+table_again records read t e fits same = tables.table_again file_entries.0 is_key_of_file nat_cmp records read t e fits same
 
 -- ---- the test of a head
 

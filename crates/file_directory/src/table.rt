@@ -2,7 +2,7 @@
 
 ghost use Rattle.std.specs.FinMap.{nat_cmp-IsAntisymmetric};
 ghost use Rattle.file_directory.specs.Files as files;
-ghost use Rattle.file_directory.specs.Entries.{are_file_entries, is_file_entry};
+ghost use Rattle.file_directory.specs.Entries.{file_entries};
 
 use crate::head::FileHead;
 use crate::reading::head_in;
@@ -39,9 +39,9 @@ impl Listed<u32> for FileHead {
         self.copy()
     }
 
-    ghost is_entry = { is_file_entry };
+    ghost is_entry = { file_entries.0 };
 
-    ghost are_entries = { are_file_entries };
+    ghost are_entries = { file_entries.1 };
 
     ghost exact = { nat_cmp-IsAntisymmetric };
 }

@@ -10,17 +10,18 @@ use Rattle.asm_base.proofs.ItemTables.{AreEntries, IsEntry}
 abbrev pub IsKnown : {X : Type 0} → (Key → Bool) → (X → Item) → (Item → Option X) → Item → Type 0
 IsKnown {X} is_mine item_of entry_of i = ((x : X) × (i ≡ item_of x)) ⊎ ((is_mine (item_key i) ≡ false) × (entry_of i ≡ None))
 
-pub entry_by : {X : Type 0} (is_mine : Key → Bool) (item_of : X → Item) (entry_of : Item → Option X) → ((i : Item) → IsKnown is_mine item_of entry_of i)
-    → ((x : X) → entry_of (item_of x) ≡ Some x) → IsEntry item_of entry_of
-entry_by {X} is_mine item_of entry_of each back = record { there = there; back = back } where
+-- an item is the entry whose item it is, and each item of such a key is that of an entry
+pub entry_laws : {X : Type 0} (is_mine : Key → Bool) (item_of : X → Item) (entry_of : Item → Option X) → ((i : Item) → IsKnown is_mine item_of entry_of i)
+    → ((x : X) → entry_of (item_of x) ≡ Some x) → IsEntry item_of entry_of × AreEntries is_mine item_of
+entry_laws {X} is_mine item_of entry_of each back = (record { there = there; back = back }, are) where
   there : (i : Item) (x : X) → entry_of i ≡ Some x → item_of x ≡ i
   there i x e = elim (each i) [
     | inl y ↦ ap item_of (some_is x y.0 (sym e ∙ (ap entry_of y.1 ∙ back y.0))) ∙ sym y.1
     | inr n ↦ absurd (none-some x (sym n.1 ∙ e))
   ]
 
-pub entries_by : {X : Type 0} (is_mine : Key → Bool) (item_of : X → Item) (entry_of : Item → Option X) → ((i : Item) → IsKnown is_mine item_of entry_of i) → AreEntries is_mine item_of
-entries_by is_mine item_of entry_of each i mine = elim (each i) [
-  | inl y ↦ y
-  | inr n ↦ absurd (true≢false (sym mine ∙ n.0))
-]
+  are : AreEntries is_mine item_of
+  are i mine = elim (each i) [
+    | inl y ↦ y
+    | inr n ↦ absurd (true≢false (sym mine ∙ n.0))
+  ]

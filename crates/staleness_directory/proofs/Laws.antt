@@ -12,8 +12,8 @@ use Rattle.asm_base.proofs.Chunks.{chunk_total, same_chunk}
 use Rattle.asm_base.proofs.Exact.{test_some}
 use Rattle.asm_base.proofs.ItemTables.{item_is_decoded, entry_is_read}
 use Rattle.item_table.proofs.Laws as tables
-use Rattle.staleness_directory.specs.MarkEntries.{are_marks_entries, is_marks_entry}
-use Rattle.staleness_directory.specs.Marks.{Marked, marks_chunk_key, with_marks, without_marks, item_of_marks, record_of_marks, is_marks, marks_of_item, IsMarkTable, add_marks_record, are_marks, read_marks}
+use Rattle.staleness_directory.specs.MarkEntries.{marks_entries}
+use Rattle.staleness_directory.specs.Marks.{Marked, marks_chunk_key, with_marks, without_marks, item_of_marks, record_of_marks, is_marks, marks_of_item, IsMarkTable, add_record, are_marks, read_marks}
 
 -- ---- marks and their records
 
@@ -60,7 +60,7 @@ marks_only f c bytes ((g, d), marks) ok at e =
 -- an item of a chunk's key is that of its marks
 item_only : (f c : ℕ) (bytes : List ℕ) (i : Item) → is_item i ≡ true → item_key i ≡ marks_chunk_key f c → bytes ≡ value i → read_item f c bytes ≡ Some i
 item_only f c bytes i ok at e =
-    let x = are_marks_entries i (ap is_marks at) in
+    let x = marks_entries.1 i (ap is_marks at) in
     subst (λ (j : Item). is_item j ≡ true → item_key j ≡ marks_chunk_key f c → bytes ≡ value j → read_item f c bytes ≡ Some j) (sym x.1) (marks_only f c bytes x.0) ok at e
 
 value_is_read : (f c : ℕ) (bytes : List ℕ) → f < 2 ^ 32 → option_map (marks_item f c) (read_marks c bytes) ≡ decoded_item (marks_chunk_key f c) bytes
@@ -71,15 +71,15 @@ value_is_read f c bytes file = item_is_decoded (marks_chunk_key f c) bytes (read
 pub marks_are_read : (k : Key) (bytes : List ℕ) → k.a < 2 ^ 32 → is_marks k ≡ true → entry_of_record marks_of_item (k, bytes) ≡ option_map (λ marks. ((k.a, k.b), marks)) (read_marks k.b bytes)
 marks_are_read k bytes file mine =
     let same : marks_chunk_key k.a k.b ≡ k = λ i. record { kind = sym (eqb-true k.kind 12 mine) i; a = k.a; b = k.b } in
-    entry_is_read is_marks_entry (marks_item k.a k.b) (λ marks. ((k.a, k.b), marks)) (λ marks. refl) (k, bytes) (read_marks k.b bytes) (value_is_read k.a k.b bytes file ∙ ap (λ (j : Key). decoded_item j bytes) same)
+    entry_is_read marks_entries.0 (marks_item k.a k.b) (λ marks. ((k.a, k.b), marks)) (λ marks. refl) (k, bytes) (read_marks k.b bytes) (value_is_read k.a k.b bytes file ∙ ap (λ (j : Key). decoded_item j bytes) same)
 
 -- ---- the table
 
-pub table_found : (records : List DirectoryRecord) (read : Option (List Marked)) → read ≡ read_from is_marks add_marks_record [] records → IfSome read (λ t. IsMarkTable t × (of_kinds is_marks records ≡ map record_of_marks t))
-table_found records read e = tables.table_found is_marks_entry is_marks chunk_cmp records read e
+pub table_found : (records : List DirectoryRecord) (read : Option (List Marked)) → read ≡ read_from is_marks (add_record chunk_cmp marks_of_item) [] records → IfSome read (λ t. IsMarkTable t × (of_kinds is_marks records ≡ map record_of_marks t))
+table_found records read e = tables.table_found marks_entries.0 is_marks chunk_cmp records read e
 
-pub table_again : (records : List DirectoryRecord) (read : Option (List Marked)) (t : List Marked) → read ≡ read_from is_marks add_marks_record [] records → IsMarkTable t → of_kinds is_marks records ≡ map record_of_marks t → read ≡ Some t
-table_again records read t e fits same = tables.table_again is_marks_entry is_marks chunk_cmp records read t e fits same
+pub table_again : (records : List DirectoryRecord) (read : Option (List Marked)) (t : List Marked) → read ≡ read_from is_marks (add_record chunk_cmp marks_of_item) [] records → IsMarkTable t → of_kinds is_marks records ≡ map record_of_marks t → read ≡ Some t
+table_again records read t e fits same = tables.table_again marks_entries.0 is_marks chunk_cmp records read t e fits same
 
 pub put_keeps_table : (t : List Marked) (chunk : Chunk) (marks : List ℕ) → is_item (item_of_marks (chunk, marks)) ≡ true → IsMarkTable t → IsMarkTable (with_marks t chunk marks)
 put_keeps_table t chunk marks ok fits = tables.put_keeps_table chunk_total same_chunk item_of_marks t chunk marks ok fits

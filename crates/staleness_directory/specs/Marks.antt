@@ -4,25 +4,15 @@ use Rattle.std.specs.List.{list_all}
 use Rattle.asm_formats.specs.Items.{Item, marks_item, Key, marks_kind}
 use Rattle.asm_base.specs.Records.{DirectoryRecord}
 use Rattle.asm_base.specs.Chunks.{Chunk, chunk_cmp}
-use Rattle.item_table.specs.Tables.{IsTable as IsKeyTable, add_record as key_add, at_key, from_key, record_of as key_record, with_key, without_key}
+use Rattle.item_table.specs.Tables.{IsTable as IsKeyTable, record_of as key_record}
+
+-- the marks of a chunk, the table with other marks of it or without it, and the marks of the chunks from one on, in order
+pub use Rattle.item_table.specs.Chunks.{at_chunk as marks_at, with_chunk as with_marks, without_chunk as without_marks, from_chunk as marks_from}
+pub use Rattle.item_table.specs.Tables.{add_record}
 
 -- a chunk's marks: of each extent a byte, bit k for copy k
 abbrev pub Marked : Type 0
 Marked = Chunk × List ℕ
-
--- the marks of a chunk, and the table with other marks of it or without it
-abbrev pub marks_at : List Marked → Chunk → Option (List ℕ)
-marks_at table chunk = at_key chunk_cmp table chunk
-
-abbrev pub with_marks : List Marked → Chunk → List ℕ → List Marked
-with_marks table chunk marks = with_key chunk_cmp table chunk marks
-
-abbrev pub without_marks : List Marked → Chunk → List Marked
-without_marks table chunk = without_key chunk_cmp table chunk
-
--- the marks of the chunks from this one on, in order
-abbrev pub marks_from : List Marked → Chunk → List Marked
-marks_from table chunk = from_key chunk_cmp table chunk
 
 -- the marks of a chunk's extents below a place, and none from there on
 abbrev pub marks_to : ℕ → List ℕ → List ℕ
@@ -49,9 +39,6 @@ marks_of_item _ = None
 -- a table: chunks in order, each of the formats
 abbrev pub IsMarkTable : List Marked → Type 0
 IsMarkTable table = IsKeyTable chunk_cmp item_of_marks table
-
-abbrev pub add_marks_record : List Marked → DirectoryRecord → Option (List Marked)
-add_marks_record table e = key_add chunk_cmp marks_of_item table e
 
 -- ---- the reading of a record's value
 

@@ -2,7 +2,7 @@
 
 ghost use Rattle.asm_base.proofs.Chunks.{same_chunk};
 ghost use Rattle.staleness_directory.specs.Marks as marks;
-ghost use Rattle.staleness_directory.specs.MarkEntries.{are_marks_entries, is_marks_entry};
+ghost use Rattle.staleness_directory.specs.MarkEntries.{marks_entries};
 
 use crate::marks::Marks;
 use crate::reading::marks_in;
@@ -39,9 +39,9 @@ impl Listed<(u32, u32)> for Marks {
         Ok(*self)
     }
 
-    ghost is_entry = { is_marks_entry };
+    ghost is_entry = { marks_entries.0 };
 
-    ghost are_entries = { are_marks_entries };
+    ghost are_entries = { marks_entries.1 };
 
     ghost exact = { same_chunk };
 }
