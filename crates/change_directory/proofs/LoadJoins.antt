@@ -24,7 +24,8 @@ use Rattle.change_directory.specs.Slots.{ArePages, IsLogRead, IsPageDamage, all_
 use Rattle.change_directory.proofs.Runs.{same_disk}
 use Rattle.change_directory.proofs.BlockRows.{blocks_same}
 use Rattle.change_directory.proofs.LoadLaws.{damage_is, pages_are_loaded}
-use Rattle.change_directory.proofs.Telling.{IsSized, told_before, told_both, told_later, told_sized}
+use Rattle.bay.proofs.Telling.{told_before, told_later}
+use Rattle.change_directory.proofs.Telling.{IsSized, told_both, told_sized}
 
 slot_same : (copy : DirCopy) (log : LogSlot) (read : Option OpenLog) (x y : Image) → Same x y → IsLogRead copy log read y → IsLogRead copy log read x
 slot_same copy log read x y same is =

@@ -14,7 +14,8 @@ use Rattle.change_directory.specs.Loads.{OpenSlot}
 use Rattle.change_directory.specs.Slots.{ArePages, AreTaken, IsPageDamage, all_due, all_filled, all_slots, blocks_at, cut, damaged_page, first_bad, home_blocks, open_log_number, open_homes}
 use Rattle.change_directory.proofs.BlockRows.{blocks_len, blocks_more, blocks_same, cut_window}
 use Rattle.change_directory.proofs.PageRows.{damage_behind, damage_front, taken_more, taken_none}
-use Rattle.change_directory.proofs.Telling.{told_before, told_both, told_later}
+use Rattle.bay.proofs.Telling.{told_before, told_later}
+use Rattle.change_directory.proofs.Telling.{told_both}
 
 module _ (copy : DirCopy) (slots : List OpenSlot) where
   homes_same : (first count : ℕ) (x y : Image) → Same x y → home_blocks copy first count y ≡ home_blocks copy first count x

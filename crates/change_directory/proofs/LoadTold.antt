@@ -22,7 +22,8 @@ use Rattle.change_directory.proofs.Runs.{same_disk}
 use Rattle.change_directory.proofs.Spares.{same_number}
 use Rattle.change_directory.proofs.LoadSteps.{read_blocks}
 use Rattle.change_directory.proofs.SlotLaws.{log_is_read, log_is_shut}
-use Rattle.change_directory.proofs.Telling.{told_before, told_both, told_later, told_sized}
+use Rattle.bay.proofs.Telling.{told_before, told_later}
+use Rattle.change_directory.proofs.Telling.{told_both, told_sized}
 
 module _ (copy : DirCopy) (log : LogSlot) (s m t : BayState) {early late : ℕ → Type 0} (run : Runs early Same s m) (next : Runs late Same m t) (place : Place) (place_is : place ≡ log_place copy log 65) where
   -- the gate, as it was found

@@ -15,7 +15,8 @@ use Rattle.group_disks.specs.Found.{counts_of, ToldByCounts, AreIdsRead, AreAllR
 use Rattle.group_disks.specs.Probes.{id_in, IsShown, IsUsableProbe, ids_of, size_shown}
 use Rattle.group_disks.specs.declared.find.Probe.{Probe}
 use Rattle.group_disks.specs.declared.find.Probe.TheVariants as probe
-use Rattle.group_mount.proofs.Told.{told_later, told_before, rose_before, rose_later}
+use Rattle.bay.proofs.Telling.{told_before, told_later}
+use Rattle.group_mount.proofs.Told.{rose_before, rose_later}
 use Rattle.group_disks.proofs.Told.{same_id}
 
 -- the header of an id
@@ -28,23 +29,23 @@ module _ (s m t : BayState) {early : ℕ → Type 0} (first : Runs early Same s 
   pub shown_before : {later : ℕ → Type 0} (slot : ℕ) (p : Probe) → Runs later Same m t → IsShown slot p (counts_of m) (counts_of t) → IsShown slot p (counts_of s) (counts_of t)
   shown_before slot probe.Absent next is = rose_before (s.faults slot) (m.faults slot) (t.faults slot) (first.faults slot) is
   shown_before slot (probe.Unread size) next is = (is.0, rose_before (s.faults slot) (m.faults slot) (t.faults slot) (first.faults slot) is.1)
-  shown_before slot (probe.Read size id) next is = (is.0, told_before s m t {P = λ image. id_in image slot ≡ id} first next (same_id slot id) is.1)
+  shown_before slot (probe.Read size id) next is = (is.0, told_before s m t (λ image. id_in image slot ≡ id) first next (same_id slot id) is.1)
 
 module _ (s m t : BayState) {later : ℕ → Type 0} {step : Image → Image → Type 0} (next : Runs later step m t) where
   -- what is shown of a slot is shown later, if it is attached as it was
   pub shown_later : (slot : ℕ) (p : Probe) → t.attached slot ≡ m.attached slot → IsShown slot p (counts_of s) (counts_of m) → IsShown slot p (counts_of s) (counts_of t)
   shown_later slot probe.Absent same is = rose_later (s.faults slot) (m.faults slot) (t.faults slot) (next.faults slot) is
   shown_later slot (probe.Unread size) same is = (same ∙ is.0, rose_later (s.faults slot) (m.faults slot) (t.faults slot) (next.faults slot) is.1)
-  shown_later slot (probe.Read size id) same is = (same ∙ is.0, told_later s m t {P = λ image. id_in image slot ≡ id} next is.1)
+  shown_later slot (probe.Read size id) same is = (same ∙ is.0, told_later s m t (λ image. id_in image slot ≡ id) next is.1)
 
   pub ids_later : (ids : List ℕ) → AreIdsRead ids (counts_of s) (counts_of m) → AreIdsRead ids (counts_of s) (counts_of t)
-  ids_later ids are = record { each = λ i below. told_later s m t {P = λ image. (slot : ℕ) × (h : Header) × (header_in image slot ≡ Some h) × (h.id ≡ get_or ids i 0)} next (are.each i below) }
+  ids_later ids are = record { each = λ i below. told_later s m t (λ image. (slot : ℕ) × (h : Header) × (header_in image slot ≡ Some h) × (h.id ≡ get_or ids i 0)) next (are.each i below) }
 
   -- all that was read is read later, if what is attached was so before
   pub all_later : (n : ℕ) (ids : List ℕ) → ((slot : ℕ) → slot < n → t.attached slot ≡ m.attached slot) → AreAllRead n ids (counts_of s) (counts_of m) → AreAllRead n ids (counts_of s) (counts_of t)
   all_later n ids same are = record {
     each = λ slot size below attached still.
-        told_later s m t {P = λ image. ForSome (header_in image slot) (λ h. Contains ids h.id)} next
+        told_later s m t (λ image. ForSome (header_in image slot) (λ h. Contains ids h.id)) next
         (are.each slot size below (sym (same slot below) ∙ attached) (λ rose. still (rose_later (s.faults slot) (m.faults slot) (t.faults slot) (next.faults slot) rose)));
   }
 

@@ -22,7 +22,8 @@ use Rattle.group_disks.specs.Making.{IsLookFree, IsImageMade, IsNotFree, MakeCau
 use Rattle.group_disks.specs.Holding.{IsHeldSlot, SameHeld, SparesHeld}
 use Rattle.group_disks.proofs.FirstSpares.{but_trans, looks_spare}
 use Rattle.group_disks.proofs.Spared.{held_trans, looks_held}
-use Rattle.group_mount.proofs.Told.{rose_before, rose_later, same_header, told_before}
+use Rattle.bay.proofs.Telling.{told_before}
+use Rattle.group_mount.proofs.Told.{rose_before, rose_later, same_header}
 
 -- ---- before an image is looked at
 
@@ -88,7 +89,7 @@ module _ (paths : List Bytes) (path : Bytes) (held : List ℕ) (slot : ℕ) (is_
       → Runs slots step m t → Rose (s.faults slot) (t.faults slot) ⊎ ToldByCounts (counts_of s) (counts_of t) (λ image. header_in image slot ≡ None)
   was_free s m t look.Absent sound looks is free makes = inl (rose_later (s.faults slot) (m.faults slot) (t.faults slot) (makes.faults slot) is.1)
   was_free s m t (look.Read size None) sound looks is free makes =
-      inr (told_before s m t looks.runs makes (λ x y same none. sym (same_header slot x y same) ∙ none) (λ now holds image was. is.now.now image (sound.held image was)))
+      inr (told_before s m t (λ image. header_in image slot ≡ None) looks.runs makes (λ x y same none. sym (same_header slot x y same) ∙ none) (λ now holds image was. is.now.now image (sound.held image was)))
   was_free s m t other sound looks is free makes = absurd free
 
   -- ---- what stays

@@ -30,7 +30,8 @@ use Rattle.group_mount.specs.Verdicts.{member_of, members_with, with_id, has_slo
 use Rattle.group_mount.specs.declared.choosing.Choice.{Choice}
 use Rattle.group_mount.specs.declared.choosing.Verdict.{Verdict}
 use Rattle.group_mount.specs.declared.finding.Headed.{Headed}
-use Rattle.group_mount.proofs.Told.{told_later, told_before, rose_before, rose_later}
+use Rattle.bay.proofs.Telling.{told_before, told_later}
+use Rattle.group_mount.proofs.Told.{rose_before, rose_later}
 
 -- ---- members of an id
 
@@ -109,7 +110,7 @@ module _ (s m t : BayState) (id : ℕ) (ms : List Member) (verdict : Verdict) (u
     surveyed = let (read, are, told) = judged.surveyed in (
       read,
       wider ms read are,
-      told_later s m t {P = AnswersBy id ms read judged.answer} next told,
+      told_later s m t (AnswersBy id ms read judged.answer) next told,
     );
     read = IfOk-weaker judged.answer _ _ (λ survey are. wider ms survey.read are) judged.read;
   }
@@ -125,7 +126,7 @@ module _ (s m t : BayState) (id : ℕ) (ms : List Member) (verdict : Verdict) (u
     surveyed = let (read, are, told) = judged.surveyed in (
       read,
       wider ms read are,
-      told_before s m t {P = AnswersBy id ms read judged.answer} first next (answers_same id ms read judged.answer) told,
+      told_before s m t (AnswersBy id ms read judged.answer) first next (answers_same id ms read judged.answer) told,
     );
     read = IfOk-weaker judged.answer _ _ (λ survey are. wider ms survey.read are) judged.read;
   }

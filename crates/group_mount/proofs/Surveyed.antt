@@ -32,7 +32,8 @@ use Rattle.status_register.specs.declared.error.SurveyError.TheVariants.{NoMajor
 use Rattle.status_register.specs.Surveys.{records_on, first_damage, missing}
 use Rattle.status_register.proofs.Holding.{apart_list}
 use Rattle.status_register.proofs.Tallying.{RoseAt, still_read}
-use Rattle.group_mount.proofs.Told.{told_before, rose_before, rose_later}
+use Rattle.bay.proofs.Telling.{told_before}
+use Rattle.group_mount.proofs.Told.{rose_before, rose_later}
 use Rattle.group_mount.proofs.Choices.{members_attached}
 use Rattle.group_mount.specs.Verdicts.{member_of, members_with}
 use Rattle.group_mount.specs.declared.finding.Headed.{Headed}
@@ -165,7 +166,7 @@ module _ (s m t : BayState) {early later : ℕ → Type 0} (first : Runs early S
       (still_read (RoseAt m t) (RoseAt s t) (λ slot rose. rose_before (s.faults slot) (m.faults slot) (t.faults slot) (first.faults slot) rose) synced read two)
 
   gone_before : (read : List Member) → Told m t (IsGoneOn id read) → Told s t (IsGoneOn id read)
-  gone_before read told = told_before s m t {P = IsGoneOn id read} first next (λ x y same is. record {
+  gone_before read told = told_before s m t (IsGoneOn id read) first next (λ x y same is. record {
     enough = sym (ap (λ (l : List Status). missing read (greatest l)) (records_before id read x y same)) ∙ is.enough;
     gone = sym (ap (λ (l : List Status). option_map (λ (r : Status). r.gone) (greatest l)) (records_before id read x y same)) ∙ is.gone;
   }) told
@@ -184,7 +185,7 @@ module _ (s m t : BayState) {early later : ℕ → Type 0} (first : Runs early S
   members_cause (NoMajority seen need) (read, two, told) = (
     read,
     later_read read two,
-    told_before s m t {P = λ image. missing read (greatest (records_on id image read)) ≡ Some (seen, need)} first next (λ x y same is. sym (ap (λ (l : List Status). missing read (greatest l)) (records_before id read x y same)) ∙ is) told,
+    told_before s m t (λ image. missing read (greatest (records_on id image read)) ≡ Some (seen, need)) first next (λ x y same is. sym (ap (λ (l : List Status). missing read (greatest l)) (records_before id read x y same)) ∙ is) told,
   )
   members_cause (Damaged slot block gone) (read, two, told) =
       cond_both gone error.NoGroup (error.Damaged slot block) (λ (e : MountError). MembersCause id ms e s t)
@@ -192,7 +193,7 @@ module _ (s m t : BayState) {early later : ℕ → Type 0} (first : Runs early S
       (λ stays. (
         read,
         later_read read two,
-        told_before s m t {P = λ image. (missing read (greatest (records_on id image read)) ≡ None) × (first_damage image read ≡ Some (slot, block))} first next
+        told_before s m t (λ image. (missing read (greatest (records_on id image read)) ≡ None) × (first_damage image read ≡ Some (slot, block))) first next
             (λ x y same is. (sym (ap (λ (l : List Status). missing read (greatest l)) (records_before id read x y same)) ∙ is.0, sym (damage_before read x y same) ∙ is.1))
             (λ now holds image was. let d = told now holds image was in (d.0, d.1)),
       ))

@@ -20,7 +20,7 @@ use Rattle.status_register.specs.Places.{HasSlots}
 use Rattle.status_register.specs.declared.member.Member.{Member}
 use Rattle.status_register.specs.declared.tally.Tally.{Tally}
 use Rattle.status_register.proofs.Filling.{still_slots}
-use Rattle.status_register.proofs.Telling.{told_later, told_before}
+use Rattle.bay.proofs.Telling.{told_before, told_later}
 use Rattle.status_register.proofs.Joining.{says_more}
 
 -- the disks whose slots rose between two moments
