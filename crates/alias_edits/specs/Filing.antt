@@ -55,8 +55,8 @@ abbrev pub file_causes : Tree → Path → Causes
 file_causes t path = (has_file_above t path, r.NotDirectory) ∷ (is_there t path, r.NameTaken) ∷ []
 
 -- The tree with the name of a new file, or why it is refused.
-abbrev pub filed : Tree → Path → ℕ → Result Tree r.Refusal
-filed t path file = unless_refused (first_cause (file_causes t path)) (with_file t path file)
+abbrev pub tree_with_file : Tree → Path → ℕ → Result Tree r.Refusal
+tree_with_file t path file = unless_refused (first_cause (file_causes t path)) (with_file t path file)
 
 -- ---- the nodes
 

@@ -7,7 +7,7 @@ ghost use Rattle.asm_group.specs.Causes.{first_cause};
 ghost use Rattle.asm_group.specs.TreeEdits.{last_part, up};
 ghost use Rattle.asm_formats.specs.Items.{is_item, node_item};
 ghost use Rattle.alias_edits.specs.Edits.{IsRefusal, are_parts, cause_said};
-ghost use Rattle.alias_edits.specs.Filing.{IsFiling, IsFront, file_causes, filed, may_hang, nodes_missing, with_file, with_nodes};
+ghost use Rattle.alias_edits.specs.Filing.{IsFiling, IsFront, file_causes, tree_with_file, may_hang, nodes_missing, with_file, with_nodes};
 ghost use Rattle.alias_tree.specs.Numbers.{IsFreeAbove};
 ghost use Rattle.alias_tree.specs.Nodes.{IsNodeTable, Numbered, node_at};
 ghost use Rattle.alias_tree.specs.Trees.{tree_of};
@@ -40,7 +40,7 @@ pub fn plan_file(
     requires parts { IsTrue (are_parts path.now.parts) }
     requires some { 0 < length path.now.parts }
     // The nodes with these are those of the tree of names with the file and the missing directories.
-    ensures done { IfOk result (λ made. filed (tree_of tree.now) path.now.parts file ≡ Ok (tree_of (with_nodes tree.now made.items))) }
+    ensures done { IfOk result (λ made. tree_with_file (tree_of tree.now) path.now.parts file ≡ Ok (tree_of (with_nodes tree.now made.items))) }
     ensures table { IfOk result (λ made. IsNodeTable (with_nodes tree.now made.items)) }
     // Directories come first, and the name last.
     ensures nodes { IfOk result (λ made. IsFiling tree.now made.items path.now.parts file) }
@@ -51,7 +51,7 @@ pub fn plan_file(
     ensures fresh { IfOk result (λ made. All (λ (x : Numbered). node_at tree.now x.0 ≡ None) made.items) }
     // Each is one of the formats.
     ensures items { IfOk result (λ made. All (λ (x : Numbered). is_item (node_item x.0 x.1) ≡ true) made.items) }
-    ensures refused { IfErr result (IsRefusal (filed (tree_of tree.now) path.now.parts file)) }
+    ensures refused { IfErr result (IsRefusal (tree_with_file (tree_of tree.now) path.now.parts file)) }
 {
     tree.keeps_rule();
     let front = front_of(tree, above(path));

@@ -16,7 +16,7 @@ use Rattle.asm_formats.specs.Items.{Node}
 use Rattle.asm_base.specs.Tables.{IsItemTable}
 use Rattle.alias_tree.specs.Nodes.{Numbered, node_at, is_before, item_of_node}
 use Rattle.asm_formats.specs.Nodes.{node_kind}
-use Rattle.alias_tree.specs.FileNames.{FileName, name_cmp, is_same_file_name, has_name, is_it, forgotten, name_by_kind, name_of_node, IsFileIndex, IsLow}
+use Rattle.alias_tree.specs.FileNames.{FileName, name_cmp, is_same_file_name, has_name, is_it, is_left_there, name_by_kind, name_of_node, IsFileIndex, IsLow}
 use Rattle.alias_tree.proofs.IndexLaws.{either, at_is, at_self, at_member, item_at, member_at}
 use Rattle.alias_tree.proofs.Leading.{same_bool, any_some, any_of, among_member, member_among}
 use Rattle.alias_tree.proofs.Readings.{number_is_some}
@@ -56,7 +56,7 @@ name_self p = (eq_by_cmp_equiv name_total).refl p
 
 -- ---- a name goes, unless it is the one that is kept
 
-pub gone_is : (gone : FileName) (kept : Option FileName) (q : FileName) (there : Bool) → is_it kept gone ≡ false → cond (is_same_file_name gone q) false there ≡ forgotten (Some gone) kept q there
+pub gone_is : (gone : FileName) (kept : Option FileName) (q : FileName) (there : Bool) → is_it kept gone ≡ false → cond (is_same_file_name gone q) false there ≡ is_left_there (Some gone) kept q there
 gone_is gone kept q there e = elim (either (is_same_file_name gone q)) [
   | inr miss ↦ rw miss refl
   | inl hit ↦ let none : is_it kept q ≡ false = ap (λ (p : FileName). is_it kept p) (sym (same_name gone q hit)) ∙ e in rw (hit, none) refl
@@ -98,14 +98,14 @@ had nodes names n q i number = i.same q ∙ ap (λ (m : ℕ). is_it (name_of_nod
 pub put_name : (nodes new : List Numbered) (names between after : List FileName) (n : ℕ) (node : Node) → IsFileIndex nodes names
     → ((m : ℕ) → node_at new m ≡ cond (is_at (nat_cmp n) m) (Some node) (node_at nodes m))
     → ((q : FileName) → has_name between q ≡ (is_it (name_of_node n (Some node)) q || has_name names q))
-    → ((q : FileName) → has_name after q ≡ forgotten (name_of_node n (node_at nodes n)) (name_of_node n (Some node)) q (has_name between q)) → IsFileIndex new after
+    → ((q : FileName) → has_name after q ≡ is_left_there (name_of_node n (node_at nodes n)) (name_of_node n (Some node)) q (has_name between q)) → IsFileIndex new after
 put_name nodes new names between after n node i nodes_are put gone = record { same = same } where
   same : (q : FileName) → has_name after q ≡ is_it (name_of_node q.number (node_at new q.number)) q
   same q = elim (either (is_at (nat_cmp n) q.number)) [
     | inl hit ↦
         let number : n ≡ q.number = at_is n q.number hit in
         let at : node_at new q.number ≡ Some node = nodes_are q.number ∙ rw hit refl in
-        gone q ∙ (ap (λ (there : Bool). forgotten (name_of_node n (node_at nodes n)) (name_of_node n (Some node)) q there) (put q ∙ ap (λ (there : Bool). is_it (name_of_node n (Some node)) q || there) (had nodes names n q i number))
+        gone q ∙ (ap (λ (there : Bool). is_left_there (name_of_node n (node_at nodes n)) (name_of_node n (Some node)) q there) (put q ∙ ap (λ (there : Bool). is_it (name_of_node n (Some node)) q || there) (had nodes names n q i number))
         ∙ (takes_new (is_it (name_of_node n (Some node)) q) (is_it (name_of_node n (node_at nodes n)) q)
         ∙ (ap (λ (m : ℕ). is_it (name_of_node m (Some node)) q) number ∙ ap (λ (o : Option Node). is_it (name_of_node q.number o) q) (sym at))))
     | inr miss ↦
@@ -117,13 +117,13 @@ put_name nodes new names between after n node i nodes_are put gone = record { sa
 -- a node couldn't be put
 pub put_no_name : (nodes : List Numbered) (names between after : List FileName) (n : ℕ) (node : Node) → IsFileIndex nodes names
     → ((q : FileName) → has_name between q ≡ (is_it (name_of_node n (Some node)) q || has_name names q))
-    → ((q : FileName) → has_name after q ≡ forgotten (name_of_node n (Some node)) (name_of_node n (node_at nodes n)) q (has_name between q)) → IsFileIndex nodes after
+    → ((q : FileName) → has_name after q ≡ is_left_there (name_of_node n (Some node)) (name_of_node n (node_at nodes n)) q (has_name between q)) → IsFileIndex nodes after
 put_no_name nodes names between after n node i put gone = record { same = same } where
   same : (q : FileName) → has_name after q ≡ is_it (name_of_node q.number (node_at nodes q.number)) q
   same q = elim (either (is_at (nat_cmp n) q.number)) [
     | inl hit ↦
         let number : n ≡ q.number = at_is n q.number hit in
-        gone q ∙ (ap (λ (there : Bool). forgotten (name_of_node n (Some node)) (name_of_node n (node_at nodes n)) q there) (put q ∙ ap (λ (there : Bool). is_it (name_of_node n (Some node)) q || there) (had nodes names n q i number))
+        gone q ∙ (ap (λ (there : Bool). is_left_there (name_of_node n (Some node)) (name_of_node n (node_at nodes n)) q there) (put q ∙ ap (λ (there : Bool). is_it (name_of_node n (Some node)) q || there) (had nodes names n q i number))
         ∙ (keeps_old (is_it (name_of_node n (Some node)) q) (is_it (name_of_node n (node_at nodes n)) q)
         ∙ ap (λ (m : ℕ). is_it (name_of_node m (node_at nodes m)) q) number))
     | inr miss ↦
@@ -249,19 +249,19 @@ pub put_keeps : (nodes new : List Numbered) (names between after : List FileName
     → was ≡ name_of_node n (node_at nodes n) → now ≡ name_of_node n (Some node)
     → ((m : ℕ) → node_at new m ≡ cond (is_at (nat_cmp n) m) (Some node) (node_at nodes m))
     → ((q : FileName) → has_name between q ≡ (is_it now q || has_name names q))
-    → ((q : FileName) → has_name after q ≡ forgotten was now q (has_name between q)) → IsFileIndex new after × IsLow new low
+    → ((q : FileName) → has_name after q ≡ is_left_there was now q (has_name between q)) → IsFileIndex new after × IsLow new low
 put_keeps nodes new names between after low n node was now i l was_is now_is nodes_are put gone = (
   put_name nodes new names between after n node i nodes_are (λ q. put q ∙ ap (λ (o : Option FileName). is_it o q || has_name names q) now_is)
-      (λ q. gone q ∙ (ap (λ (o : Option FileName). forgotten o now q (has_name between q)) was_is ∙ ap (λ (o : Option FileName). forgotten (name_of_node n (node_at nodes n)) o q (has_name between q)) now_is)),
+      (λ q. gone q ∙ (ap (λ (o : Option FileName). is_left_there o now q (has_name between q)) was_is ∙ ap (λ (o : Option FileName). is_left_there (name_of_node n (node_at nodes n)) o q (has_name between q)) now_is)),
   low_put nodes new low n node l nodes_are,
 )
 
 pub no_put_keeps : (nodes : List Numbered) (names between after : List FileName) (low n : ℕ) (node : Node) (was now : Option FileName) → IsFileIndex nodes names → IsLow nodes low
     → was ≡ name_of_node n (node_at nodes n) → now ≡ name_of_node n (Some node)
     → ((q : FileName) → has_name between q ≡ (is_it now q || has_name names q))
-    → ((q : FileName) → has_name after q ≡ forgotten now was q (has_name between q)) → IsFileIndex nodes after × IsLow nodes low
+    → ((q : FileName) → has_name after q ≡ is_left_there now was q (has_name between q)) → IsFileIndex nodes after × IsLow nodes low
 no_put_keeps nodes names between after low n node was now i l was_is now_is put gone = (
   put_no_name nodes names between after n node i (λ q. put q ∙ ap (λ (o : Option FileName). is_it o q || has_name names q) now_is)
-      (λ q. gone q ∙ (ap (λ (o : Option FileName). forgotten now o q (has_name between q)) was_is ∙ ap (λ (o : Option FileName). forgotten o (name_of_node n (node_at nodes n)) q (has_name between q)) now_is)),
+      (λ q. gone q ∙ (ap (λ (o : Option FileName). is_left_there now o q (has_name between q)) was_is ∙ ap (λ (o : Option FileName). is_left_there o (name_of_node n (node_at nodes n)) q (has_name between q)) now_is)),
   l,
 )

@@ -55,8 +55,8 @@ abbrev pub numbers_of_file : List FileName → ℕ → List ℕ
 numbers_of_file names file = map (λ (q : FileName). q.number) (filter (range_contains name_cmp (Included (first_name file)) (Included (last_name file))) names)
 
 -- whether a name is there, where one goes unless it is the one that is kept
-abbrev pub forgotten : Option FileName → Option FileName → FileName → Bool → Bool
-forgotten gone kept q there = if is_it gone q && not (is_it kept q) then false else there
+abbrev pub is_left_there : Option FileName → Option FileName → FileName → Bool → Bool
+is_left_there gone kept q there = if is_it gone q && not (is_it kept q) then false else there
 
 -- no number from 1 to below this one is free
 pub record IsLow (nodes : List Numbered) (low : ℕ) : Type 0 where

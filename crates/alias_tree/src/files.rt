@@ -4,7 +4,7 @@ ghost use Rattle.std.specs.Prelude.{◌≡◌, ◌<◌, ◌^◌, ◌||◌, [], �
 ghost use Rattle.std.specs.Ordering.{is_gt};
 ghost use Rattle.std.specs.BTreeMap.Range.{IsInRange};
 ghost use Rattle.std.specs.declared.ops.Bound.TheVariants.{Included};
-ghost use Rattle.alias_tree.specs.FileNames.{forgotten, has_name, is_it, is_same_file_name, name_by_kind, name_cmp, numbers_of_file, FileName};
+ghost use Rattle.alias_tree.specs.FileNames.{is_left_there, has_name, is_it, is_same_file_name, name_by_kind, name_cmp, numbers_of_file, FileName};
 
 use asm_base::{NoMemory, NodeKind};
 use std::alloc::Global;
@@ -78,7 +78,7 @@ impl FileNames {
 
     /// Takes a name away, unless it is the one that is kept.
     pub(crate) fn forget(&mut self, gone: Option<FileName>, kept: Option<FileName>)
-        ensures { (q : FileName) → has_name self.new q ≡ forgotten gone kept q (has_name self.old q) }
+        ensures { (q : FileName) → has_name self.new q ≡ is_left_there gone kept q (has_name self.old q) }
     {
         let Some(gone) = gone else {
             return;

@@ -3,7 +3,7 @@
 ghost use Rattle.std.specs.Prelude.{◌≡◌, ◌≤◌, ◌<◌, ◌+◌, ◌*◌, ◌^◌, ◌++◌, ◌-◌, ◌↔◌, IfOk, IsTrue, MatchOption, ℕ, true, false, length, take, vec_len, replicate, if◌then◌else◌};
 ghost use Rattle.std.specs.Bool.{OnFalse, OnTrue};
 ghost use Rattle.allocator.specs.Words.{AreFresh, AreResized, SetsRun};
-ghost use Rattle.allocator.specs.UnitMaps.{HasNoRun, IsFreeRun, IsLowestRun, IsUnusedFrom, IsUsedRun, with_unit_count, taken, total_of, unused, used_of, with_run};
+ghost use Rattle.allocator.specs.UnitMaps.{HasNoRun, IsFreeRun, IsLowestRun, IsUnusedFrom, IsUsedRun, with_unit_count, with_taken_run, total_of, unused, used_of, with_run};
 
 use crate::words::{first_free, is_free, lowest_run, set_run, used_between};
 use asm_base::NoMemory;
@@ -95,7 +95,7 @@ impl Units {
     pub fn take(&mut self, n: u32) -> Option<u32>
         requires { 0 < n }
         ensures found { MatchOption result (HasNoRun self.old n) (IsLowestRun self.old n) }
-        ensures after { self.new ≡ taken self.old n result }
+        ensures after { self.new ≡ with_taken_run self.old n result }
     {
         let at = self.lowest(n)?;
         self.use_run(at, n);

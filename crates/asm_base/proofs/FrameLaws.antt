@@ -11,7 +11,7 @@ use Rattle.asm_formats.specs.Items.{Key}
 use Rattle.asm_formats.specs.Records.{Frame, frame_spelling, is_frame, decoded_frame}
 use Rattle.asm_formats.proofs.Bodies.{frame_codec}
 use Rattle.asm_base.specs.Records.{DirectoryRecord}
-use Rattle.asm_base.specs.Frames.{frame_fields, entry_frame, framed_entry, framed, Head, HeadParts, to_head, head_reading}
+use Rattle.asm_base.specs.Frames.{frame_fields, entry_frame, framed_entry, record_in_frame, Head, HeadParts, to_head, head_reading}
 use Rattle.asm_base.proofs.Exact.{IsBytes, IsExact, bind_some, test_some, both_exact, as_exact, fits_exact}
 use Rattle.asm_base.proofs.Numbers.{number_exact}
 use Rattle.asm_base.proofs.FieldLaws.{fixed_exact, are_zeros, zeros_are}
@@ -96,7 +96,7 @@ filled fields = refl
 frame_found : (bytes : List ℕ) → length bytes ≡ 4096 → IsBytes bytes → (f : Frame) → option_map entry_frame (framed_entry bytes) ≡ Some f → (is_frame f ≡ true) × (bytes ≡ frame_spelling f)
 frame_found bytes len are f e =
     let m = map_some entry_frame (framed_entry bytes) f e in
-    let h = bind_some (λ (h : Head × List ℕ). framed h.0 h.1) (head_reading bytes) m.0 m.1 in
+    let h = bind_some (λ (h : Head × List ℕ). record_in_frame h.0 h.1) (head_reading bytes) m.0 m.1 in
     let one = head_exact.takes bytes h.0.0 h.0.1 are h.1 in
     let k = h.0.0.0 in
     let n = h.0.0.1 in
@@ -126,7 +126,7 @@ frame_again bytes f ok e =
     let all : bytes ≡ head_fields (k, length v) ++ (v ++ zeros) =
     e ∙ spelling_is (k, v) ∙ filled (frame_fields (k, v)) ∙ ap (λ (r : List ℕ). r ++ zeros) (sym (head_then_value k v)) ∙ append_assoc (head_fields (k, length v)) v zeros in
     let read = head_exact.again (k, length v) (v ++ zeros) (record { kind = fits.kind; a = fits.a; b = fits.b; len = omega (arith, fits.few) }) in
-    let inside : framed (k, length v) (v ++ zeros) ≡ Some (k, v) =
+    let inside : record_in_frame (k, length v) (v ++ zeros) ≡ Some (k, v) =
     rw (le-leb (length v) 4064 fits.few, le-leb (length v) (length (v ++ zeros)) (omega (arith, length-append v zeros)), drop_at v zeros (length v) refl, zeros_are (4096 - length (frame_fields (k, v))), take_at v zeros (length v) refl) refl in
     rw (all, read, inside) refl
 

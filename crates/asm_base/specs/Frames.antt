@@ -32,9 +32,9 @@ head_reading =
     as_a to_head (both (fixed_reading (codes "ASMR")) (both (number_reading w16) (both (number_reading w32) (both (number_reading w32) (both (number_reading w16) (fixed_reading (replicate 16 0)))))))
 
 -- the value of a length, with zeros behind it
-abbrev pub framed : Head → List ℕ → Option DirectoryRecord
-framed (k, len) rest =
+abbrev pub record_in_frame : Head → List ℕ → Option DirectoryRecord
+record_in_frame (k, len) rest =
     if nat_le len most_value && (nat_le len (length rest) && list_all (λ b. b == 0) (drop len rest)) then Some (k, take len rest) else None
 
 abbrev pub framed_entry : List ℕ → Option DirectoryRecord
-framed_entry bytes = option_and_then (λ h. framed h.0 h.1) (head_reading bytes)
+framed_entry bytes = option_and_then (λ h. record_in_frame h.0 h.1) (head_reading bytes)

@@ -5,7 +5,7 @@ ghost use Rattle.std.specs.Prelude.{◌≡◌, ◌++◌, ◌∷◌, [], ℕ, tak
 ghost use Rattle.std.specs.List.{flat_map};
 ghost use Rattle.asm_group.specs.Names.{Bytes};
 ghost use Rattle.asm_group.specs.Refusal.{limited_text, mode_text, refused, refusal_line, refusal_words, NoMemory as NoMemoryCause};
-ghost use Rattle.asm_base.specs.Refusals.{referred_disk_name, limited_said, said};
+ghost use Rattle.asm_base.specs.Refusals.{referred_disk_name, limited_said, meaning_of};
 ghost use Rattle.asm_base.specs.RefusalText.{argument_words};
 
 use crate::kinds::{Mode, NoMemory};
@@ -25,7 +25,7 @@ impl Refusal {
     /// The last line of the refused reply, without its line feed. A disk that is named by its
     /// number has the name `disk`.
     pub fn line(&self, alloc: Global, disk: &[u8]) -> Result<Vec<u8>, NoMemory>
-        ensures { IfOk result (λ text. text.items ≡ refusal_line (said (λ _. disk.now) self.now)) }
+        ensures { IfOk result (λ text. text.items ≡ refusal_line (meaning_of (λ _. disk.now) self.now)) }
     {
         let (number, name) = self.number_and_name();
         let (first, second) = self.arguments(disk);
@@ -36,9 +36,9 @@ impl Refusal {
     }
 
     /// The cause's number and its name.
-    #[tactic(auto, unfolding(crate::specs::Refusals::said))]
+    #[tactic(auto, unfolding(crate::specs::Refusals::meaning_of))]
     fn number_and_name(&self) -> (u8, &'static [u8])
-        ensures { (names : ℕ → Bytes) → refused result.0 result.1.now [] ≡ take 3 (refusal_words (said names self.now)) }
+        ensures { (names : ℕ → Bytes) → refused result.0 result.1.now [] ≡ take 3 (refusal_words (meaning_of names self.now)) }
     {
         match self {
             Refusal::Syntax { .. } => (1, b"Syntax"),
@@ -85,9 +85,9 @@ impl Refusal {
     }
 
     /// The cause's arguments, where there are two, one or none.
-    #[tactic(auto, unfolding(crate::specs::Refusals::said))]
+    #[tactic(auto, unfolding(crate::specs::Refusals::meaning_of))]
     fn arguments<'a>(&'a self, disk: &'a [u8]) -> (Argument<'a>, Argument<'a>)
-        ensures { argument_words result.0 ++ argument_words result.1 ≡ drop 3 (refusal_words (said (λ _. disk.now) self.now)) }
+        ensures { argument_words result.0 ++ argument_words result.1 ≡ drop 3 (refusal_words (meaning_of (λ _. disk.now) self.now)) }
     {
         match self {
             Refusal::Syntax { at: n } | Refusal::BadPower { n } => {

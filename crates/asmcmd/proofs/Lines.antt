@@ -23,7 +23,7 @@ use Rattle.asm_world.specs.VerbMeaning.{SaysVerb, verb_of}
 use Rattle.asm_world.specs.Verbs as g
 use Rattle.asm_world.proofs.Commands.{verb_read, longest}
 use Rattle.asm_world.proofs.FirstWords.{verbs_alone}
-use Rattle.asmcmd.specs.Exact.{asked, read_error_of, IsVerbRead, IsNoVerb, IsExact, IsCommand}
+use Rattle.asmcmd.specs.Exact.{wanted_verb, read_error_of, IsVerbRead, IsNoVerb, IsExact, IsCommand}
 use Rattle.asmcmd.specs.Verbs.{meant_verb}
 use Rattle.asmcmd.specs.declared.verb.Verb.{Verb}
 use Rattle.asmcmd.specs.declared.verb.ReadError.{ReadError}
@@ -72,16 +72,16 @@ from_front text front within =
     subst (λ k. whole_from g.verb End text (length text - front) ≡ at_least k (whole g.verb End text)) n (from_fewer g.verb End text (length text - front) (omega arith))
 
 pub asked_ok : (text : Bytes) (front : ℕ) (x : c.Verb) (rest : List ℕ) (left : ℕ) → front ≡ keyword_front text → front ≤ length text
-    → mapped verb_of (ended_by_word End (parse g.verb text (length text - front))) ≡ Took x rest left → asked text ≡ c.Asked x
-unfolding asked
+    → mapped verb_of (ended_by_word End (parse g.verb text (length text - front))) ≡ Took x rest left → wanted_verb text ≡ c.Asked x
+unfolding wanted_verb
 asked_ok text front x rest left f within e =
     let k = finish_ok verb_of End (length text) (parse g.verb text (length text - front)) x rest left e in
     let m : result_of verb_of (at_least front (whole g.verb End text)) ≡ Ok x = subst (λ r. result_of verb_of r ≡ Ok x) (from_front text front within) k in
     rw (← f) (taken front (whole g.verb End text) x m)
 
 asked_none : (text : Bytes) (front left : ℕ) → front ≡ keyword_front text → front ≤ length text
-    → mapped verb_of (ended_by_word End (parse g.verb text (length text - front))) ≡ Failed left → asked text ≡ c.Unreadable (length text - left)
-unfolding asked
+    → mapped verb_of (ended_by_word End (parse g.verb text (length text - front))) ≡ Failed left → wanted_verb text ≡ c.Unreadable (length text - left)
+unfolding wanted_verb
 asked_none text front left f within e =
     let k = finish_err verb_of End (length text) (parse g.verb text (length text - front)) left e in
     let m : result_of verb_of (at_least front (whole g.verb End text)) ≡ Err (length text - left) = subst (λ r. result_of verb_of r ≡ Err (length text - left)) (from_front text front within) k in
@@ -113,13 +113,13 @@ is_none text at (Err n) e k = record {
 }
 
 pub exact : (r : Result Verb ReadError) (text : Bytes) → IsVerbRead r text → IsExact r text
-unfolding asked
+unfolding wanted_verb
 exact (Ok x) text e = says_verb text (meant_verb x) (whole g.verb End text) refl e
 exact (Err NoMemory) text e = tt
 exact (Err (Miss at)) text e = is_none text at (whole g.verb End text) refl e
 
 pub command : (r : Result Verb ReadError) (text : Bytes) → IsVerbRead r text → opens_statement text ≡ false → begins_blank text ≡ false → IsCommand r text
-unfolding asked
+unfolding wanted_verb
 command (Ok x) text e o b = verbs_alone text o b ∙ e
 command (Err NoMemory) text e o b = tt
 command (Err (Miss at)) text e o b = let k = verbs_alone text o b ∙ e in (k, longest text at k)

@@ -39,14 +39,14 @@ read_error_of len (unread.Syntax left) = Miss (len - left)
 read_error_of len unread.NoMemory = NoMemory
 
 -- What the line asks for as a verb, where a front of CREATE, DROP or ALTER counts as the front of a command.
-unfoldable pub asked : Bytes → c.Command
-asked text = verb_or_none (keyword_front text) (whole g.verb End text)
+unfoldable pub wanted_verb : Bytes → c.Command
+wanted_verb text = verb_or_none (keyword_front text) (whole g.verb End text)
 
 -- A verb is read where the line asks for it, and else where it is unreadable is told, unless memory ran out.
 abbrev pub IsVerbRead : Result Verb ReadError → Bytes → Type 0
-IsVerbRead (Ok verb) text = asked text ≡ c.Asked (meant_verb verb)
+IsVerbRead (Ok verb) text = wanted_verb text ≡ c.Asked (meant_verb verb)
 IsVerbRead (Err NoMemory) text = Unit {0}
-IsVerbRead (Err (Miss at)) text = asked text ≡ c.Unreadable at
+IsVerbRead (Err (Miss at)) text = wanted_verb text ≡ c.Unreadable at
 
 -- A line is no verb. So many bytes of it begin one, or one of the words CREATE, DROP and ALTER, and no more do.
 pub record IsNoVerb (text : Bytes) (at : ℕ) : Type 0 where

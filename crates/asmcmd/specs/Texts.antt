@@ -17,11 +17,11 @@ use Rattle.asmcmd.specs.declared.rows.AttrRow.{AttrRow}
 use Rattle.asmcmd.specs.declared.text.Field.{Field}
 use Rattle.asmcmd.specs.declared.text.Field.TheVariants.{Word, Directory, Number, WideNumber}
 
-abbrev pub printed : Field → Bytes
-printed (Word word) = word.now
-printed (Directory name) = name.now ++ 47 ∷ []
-printed (Number n) = decimal n
-printed (WideNumber n) = decimal n
+abbrev pub text_of_field : Field → Bytes
+text_of_field (Word word) = word.now
+text_of_field (Directory name) = name.now ++ 47 ∷ []
+text_of_field (Number n) = decimal n
+text_of_field (WideNumber n) = decimal n
 
 -- ---- ls
 

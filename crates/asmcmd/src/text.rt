@@ -3,7 +3,7 @@
 ghost use Rattle.std.specs.List.{flat_map};
 ghost use Rattle.std.specs.Prelude.{◌≡◌, ◌++◌, ◌∷◌, [], map, IfOk};
 ghost use Rattle.asm_group.specs.Refusal.{spaced};
-ghost use Rattle.asmcmd.specs.Texts.{printed};
+ghost use Rattle.asmcmd.specs.Texts.{text_of_field};
 
 use asm_base::{List, NoMemory, Text};
 use itoa::Buffer;
@@ -35,7 +35,7 @@ pub fn with_byte(mut text: Vec<u8>, byte: u8) -> Result<Vec<u8>, NoMemory>
 }
 
 fn with_field(text: Vec<u8>, field: Field<'_>) -> Result<Vec<u8>, NoMemory>
-    ensures { IfOk result (λ longer. longer.items ≡ text.items ++ printed field.entry) }
+    ensures { IfOk result (λ longer. longer.items ≡ text.items ++ text_of_field field.entry) }
 {
     match field {
         Field::Word(word) => with_bytes(text, word),
@@ -46,13 +46,13 @@ fn with_field(text: Vec<u8>, field: Field<'_>) -> Result<Vec<u8>, NoMemory>
 }
 
 fn with_next(text: Vec<u8>, field: Field<'_>) -> Result<Vec<u8>, NoMemory>
-    ensures { IfOk result (λ longer. longer.items ≡ text.items ++ 32 ∷ printed field.entry) }
+    ensures { IfOk result (λ longer. longer.items ≡ text.items ++ 32 ∷ text_of_field field.entry) }
 {
     with_field(with_byte(text, b' ')?, field)
 }
 
 fn with_others(mut text: Vec<u8>, others: &[Field<'_>]) -> Result<Vec<u8>, NoMemory>
-    ensures { IfOk result (λ longer. longer.items ≡ text.items ++ flat_map (λ field. 32 ∷ printed field) others.now) }
+    ensures { IfOk result (λ longer. longer.items ≡ text.items ++ flat_map (λ field. 32 ∷ text_of_field field) others.now) }
 {
     for field in others {
         text = with_next(text, *field)?;
@@ -62,7 +62,7 @@ fn with_others(mut text: Vec<u8>, others: &[Field<'_>]) -> Result<Vec<u8>, NoMem
 
 /// The text with words behind it, with one space between.
 fn with_words(text: Vec<u8>, first: Field<'_>, others: &[Field<'_>]) -> Result<Vec<u8>, NoMemory>
-    ensures { IfOk result (λ longer. longer.items ≡ text.items ++ spaced (printed first.entry ∷ map printed others.now)) }
+    ensures { IfOk result (λ longer. longer.items ≡ text.items ++ spaced (text_of_field first.entry ∷ map text_of_field others.now)) }
 {
     let text = with_field(text, first)?;
     with_others(text, others)
@@ -70,7 +70,7 @@ fn with_words(text: Vec<u8>, first: Field<'_>, others: &[Field<'_>]) -> Result<V
 
 /// The line of these words, with one space between.
 pub fn line_of(alloc: Global, first: Field<'_>, others: &[Field<'_>]) -> Result<Text, NoMemory>
-    ensures { IfOk result (λ line. line ≡ spaced (printed first.entry ∷ map printed others.now)) }
+    ensures { IfOk result (λ line. line ≡ spaced (text_of_field first.entry ∷ map text_of_field others.now)) }
 {
     let line = with_words(Vec::new(alloc), first, others)?;
     Ok(List::from_vec(line))

@@ -3,7 +3,7 @@ use Rattle.std.specs.Prelude.{◌≡◌, ℕ, ◌+◌, ◌≤◌, Option, Some, 
 use Rattle.std.specs.Option.{ForSome}
 use Rattle.bay.specs.Image.{Image, Makes}
 use Rattle.bay.specs.State.{BayState, IsSlot, KeepsAttached, AttachesOnly}
-use Rattle.bay.specs.Counts.{counted, Rose}
+use Rattle.bay.specs.Counts.{count_after, Rose}
 use Rattle.bay.specs.Moments.{Runs, Ends, Holds, Durable}
 use Rattle.bay.specs.declared.fault.BayError.{BayError}
 use Rattle.bay.specs.declared.fault.BayError.TheVariants.{Fault}
@@ -75,14 +75,14 @@ sends_none written = written
 
 -- and in one that hands it so many
 abbrev pub sends : ℕ → ℕ → ℕ
-sends bytes written = counted written bytes
+sends bytes written = count_after written bytes
 
 -- One call of the device on an attached disk, with its answer. Its counts are exact.
 pub record DeviceCall {T E : Type 0} (result : Result T E) (slot : ℕ)
     (step : Image → Image → Type 0) (does : T → BayState → BayState → Type 0) (sent : ℕ → ℕ)
     (old new : BayState) : Type 0 where
   -- it is one call more
-  pub count : new.calls ≡ counted old.calls 1
+  pub count : new.calls ≡ count_after old.calls 1
   -- of the slot's bytes it counts those that it was handed
   pub written : new.written slot ≡ sent (old.written slot)
   -- the same disks stay attached
@@ -110,7 +110,7 @@ pub record AttachCall {T : Type 0} (result : Result T BayError) (slot : ℕ)
     (step : Image → Image → Type 0) (does : T → BayState → BayState → Type 0) (left : Option ℕ)
     (old new : BayState) : Type 0 where
   -- it is one call more
-  pub count : new.calls ≡ counted old.calls 1
+  pub count : new.calls ≡ count_after old.calls 1
   -- it hands no bytes to `write`
   pub written : new.written slot ≡ old.written slot
   -- on other slots the same disks stay attached

@@ -2,7 +2,7 @@
 ghost use Rattle.std.specs.Prelude.{◌≡◌, ◌≤◌, Some, None, Ok, length, IfOk, OnOk, OnErr, IsErrOf, IsSome};
 ghost use Rattle.std.specs.Option.{ForSome};
 ghost use Rattle.bay.specs.declared.fault.BayError.TheVariants.{Fault};
-ghost use Rattle.bay.specs.Counts.{counted, Rose};
+ghost use Rattle.bay.specs.Counts.{count_after, Rose};
 
 use crate::image::Image;
 use crate::whole::{opened, passed};
@@ -75,7 +75,7 @@ impl Slot {
     pub fn write(&mut self, at: u64, bytes: &[u8]) -> Result<(), Fault>
         requires { IsSome (size_in self.old) }
         ensures attached { size_in self.new ≡ size_in self.old }
-        ensures written { self.new.written ≡ counted self.old.written (length bytes.now) }
+        ensures written { self.new.written ≡ count_after self.old.written (length bytes.now) }
         ensures later { self.old.faults ≤ self.new.faults }
         ensures cause { OnErr result (Rose self.old.faults self.new.faults) }
     {

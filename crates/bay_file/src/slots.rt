@@ -4,7 +4,7 @@ ghost use Rattle.std.specs.Ordering.{nat_cmp};
 ghost use Rattle.std.specs.BTreeMap.{get};
 ghost use Rattle.std.specs.Option.{ForSome};
 ghost use Rattle.bay.specs.declared.fault.BayError.TheVariants.{Fault};
-ghost use Rattle.bay.specs.Counts.{counted, Rose};
+ghost use Rattle.bay.specs.Counts.{count_after, Rose};
 ghost use Rattle.bay_file.specs.Slots.{attached_in, faults_in, written_in, OtherSlotsStay, AllSlotsStay};
 
 use crate::slot::Slot;
@@ -120,7 +120,7 @@ pub fn write_in(slots: &mut SlotMap, slot: u32, at: u64, bytes: &[u8]) -> Result
     requires { IsSome (attached_in slots.old slot) }
     ensures attached { attached_in slots.new slot ≡ attached_in slots.old slot }
     ensures others { OtherSlotsStay slot slots.old slots.new }
-    ensures written { written_in slots.new slot ≡ counted (written_in slots.old slot) (length bytes.now) }
+    ensures written { written_in slots.new slot ≡ count_after (written_in slots.old slot) (length bytes.now) }
     ensures later { faults_in slots.old slot ≤ faults_in slots.new slot }
     ensures cause { OnErr result (Rose (faults_in slots.old slot) (faults_in slots.new slot)) }
 {

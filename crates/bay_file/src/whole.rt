@@ -3,7 +3,7 @@ ghost use Rattle.std.specs.Prelude.{◌≡◌, ◌≤◌, ◌↔◌, Ok, IfOk, I
 ghost use Rattle.std.specs.IoError.{error_kind};
 ghost use Rattle.std.specs.declared.io.ErrorKind.TheVariants.{OutOfMemory};
 ghost use Rattle.std.specs.Io.KnownBytes.{Appends, Consumes};
-ghost use Rattle.bay.specs.Counts.{counted};
+ghost use Rattle.bay.specs.Counts.{count_after};
 ghost use Rattle.bay_file.specs.Opening.{IsTold};
 ghost use Rattle.bay_file.specs.Places.{IsPlacedAt};
 
@@ -14,7 +14,7 @@ use std::io::{ErrorKind, Read, Seek, SeekFrom, Write};
 // Passes on what the system answered, and counts an error.
 pub fn passed<T: Drop>(answer: io::Result<T>, faults: &mut u64) -> Result<T, Fault>
     ensures ok { IfOk answer (λ value. (result ≡ Ok value) × (faults.new ≡ faults.old)) }
-    ensures err { OnErr answer (IsErr result × (faults.new ≡ counted faults.old 1)) }
+    ensures err { OnErr answer (IsErr result × (faults.new ≡ count_after faults.old 1)) }
     ensures later { faults.old ≤ faults.new }
 {
     match answer {

@@ -3,7 +3,7 @@ ghost use Rattle.std.specs.Prelude.{◌≡◌, ◌≢◌, ℕ, ◌+◌, ◌≤�
 ghost use Rattle.std.specs.Option.{ForSome};
 ghost use Rattle.bay.specs.Image.{window, Same, ChangesOnly, Range, Puts, Makes, MayMake};
 ghost use Rattle.bay.specs.declared.fault.BayError.TheVariants.{Fault};
-ghost use Rattle.bay.specs.Counts.{counted, Rose};
+ghost use Rattle.bay.specs.Counts.{count_after, Rose};
 ghost use Rattle.bay.specs.Calls.{AttachCall, Attaches, AttachesZeros, DeviceCall, Held, Settles, Tells, sends, sends_none};
 ghost use Rattle.bay.specs.State.{IsSlot, KeepsAttached, AttachesOnly, IsOnSectors, size_of};
 ghost use Rattle.bay.specs.Moments.{Runs, Ends, Holds};
@@ -122,7 +122,7 @@ impl MemBay {
 
     // Counts a call on a slot, and says whether it is to be done.
     fn begin(&mut self, slot: usize) -> bool
-        ensures count { self.new.calls ≡ counted self.old.calls 1 }
+        ensures count { self.new.calls ≡ count_after self.old.calls 1 }
         ensures attached { KeepsAttached (state_of self.old) (state_of self.new) }
         ensures written { self.new.written ≡ self.old.written }
         ensures runs { Runs (IsSlot slot) Same (state_of self.old) (state_of self.new) }

@@ -18,7 +18,7 @@ use Rattle.asm_placement.specs.Placed.{Placed, placed_copies, placed_extents}
 use Rattle.plan_records.specs.allocator.UnitMaps.{UnitMap, unused, used_of, with_run}
 use Rattle.asm_base.proofs.Exact.{bind_some, some_is}
 use Rattle.plan_records.specs.file_directory.Files.{NumberedFile, IsFileTable, head_at, item_of_file_head}
-use Rattle.plan_records.specs.extent_map.Extents.{Chunked, has_home, has_no_gap, is_behind, is_blank, is_full, opened, stand_first, stands_at}
+use Rattle.plan_records.specs.extent_map.Extents.{Chunked, has_home, has_no_gap, is_behind, is_blank, is_full, full_chunk, stand_first, stands_at}
 use Rattle.asm_base.specs.Chunks.{Chunk}
 use Rattle.plan_records.specs.extent_map.Extents as extents
 use Rattle.plan_records.specs.catalog_tables.Tables.{AreTables, Tables}
@@ -149,7 +149,7 @@ low_chunk past x used stands paid some =
     by false e false is None paid ok = absurd cc
     by false e false is (Some at) paid ok = omega (arith, paid, eqb-true (at.1 + 1) x.0.1 (and_parts (eqb at.0 x.0.0) (eqb (at.1 + 1) x.0.1) ok).1)
 
-paid_next : (past : Option Chunk) (x : Chunked) (used more : ℕ) → length x.1 ≡ 256 → stands_at past x ≡ true → Paid past used → (is_full x.1 ≡ true → 256 ≤ more) → Paid (opened x) (used + more)
+paid_next : (past : Option Chunk) (x : Chunked) (used more : ℕ) → length x.1 ≡ 256 → stands_at past x ≡ true → Paid past used → (is_full x.1 ≡ true → 256 ≤ more) → Paid (full_chunk x) (used + more)
 paid_next past x used more size stands paid full = by (is_full x.1) refl where
   first_full : (xs : List Homes) → length xs ≡ 256 → is_full xs ≡ true → is_blank xs ≡ false
   first_full [] long e = absurd (omega (arith, long))
@@ -182,13 +182,13 @@ low_chunks step [] past ms next items gap whole paid e =
     let used = ap used_in_all same in
     (tt, subst (λ (ys : List UnitMap). IsMore ms ys (used_in_all ys - used_in_all ms)) same (record { whole = whole; units = refl; used = omega arith }), omega (arith, used))
 low_chunks step (x ∷ xs) past ms next items gap whole paid e =
-    let g = either_way (stands_at past x) (has_no_gap (opened x) xs) gap in
+    let g = either_way (stands_at past x) (has_no_gap (full_chunk x) xs) gap in
     let b = bind_some (λ (mid : List UnitMap). after_chunks step mid xs) (after_homes ms (homes_of step x)) next e in
     let more = homes_more (homes_of step x) ms b.0 whole b.1 in
     let size = chunk_size x.0.0 x.0.1 x.1 items.0 in
-    let paid_then : Paid (opened x) (used_in_all b.0) = subst (λ (n : ℕ). Paid (opened x) n) (sym more.used)
+    let paid_then : Paid (full_chunk x) (used_in_all b.0) = subst (λ (n : ℕ). Paid (full_chunk x) n) (sym more.used)
     (paid_next past x (used_in_all ms) (weight (homes_of step x)) size g.0 paid (λ full. omega (arith, size, full_extents step x.0.0 (x.0.1 * 256) x.1 full))) in
-    let rest = low_chunks step xs (opened x) b.0 next items.1 g.1 more.whole paid_then b.2 in (
+    let rest = low_chunks step xs (full_chunk x) b.0 next items.1 g.1 more.whole paid_then b.2 in (
       ((λ some. omega (arith, rest.2, more.used, low_chunk past x (used_in_all ms) g.0 paid some)), rest.0),
       record { whole = rest.1.whole; units = rest.1.units ∙ more.units; used = omega (arith, rest.2, more.used) },
       omega (arith, rest.2, more.used),

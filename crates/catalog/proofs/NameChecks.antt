@@ -8,12 +8,12 @@ use Rattle.asm_group.specs.Refusal as r
 use Rattle.asm_group.specs.Shape.{Shape, is_sector, is_shape, is_step, is_unit_size}
 use Rattle.asm_group.specs.TreeEdits.{Tree}
 use Rattle.asm_formats.specs.Items.{Settings}
-use Rattle.asm_base.specs.Refusals.{said}
+use Rattle.asm_base.specs.Refusals.{meaning_of}
 use Rattle.asm_base.specs.declared.refusal.Refusal.{Refusal}
 use Rattle.asm_base.specs.declared.refusal.Refusal.TheVariants as cause
 use Rattle.plan_records.specs.asm_world.Files.{NewName, new_path}
 use Rattle.plan_records.specs.alias_edits.Edits.{IsRefusal, cause_said}
-use Rattle.plan_records.specs.alias_edits.Filing.{file_causes, filed, nodes_missing, with_file, with_nodes}
+use Rattle.plan_records.specs.alias_edits.Filing.{file_causes, tree_with_file, nodes_missing, with_file, with_nodes}
 use Rattle.plan_records.specs.alias_tree.Nodes.{Numbered}
 use Rattle.plan_records.specs.alias_tree.Trees.{tree_of}
 use Rattle.plan_records.specs.alias_edits.declared.editing.TreeError.{TreeError}
@@ -52,13 +52,13 @@ module _ (t : Tables) (name : NewName) (path : Path) (file incarnation : ℕ) (s
   path_is : path ≡ path_for t name file
   path_is = is ∙ ap (λ (n : ℕ). new_path name file n) (sym same ∙ ap (λ (x : Settings). x.incarnation) settings)
 
-  pub path_checked : (made : List Numbered) (nodes : ℕ) → filed (tree_of t.nodes) path file ≡ Ok (tree_of (with_nodes t.nodes made)) → length made ≡ nodes_missing (tree_of t.nodes) path → nodes ≡ length made → IsPathCheck t name file nodes
+  pub path_checked : (made : List Numbered) (nodes : ℕ) → tree_with_file (tree_of t.nodes) path file ≡ Ok (tree_of (with_nodes t.nodes made)) → length made ≡ nodes_missing (tree_of t.nodes) path → nodes ≡ length made → IsPathCheck t name file nodes
   path_checked made nodes done count size = record {
     free = ap (λ (p : Path). first_cause (file_causes (tree_of t.nodes) p)) (sym path_is) ∙ free_of (first_cause (file_causes (tree_of t.nodes) path)) (with_file (tree_of t.nodes) path file) (tree_of (with_nodes t.nodes made)) done;
     count = size ∙ count ∙ ap (λ (p : Path). nodes_missing (tree_of t.nodes) p) path_is;
   }
 
-  pub path_refused : (error : TreeError) (e : Refusal) → said (λ n. []) e ≡ cause_said error → IsRefusal (filed (tree_of t.nodes) path file) error → IsPathRefusal t name file e
+  pub path_refused : (error : TreeError) (e : Refusal) → meaning_of (λ n. []) e ≡ cause_said error → IsRefusal (tree_with_file (tree_of t.nodes) path file) error → IsPathRefusal t name file e
   path_refused error e meant (inl memory) = inl (meant ∙ memory)
   path_refused error e meant (inr why) =
       inr (ap (λ (p : Path). first_cause (file_causes (tree_of t.nodes) p)) (sym path_is) ∙ cause_of (first_cause (file_causes (tree_of t.nodes) path)) (with_file (tree_of t.nodes) path file) (cause_said error) why ∙ ap (λ (w : r.Refusal). Some w) (sym meant))
@@ -66,11 +66,11 @@ module _ (t : Tables) (name : NewName) (path : Path) (file incarnation : ℕ) (s
 -- ---- the answers
 
 pub no_path : (c : Catalogued) (path : Path) (size file : ℕ) → IsNextFile c.tables file → name_at path ≡ None → IsCheckRefusal c path size cause.NoTemplate
-unfolding said
+unfolding meaning_of
 no_path c path size file next none = inr (file, next, rw none refl)
 
 pub no_sectors : (c : Catalogued) (path : Path) (name : NewName) (size file : ℕ) → IsNextFile c.tables file → name_at path ≡ Some name → eqb (size % c.shape.sector) 0 ≡ false → IsCheckRefusal c path size cause.NotSectors
-unfolding said
+unfolding meaning_of
 no_sectors c path name size file next at none = inr (file, next, rw (at, none) refl)
 
 pub name_checked : (c : Catalogued) (path : Path) (name : NewName) (size file nodes : ℕ) → IsNextFile c.tables file → name_at path ≡ Some name → eqb (size % c.shape.sector) 0 ≡ true → IsPathCheck c.tables name file nodes → IsNameCheck c path size nodes

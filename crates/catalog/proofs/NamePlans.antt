@@ -21,7 +21,7 @@ use Rattle.asm_formats.specs.Items.{FileHead, Item, Key, Node, Pending, Settings
 use Rattle.asm_formats.specs.Values.{value}
 use Rattle.asm_base.specs.Records.{DirectoryRecord, is_key}
 use Rattle.asm_base.specs.Tables.{item_record}
-use Rattle.asm_base.specs.Refusals.{said}
+use Rattle.asm_base.specs.Refusals.{meaning_of}
 use Rattle.asm_base.specs.declared.refusal.Refusal.{Refusal}
 use Rattle.asm_base.specs.declared.refusal.Refusal.TheVariants as cause
 use Rattle.asm_base.proofs.Exact.{some_is}
@@ -30,7 +30,7 @@ use Rattle.plan_records.specs.page_map.Changes.{last_put, value_after}
 use Rattle.plan_records.specs.file_directory.Files.{NumberedFile, head_at, record_of_file, with_head}
 use Rattle.plan_records.proofs.file_directory.Laws.{put_keeps_table}
 use Rattle.plan_records.specs.extent_map.Extents.{Chunked}
-use Rattle.plan_records.specs.alias_edits.Filing.{filed, with_nodes}
+use Rattle.plan_records.specs.alias_edits.Filing.{tree_with_file, with_nodes}
 use Rattle.plan_records.specs.alias_edits.declared.editing.TreeError.{TreeError}
 use Rattle.plan_records.specs.alias_edits.Edits.{IsRefusal, cause_said}
 use Rattle.plan_records.specs.alias_tree.Nodes as nodes
@@ -44,7 +44,7 @@ use Rattle.plan_records.proofs.template_directory.ChangeLaws as template_laws
 use Rattle.plan_records.specs.catalog_tables.Faults.{IsCatalog, file_key, settings_key}
 use Rattle.plan_records.specs.NewNames.{HasParts, name_at}
 use Rattle.plan_records.specs.NextSettings.{settings_next}
-use Rattle.catalog.specs.NamePlans.{AreNewNodes, IsFileBeingMade, IsNamePlan, IsNameRefusal, operation_file, is_within_file, made_file, named, new_head, system_path}
+use Rattle.catalog.specs.NamePlans.{AreNewNodes, IsFileBeingMade, IsNamePlan, IsNameRefusal, operation_file, is_within_file, made_file, tables_with_name, new_head, system_path}
 use Rattle.catalog.specs.Plans.{ArePlannedItems, IsPlan}
 use Rattle.asm_placement.specs.Naming.{is_kind_directory, is_named_as, is_pending, names_back}
 use Rattle.plan_records.specs.catalog_tables.Rules.{HasExtents, KeepsRules, are_within_head, blocks_used, first_wrong, has_names, is_named_back, is_owned, keeps_copies, names_file_in_tables}
@@ -138,7 +138,7 @@ next_fits c now next is same after = subst (λ (x : Settings). is_item (settings
 
 module _ (s : Shape) (t : Tables) (f : ℕ) (head : FileHead) (made : List Numbered) (r : KeepsRules s t) (is : IsMade s t f head made) where
   abbrev u : Tables
-  u = named t f head made
+  u = tables_with_name t f head made
 
   -- ---- what stands where
 
@@ -305,7 +305,7 @@ puts_items f head made s file_ok nodes_ok settings_ok e among = elim among [
 
 pub made_planned : (c : Catalogued) (f : ℕ) (head : FileHead) (made : List Numbered) (put : List DirectoryRecord) (gone : List Key) → IsCatalog c → IsMade c.shape c.tables f head made → length made ≤ 3
     → put ≡ record_of_file (f, head) ∷ (map nodes.record_of_node made ++ item_record (settings_item (settings_next c.tables.templates.settings)) ∷ []) → gone ≡ pending_key ∷ []
-    → IsPlan c put gone (named c.tables f head made) × (length put ≤ 5)
+    → IsPlan c put gone (tables_with_name c.tables f head made) × (length put ≤ 5)
 made_planned c f head made put gone is new few p g = (
   record {
     after = record { tables = tables c.shape c.tables f head made is.rules new; records = λ k. rw (p, g) (records_after c.shape c.tables f head made is.rules new k) };
@@ -428,21 +428,21 @@ path_is t name path f incarnation s is file settings same =
 
 -- why the tree can't have it
 abbrev pub IsTreeCause : Tables → Path → Refusal → Type 0
-IsTreeCause t path e = (said (λ n. []) e ≡ r.NoMemory) ⊎ (filed (tree_of t.nodes) path (made_file t) ≡ Err (said (λ n. []) e))
+IsTreeCause t path e = (meaning_of (λ n. []) e ≡ r.NoMemory) ⊎ (tree_with_file (tree_of t.nodes) path (made_file t) ≡ Err (meaning_of (λ n. []) e))
 
-pub tree_refuses : (t : Tables) (path at : Path) (f : ℕ) (error : TreeError) (e : Refusal) → path ≡ at → f ≡ made_file t → said (λ n. []) e ≡ cause_said error → IsRefusal (filed (tree_of t.nodes) path f) error → IsTreeCause t at e
+pub tree_refuses : (t : Tables) (path at : Path) (f : ℕ) (error : TreeError) (e : Refusal) → path ≡ at → f ≡ made_file t → meaning_of (λ n. []) e ≡ cause_said error → IsRefusal (tree_with_file (tree_of t.nodes) path f) error → IsTreeCause t at e
 tree_refuses t path at f error e same number meant (inl memory) = inl (meant ∙ memory)
 tree_refuses t path at f error e same number meant (inr why) =
-    inr (ap (λ (p : Path). filed (tree_of t.nodes) p (made_file t)) (sym same) ∙ (ap (λ (n : ℕ). filed (tree_of t.nodes) path n) (sym number) ∙ (why ∙ ap (λ (w : r.Refusal). Err w) (sym meant))))
+    inr (ap (λ (p : Path). tree_with_file (tree_of t.nodes) p (made_file t)) (sym same) ∙ (ap (λ (n : ℕ). tree_with_file (tree_of t.nodes) path n) (sym number) ∙ (why ∙ ap (λ (w : r.Refusal). Err w) (sym meant))))
 
-pub want_of_memory : (e : Refusal) → e ≡ cause.NoMemory → said (λ n. []) e ≡ r.NoMemory
-unfolding said
+pub want_of_memory : (e : Refusal) → e ≡ cause.NoMemory → meaning_of (λ n. []) e ≡ r.NoMemory
+unfolding meaning_of
 want_of_memory e same = rw same refl
 
 -- ---- refusals
 
 pub no_path : (c : Catalogued) (path : Path) → name_at path ≡ None → IsNameRefusal c path cause.NoTemplate
-unfolding said
+unfolding meaning_of
 no_path c path none = inr (inl (rw none refl))
 
 pub name_refused : (c : Catalogued) (path : Path) (name : NewName) (e : Refusal) → name_at path ≡ Some name → IsTreeCause c.tables (system_path c.tables name) e → IsNameRefusal c path e

@@ -27,7 +27,7 @@ use Rattle.plan_records.specs.catalog_tables.Changing.{Sets}
 use Rattle.plan_records.specs.catalog_tables.Faults.{IsCatalog, file_key}
 use Rattle.plan_records.specs.Heads.{with_size}
 use Rattle.plan_records.specs.Operations.{HasSoMany}
-use Rattle.catalog.specs.FilePlans.{IsSizePlan, MayGrow, is_on_file, sized}
+use Rattle.catalog.specs.FilePlans.{IsSizePlan, MayGrow, is_on_file, tables_with_size}
 use Rattle.catalog.specs.Plans.{AreOwned, IsPlan}
 use Rattle.asm_placement.specs.Naming.{is_kind_directory, is_pending, names_back}
 use Rattle.plan_records.specs.catalog_tables.Rules.{HasExtents, KeepsRules, are_within_head, blocks_used, first_wrong, has_names, head_has_extent, is_named_back, is_owned, keeps_copies}
@@ -69,7 +69,7 @@ due_before s head size i le due = lt-ltb (start s.au s.step (first_of_set head.s
 
 module _ (s : Shape) (t : Tables) (f : ℕ) (head : FileHead) (size : ℕ) (pending : Option Pending) (r : KeepsRules s t) (there : head_at t.files f ≡ Some head) where
   abbrev u : Tables
-  u = sized t f head size pending
+  u = tables_with_size t f head size pending
 
   -- what is asked of a head, but its size, is as before
   same_head : {A : Type 0} (g : Option FileHead → A) → g (Some (with_size head size)) ≡ g (Some head) → (n : ℕ) → g (head_at u.files n) ≡ g (head_at t.files n)
@@ -154,7 +154,7 @@ module _ (c : Catalogued) (f : ℕ) (head : FileHead) (size : ℕ) (put : List D
   entry = record_of_file (f, with_size head size)
 
   abbrev to : Option Pending → Tables
-  to pending = sized c.tables f head size pending
+  to pending = tables_with_size c.tables f head size pending
 
   plan_of : (pending : Option Pending) → operations.IsOperationTable (record old { pending = pending }) → ((k : Key) → records_of (to pending) k ≡ value_after put gone k (records_of c.tables k)) → length put + length gone ≤ 64 → is_once put gone ≡ true → HasRoom c put
       → AreOwned (to pending) → IsPlan c put gone (to pending)

@@ -13,7 +13,7 @@ use Rattle.asm_group.specs.TreeEdits.{Tree, edit_causes, edited, entry_at, file_
 use Rattle.asm_formats.specs.Items.{FileHead, Key, Node}
 use Rattle.asm_formats.specs.Nodes.{entry_of_node, node_kind}
 use Rattle.asm_base.specs.Records.{DirectoryRecord}
-use Rattle.asm_base.specs.Refusals.{said}
+use Rattle.asm_base.specs.Refusals.{meaning_of}
 use Rattle.asm_base.specs.declared.refusal.Refusal.{Refusal}
 use Rattle.asm_base.specs.declared.refusal.Refusal.TheVariants as cause
 use Rattle.asm_base.proofs.Exact.{some_is}
@@ -32,7 +32,7 @@ use Rattle.catalog.specs.Plans.{IsPlan}
 use Rattle.asm_placement.specs.Naming.{is_kind_directory, names_back}
 use Rattle.plan_records.specs.catalog_tables.Rules.{KeepsRules}
 use Rattle.plan_records.specs.catalog_tables.Tables.{Catalogued, Tables}
-use Rattle.catalog.specs.TreePlans.{HasNoAlias, IsTreeFull, IsTreePlan, IsTreeRefusal, LacksNode, MayChange, aliased, aliased_head, files_after, heads_after, keeps_files, makes_node}
+use Rattle.catalog.specs.TreePlans.{HasNoAlias, IsTreeFull, IsTreePlan, IsTreeRefusal, LacksNode, MayChange, files_with_alias, aliased_head, files_after, heads_after, keeps_files, makes_node}
 use Rattle.asm_group.specs.Shape.{Shape}
 use Rattle.catalog.proofs.TreePlans.{named_of}
 
@@ -180,8 +180,8 @@ module _ (s : Shape) (t : Tables) (rules : KeepsRules s t) where
   heads_are (e.AddAliasEntry alias path) (change.Put n x) u p done k =
       let new = with_numbered_node t.nodes n x in
       let of_nodes : heads_after t (change.Put n x) ≡ aliased_head t.files p.file n (head_at t.files p.file) = rw (p.made.free.free, p.made.kind_is, p.made.file_is) refl in
-      let of_edit : aliased t.files (file_at tree path) (number_of new alias) ≡ aliased t.files (Some p.file) (Some n) =
-      ap (λ (o : Option ℕ). aliased t.files o (number_of new alias)) p.file_is ∙ ap (λ (o : Option ℕ). aliased t.files (Some p.file) o) p.made.at in
+      let of_edit : files_with_alias t.files (file_at tree path) (number_of new alias) ≡ files_with_alias t.files (Some p.file) (Some n) =
+      ap (λ (o : Option ℕ). files_with_alias t.files o (number_of new alias)) p.file_is ∙ ap (λ (o : Option ℕ). files_with_alias t.files (Some p.file) o) p.made.at in
       of_nodes ∙ sym of_edit
   heads_are (e.AddAliasEntry alias path) (change.Gone n) u p done k = absurd p
   heads_are (e.AddAliasEntry alias path) (change.NamesGone ns) u p done k = absurd p
@@ -224,10 +224,10 @@ full_is c edit (change.NamesGone ns) u is done full = absurd full
 
 pub plan_refused : (c : Catalogued) (edit : e.TreeEdit) (ch : TreeChange) (u : Tree) (refusal : Refusal) → IsChange c.tables.nodes edit ch → edited (tree_of c.tables.nodes) edit ≡ Ok u
     → (refusal ≡ cause.NoMemory) ⊎ ((refusal ≡ cause.DirectoryFull 1 0) × IsTreeFull c ch) → IsTreeRefusal c edit refusal
-unfolding said
+unfolding meaning_of
 plan_refused c edit ch u refusal is done (inl memory) = inl (rw memory refl)
 plan_refused c edit ch u refusal is done (inr (full, lacks)) = inr (inr (full, full_is c edit ch u is done lacks))
 
-pub edit_refused : (c : Catalogued) (edit : e.TreeEdit) (error : TreeError) (refusal : Refusal) → said (λ n. []) refusal ≡ cause_said error → IsRefusal (edited (tree_of c.tables.nodes) edit) error → IsTreeRefusal c edit refusal
+pub edit_refused : (c : Catalogued) (edit : e.TreeEdit) (error : TreeError) (refusal : Refusal) → meaning_of (λ n. []) refusal ≡ cause_said error → IsRefusal (edited (tree_of c.tables.nodes) edit) error → IsTreeRefusal c edit refusal
 edit_refused c edit error refusal same (inl memory) = inl (same ∙ memory)
 edit_refused c edit error refusal same (inr why) = inr (inl (why ∙ ap (λ (w : r.Refusal). Err w) (sym same)))

@@ -41,8 +41,8 @@ abbrev pub MayGrow : Shape → Tables → ℕ → ℕ → Type 0
 MayGrow s t f size = (head : FileHead) → head_at t.files f ≡ Some head → head.size < size → HasExtents t s (f, with_size head size)
 
 -- the tables with another size of a file, and with this pending operation
-abbrev pub sized : Tables → ℕ → FileHead → ℕ → Option Pending → Tables
-sized t f head size pending = record t { files = with_head t.files f (with_size head size); operations = record t.operations { pending = pending } }
+abbrev pub tables_with_size : Tables → ℕ → FileHead → ℕ → Option Pending → Tables
+tables_with_size t f head size pending = record t { files = with_head t.files f (with_size head size); operations = record t.operations { pending = pending } }
 
 -- The pending operation once a file has another size: none where it grew; its shrinking to the extents that it has then, where it shrank; and the one before where it is as long as it was.
 pub record IsPendingAfter (s : Shape) (f : ℕ) (head : FileHead) (size : ℕ) (before after : Option Pending) : Type 0 where
@@ -56,8 +56,8 @@ pub record IsSizePlan (c : Catalogued) (f size : ℕ) (put : List DirectoryRecor
   pub file : head_at c.tables.files f ≡ Some head
   pub pending : Option Pending
   pub operation : IsPendingAfter c.shape f head size c.tables.operations.pending pending
-  pub plan : AreOwned (sized c.tables f head size pending) → IsPlan c put gone (sized c.tables f head size pending)
-  pub owned : is_on_file c.tables.files c.tables.operations.pending ≡ true → AreOwned (sized c.tables f head size pending)
+  pub plan : AreOwned (tables_with_size c.tables f head size pending) → IsPlan c put gone (tables_with_size c.tables f head size pending)
+  pub owned : is_on_file c.tables.files c.tables.operations.pending ≡ true → AreOwned (tables_with_size c.tables f head size pending)
 
 -- ---- removals
 

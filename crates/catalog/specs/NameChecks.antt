@@ -5,7 +5,7 @@ use Rattle.asm_group.specs.Names.{Path}
 use Rattle.asm_group.specs.Refusal as r
 use Rattle.asm_group.specs.Shape.{Shape}
 use Rattle.asm_group.specs.TreeEdits.{Tree}
-use Rattle.asm_base.specs.Refusals.{said}
+use Rattle.asm_base.specs.Refusals.{meaning_of}
 use Rattle.asm_base.specs.declared.refusal.Refusal.{Refusal}
 use Rattle.plan_records.specs.asm_world.Files.{NewName}
 use Rattle.plan_records.specs.alias_edits.Filing.{file_causes, nodes_missing}
@@ -28,7 +28,7 @@ pub record IsPathCheck (t : Tables) (name : NewName) (file nodes : ℕ) : Type 0
 -- want of memory, or why it may not
 abbrev pub IsPathRefusal : Tables → NewName → ℕ → Refusal → Type 0
 IsPathRefusal t name file refusal =
-    (said (λ n. []) refusal ≡ r.NoMemory) ⊎ (first_cause (file_causes (tree_of t.nodes) (path_for t name file)) ≡ Some (said (λ n. []) refusal))
+    (meaning_of (λ n. []) refusal ≡ r.NoMemory) ⊎ (first_cause (file_causes (tree_of t.nodes) (path_for t name file)) ≡ Some (meaning_of (λ n. []) refusal))
 
 -- The next file may be made at the path with this size, and its name makes so many nodes.
 pub record IsNameCheck (c : Catalogued) (path : Path) (size nodes : ℕ) : Type 0 where
@@ -42,8 +42,8 @@ pub record IsNameCheck (c : Catalogued) (path : Path) (size nodes : ℕ) : Type 
 -- want of memory, or why the next file can't be made at the path with this size
 abbrev pub IsCheckRefusal : Catalogued → Path → ℕ → Refusal → Type 0
 IsCheckRefusal c path size refusal =
-    (said (λ n. []) refusal ≡ r.NoMemory)
-    ⊎ ((file : ℕ) × IsNextFile c.tables file × (first_cause (check_causes c.shape c.tables (name_at path) size file) ≡ Some (said (λ n. []) refusal)))
+    (meaning_of (λ n. []) refusal ≡ r.NoMemory)
+    ⊎ ((file : ℕ) × IsNextFile c.tables file × (first_cause (check_causes c.shape c.tables (name_at path) size file) ≡ Some (meaning_of (λ n. []) refusal)))
 
 -- ---- what is kept of it while the file is made
 

@@ -10,14 +10,14 @@ use Rattle.asm_group.specs.TreeEdits.{Tree}
 use Rattle.asm_formats.specs.Items.{FileHead, Key, Pending, is_item, is_redundancy, node_item}
 use Rattle.asm_placement.specs.Layout.{has_extent_by_size}
 use Rattle.asm_base.specs.Records.{DirectoryRecord}
-use Rattle.asm_base.specs.Refusals.{said}
+use Rattle.asm_base.specs.Refusals.{meaning_of}
 use Rattle.asm_base.specs.declared.refusal.Refusal.{Refusal}
 use Rattle.asm_base.specs.declared.refusal.Refusal.TheVariants as cause
 use Rattle.plan_records.specs.asm_world.Files as world
 use Rattle.plan_records.specs.asm_world.Files.{NewName, new_file_causes, new_path, next_incarnation, next_number, is_sectors, template_for}
 use Rattle.plan_records.specs.file_directory.Files.{head_at, with_head}
 use Rattle.plan_records.specs.extent_map.Extents.{Chunked, extent_at}
-use Rattle.plan_records.specs.alias_edits.Filing.{IsFiling, file_causes, filed, nodes_missing, with_nodes}
+use Rattle.plan_records.specs.alias_edits.Filing.{IsFiling, file_causes, tree_with_file, nodes_missing, with_nodes}
 use Rattle.plan_records.specs.alias_edits.Filing as of_tree
 use Rattle.plan_records.specs.alias_tree.Nodes.{IsNodeTable, Numbered, node_at}
 use Rattle.plan_records.specs.alias_tree.Trees.{tree_of}
@@ -68,11 +68,11 @@ system_path t name = path_for t name (made_file t)
 -- The tree of names with the file's, and with each directory above it that is missing; or why it can't be there.
 abbrev pub filed_as : Tables → Option NewName → Result Tree r.Refusal
 filed_as t None = Err r.NoTemplate
-filed_as t (Some name) = filed (tree_of t.nodes) (system_path t name) (made_file t)
+filed_as t (Some name) = tree_with_file (tree_of t.nodes) (system_path t name) (made_file t)
 
 -- The nodes of a new file's name: with them the tree is that with the name, and none of them was there.
 pub record AreNewNodes (nodes made : List Numbered) (path : Path) (file : ℕ) : Type 0 where
-  pub filed : filed (tree_of nodes) path file ≡ Ok (tree_of (with_nodes nodes made))
+  pub filed : tree_with_file (tree_of nodes) path file ≡ Ok (tree_of (with_nodes nodes made))
   pub filing : IsFiling nodes made path file
   pub table : IsNodeTable (with_nodes nodes made)
   pub fresh : All (λ (x : Numbered). node_at nodes x.0 ≡ None) made
@@ -95,8 +95,8 @@ new_head t name size copies stripe system = record {
 }
 
 -- the tables with the head of a file and these nodes, and the next incarnation; no operation is pending
-abbrev pub named : Tables → ℕ → FileHead → List Numbered → Tables
-named t f head made = record t {
+abbrev pub tables_with_name : Tables → ℕ → FileHead → List Numbered → Tables
+tables_with_name t f head made = record t {
   files = with_head t.files f head;
   nodes = with_nodes t.nodes made;
   templates = record t.templates { settings = settings_next t.templates.settings };
@@ -110,9 +110,9 @@ pub record IsNamePlan (c : Catalogued) (path : Path) (size copies : ℕ) (stripe
   pub name : NewName
   pub name_is : name_at path ≡ Some name
   pub made : List Numbered
-  pub filed : filed (tree_of c.tables.nodes) (system_path c.tables name) (made_file c.tables) ≡ Ok (tree_of (with_nodes c.tables.nodes made))
+  pub filed : tree_with_file (tree_of c.tables.nodes) (system_path c.tables name) (made_file c.tables) ≡ Ok (tree_of (with_nodes c.tables.nodes made))
   pub filing : IsFiling c.tables.nodes made (system_path c.tables name) (made_file c.tables)
-  pub plan : IsPlan c put gone (named c.tables (made_file c.tables) (new_head c.tables name size copies stripe filing.number) made)
+  pub plan : IsPlan c put gone (tables_with_name c.tables (made_file c.tables) (new_head c.tables name size copies stripe filing.number) made)
   -- a head, at most three nodes and the settings; and the pending operation
   pub puts : length put ≤ 5
   pub goes : length gone ≡ 1
@@ -121,7 +121,7 @@ pub record IsNamePlan (c : Catalogued) (path : Path) (size copies : ℕ) (stripe
 pub record LacksRoom (c : Catalogued) (path : Path) (need free : ℕ) : Type 0 where
   pub name : NewName
   pub name_is : name_at path ≡ Some name
-  pub filed : (u : Tree) × (filed (tree_of c.tables.nodes) (system_path c.tables name) (made_file c.tables) ≡ Ok u)
+  pub filed : (u : Tree) × (tree_with_file (tree_of c.tables.nodes) (system_path c.tables name) (made_file c.tables) ≡ Ok u)
   pub need_is : need ≡ nodes_missing (tree_of c.tables.nodes) (system_path c.tables name) + 1
   pub free_is : free + blocks_used c.tables + 2 ≡ c.shape.dir_blocks
   pub few : free < need
@@ -129,8 +129,8 @@ pub record LacksRoom (c : Catalogued) (path : Path) (need free : ℕ) : Type 0 w
 -- want of memory, why the name can't be there, or want of blocks
 abbrev pub IsNameRefusal : Catalogued → Path → Refusal → Type 0
 IsNameRefusal c path refusal =
-    (said (λ n. []) refusal ≡ r.NoMemory)
-    ⊎ ((filed_as c.tables (name_at path) ≡ Err (said (λ n. []) refusal))
+    (meaning_of (λ n. []) refusal ≡ r.NoMemory)
+    ⊎ ((filed_as c.tables (name_at path) ≡ Err (meaning_of (λ n. []) refusal))
     ⊎ ((need : ℕ) × (free : ℕ) × (refusal ≡ cause.DirectoryFull need free) × LacksRoom c path need free))
 
 -- ---- a new file as asm_world speaks of it

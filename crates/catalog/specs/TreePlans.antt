@@ -6,7 +6,7 @@ use Rattle.asm_group.specs.declared.NodeKind.{NodeKind}
 use Rattle.asm_group.specs.declared.NodeKind.TheVariants.{Directory, Alias}
 use Rattle.asm_formats.specs.Items.{FileHead, Key, Node}
 use Rattle.asm_base.specs.Records.{DirectoryRecord}
-use Rattle.asm_base.specs.Refusals.{said}
+use Rattle.asm_base.specs.Refusals.{meaning_of}
 use Rattle.asm_base.specs.declared.refusal.Refusal.{Refusal}
 use Rattle.asm_base.specs.declared.refusal.Refusal.TheVariants as cause
 use Rattle.plan_records.specs.alias_edits.declared.planning.TreeChange.{TreeChange}
@@ -38,14 +38,14 @@ aliased_head files f n None = files
 aliased_head files f n (Some head) = with_head files f (head_with_alias head n)
 
 -- the files, of which one has this alias node
-abbrev pub aliased : List NumberedFile → Option ℕ → Option ℕ → List NumberedFile
-aliased files (Some f) (Some n) = aliased_head files f n (head_at files f)
-aliased files _ _ = files
+abbrev pub files_with_alias : List NumberedFile → Option ℕ → Option ℕ → List NumberedFile
+files_with_alias files (Some f) (Some n) = aliased_head files f n (head_at files f)
+files_with_alias files _ _ = files
 
 -- The files after an edit that leads to these nodes: the one that gets an alias has its node, and the one that loses it has none.
 abbrev pub files_after : Tables → TreeEdit → List Numbered → List NumberedFile
-files_after t (AddAliasEntry alias path) new = aliased t.files (file_at (tree_of t.nodes) path) (number_of new alias)
-files_after t (DropAliasEntry path) new = aliased t.files (file_at (tree_of t.nodes) path) (Some 0)
+files_after t (AddAliasEntry alias path) new = files_with_alias t.files (file_at (tree_of t.nodes) path) (number_of new alias)
+files_after t (DropAliasEntry path) new = files_with_alias t.files (file_at (tree_of t.nodes) path) (Some 0)
 files_after t _ new = t.files
 
 -- ---- what a change of the nodes does to the files
@@ -122,4 +122,4 @@ pub record LacksNode (c : Catalogued) (edit : TreeEdit) : Type 0 where
 -- want of memory, why the edit is refused, or want of a block
 abbrev pub IsTreeRefusal : Catalogued → TreeEdit → Refusal → Type 0
 IsTreeRefusal c edit refusal =
-    (said (λ n. []) refusal ≡ r.NoMemory) ⊎ ((edited (tree_of c.tables.nodes) edit ≡ Err (said (λ n. []) refusal)) ⊎ ((refusal ≡ cause.DirectoryFull 1 0) × LacksNode c edit))
+    (meaning_of (λ n. []) refusal ≡ r.NoMemory) ⊎ ((edited (tree_of c.tables.nodes) edit ≡ Err (meaning_of (λ n. []) refusal)) ⊎ ((refusal ≡ cause.DirectoryFull 1 0) × LacksNode c edit))

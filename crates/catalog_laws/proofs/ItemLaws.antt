@@ -106,7 +106,7 @@ head_said [] f = refl
 head_said (file_item g h ∷ items) f = ap (option_or (if_is (eqb g f) h)) (head_said items f)
 head_said (i ∷ items) f = head_said items f
 
-homes_said : (items : List Item) (f c : ℕ) → homes_in items f c ≡ first_said (tells_of extents.chunked is_chunk_at (f, c)) items
+homes_said : (items : List Item) (f c : ℕ) → homes_in items f c ≡ first_said (tells_of extents.chunk_of_item is_chunk_at (f, c)) items
 unfolding homes_in
 homes_said [] f c = refl
 homes_said (chunk_item g d homes ∷ items) f c = ap (option_or (if_is (eqb g f && eqb d c) homes)) (homes_said items f c)
@@ -149,7 +149,7 @@ module _ (t : Tables) (items : List Item) (a : AreTables t) (is : AreItemsOf t i
       let less : x.0.1 + 1 - 1 ≡ x.0.1 = omega arith in
       let here : option_map (chunk_item x.0.0 x.0.1) (extents.chunk_at t.extents x.0) ≡ Some (extents.item_of_chunk x) = rw (some, less) at e in
       let m = from_map (chunk_item x.0.0 x.0.1) (extents.chunk_at t.extents x.0) (extents.item_of_chunk x) here in
-      let same : extents.chunk_at t.extents x.0 ≡ Some x.1 = m.1 ∙ ap (option_map (λ (y : extents.Chunked). y.1)) (ap extents.chunked m.2) in
+      let same : extents.chunk_at t.extents x.0 ≡ Some x.1 = m.1 ∙ ap (option_map (λ (y : extents.Chunked). y.1)) (ap extents.chunk_of_item m.2) in
       found_is chunk_order.chunk_cmp chunk_total chunks_exact x.0 t.extents x.1 same
 
   pub chunk_entries : AreEntries extents.item_of_chunk t.extents items

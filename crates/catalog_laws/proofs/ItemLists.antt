@@ -18,7 +18,7 @@ use Rattle.catalog.specs.asm_placement.Placed.{Placed, placed}
 use Rattle.catalog.specs.asm_placement.Work.{keys_differ}
 use Rattle.catalog.specs.asm_base.Records.{Ascend}
 use Rattle.catalog.specs.file_directory.Files.{head_at}
-use Rattle.catalog.specs.extent_map.Extents.{Chunked, IsNumbered, chunked, item_of_chunk}
+use Rattle.catalog.specs.extent_map.Extents.{Chunked, IsNumbered, chunk_of_item, item_of_chunk}
 use Rattle.catalog.specs.asm_base.Chunks.{Chunk, is_chunk_before}
 use Rattle.catalog.proofs.extent_map.Laws.{chunk_entries as chunk_laws, table_numbered}
 use Rattle.catalog.specs.catalog_tables.Tables.{AreTables, Tables}
@@ -53,7 +53,7 @@ keys_apart (x ∷ xs) least up =
 -- ---- the chunks among the items are those of the table, in its order
 
 abbrev is_chunk : Item → Bool
-is_chunk i = is_some (chunked i)
+is_chunk i = is_some (chunk_of_item i)
 
 lower : (ns : List ℕ) (m least : ℕ) → least ≤ m → ascends_from m ns ≡ true → ascends_from least ns ≡ true
 lower [] m least le up = refl
@@ -114,8 +114,8 @@ passes p (y ∷ xs) x h = by (p y) refl h (passes p xs x) where
   by false is k rest = rest k
 
 the_entry : (i : Item) → is_chunk i ≡ true → (x : Chunked) × (item_of_chunk x ≡ i)
-the_entry i e = by (chunked i) refl e where
-  by : (o : Option Chunked) → chunked i ≡ o → is_some o ≡ true → (x : Chunked) × (item_of_chunk x ≡ i)
+the_entry i e = by (chunk_of_item i) refl e where
+  by : (o : Option Chunked) → chunk_of_item i ≡ o → is_some o ≡ true → (x : Chunked) × (item_of_chunk x ≡ i)
   by None is e = absurd cc
   by (Some x) is e = (x, chunk_laws.0.there i x is)
 

@@ -87,8 +87,8 @@ no_break s es t ms k r infos regular units (fault.no_room e is) = omega (arith, 
 
 no_gap : (past : Option chunk_order.Chunk) (t : List extents.Chunked) (at : chunk_order.Chunk) → gap_from past t ≡ Some at → extents.has_no_gap past t ≡ true → ⊥
 no_gap past [] at e right = none-some at e
-no_gap past (x ∷ t) at e right = by (extents.stands_at past x) refl (no_gap (extents.opened x) t at) where
-  by : (b : Bool) → extents.stands_at past x ≡ b → (gap_from (extents.opened x) t ≡ Some at → extents.has_no_gap (extents.opened x) t ≡ true → ⊥) → ⊥
+no_gap past (x ∷ t) at e right = by (extents.stands_at past x) refl (no_gap (extents.full_chunk x) t at) where
+  by : (b : Bool) → extents.stands_at past x ≡ b → (gap_from (extents.full_chunk x) t ≡ Some at → extents.has_no_gap (extents.full_chunk x) t ≡ true → ⊥) → ⊥
   by true is rest = rest (rw is at e) (rw is at right)
   by false is rest = true≢false (sym (rw is at right))
 

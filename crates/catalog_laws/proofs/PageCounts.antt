@@ -13,7 +13,7 @@ use Rattle.asm_formats.specs.Values.{value}
 use Rattle.catalog.specs.asm_base.Records.{DirectoryRecord, key_cmp}
 use Rattle.catalog.specs.page_map.Changes.{is_put}
 use Rattle.catalog.specs.page_map.Listing.{key_of_place}
-use Rattle.catalog.specs.page_map.Tables.{PageTable, has_kept_pages, new_in, one_if, pending_key, place_at, rebalance_key, room, used}
+use Rattle.catalog.specs.page_map.Tables.{PageTable, has_kept_pages, new_in, one_if, pending_key, place_at, rebalance_key, room, used_pages}
 use Rattle.catalog.proofs.page_map.Keys.{key_itself}
 use Rattle.catalog.specs.file_directory.Files as files
 use Rattle.catalog.specs.extent_map.Extents as extents
@@ -147,7 +147,7 @@ module _ (t : Tables) (pages : PageTable) (are : ArePaged t pages) where
       let s = said t k i.0 i.1 in
       (i.0, in_parts t i.0 s.0, s.1)
 
-  counted : used pages ≤ blocks_used t
+  counted : used_pages pages ≤ blocks_used t
   counted =
       let few = no_more (map key_of_place pages.places) (joined (parts t)) are.ordered item_of_key in
       let places = length-map pages.places key_of_place in
@@ -174,4 +174,4 @@ plans_have_room c pages put gone u are units plan =
     let few = counted c.tables pages are in
     let new = new_counted c.tables pages are put in
     let room = plan.room in
-    fits (new_in pages put) (used pages) (blocks_used c.tables) pages.free.units few (omega (arith, new, room, units))
+    fits (new_in pages put) (used_pages pages) (blocks_used c.tables) pages.free.units few (omega (arith, new, room, units))

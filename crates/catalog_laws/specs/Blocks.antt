@@ -4,7 +4,7 @@ use Rattle.std.specs.List.Sorted.{IsStrictlySortedBy}
 use Rattle.asm_formats.specs.Items.{Key}
 use Rattle.catalog.specs.asm_base.Records.{DirectoryRecord, key_cmp, record_at}
 use Rattle.catalog.specs.page_map.Listing.{key_of_place}
-use Rattle.catalog.specs.page_map.Tables.{IsPageTable, PageTable, new_in, room, used}
+use Rattle.catalog.specs.page_map.Tables.{IsPageTable, PageTable, new_in, room, used_pages}
 use Rattle.catalog.specs.Plans.{IsPlan}
 use Rattle.catalog.specs.catalog_tables.Rules.{blocks_used, new_records}
 use Rattle.catalog.specs.catalog_tables.Tables.{AreTables, Catalogued, Tables, records_of}
@@ -18,7 +18,7 @@ pub record ArePaged (t : Tables) (pages : PageTable) : Type 0 where
 
 -- No more pages are used than the tables count, and a change puts as many new records on pages as into the tables.
 pub record BlocksAreCounted : Type 0 where
-  pub used : (t : Tables) (pages : PageTable) → ArePaged t pages → used pages ≤ blocks_used t
+  pub used : (t : Tables) (pages : PageTable) → ArePaged t pages → used_pages pages ≤ blocks_used t
   pub new : (t : Tables) (pages : PageTable) (put : List DirectoryRecord) → ArePaged t pages → new_in pages put ≡ new_records t put
 
 -- There is room for what a plan puts.

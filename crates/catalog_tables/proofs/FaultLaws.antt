@@ -12,7 +12,7 @@ use Rattle.asm_base.specs.Chunks.{Chunk}
 use Rattle.extent_map.proofs.Laws.{table_numbered}
 use Rattle.catalog_tables.specs.Tables.{AreTables, Tables}
 use Rattle.catalog_tables.specs.Rules.{AreOnRegular, HasExtents, IsShortFile, KeepsRules, blocks_used, first_unknown, first_wrong, has_chunk, has_marks, has_names, is_marked_right, is_named_back, is_on_disks, is_owned, is_regular_chunk, keeps_copies}
-use Rattle.catalog_tables.specs.Placing.{after_homes, homes_of, misplaced, unused_maps}
+use Rattle.catalog_tables.specs.Placing.{after_homes, homes_of, first_misplaced, unused_maps}
 use Rattle.catalog_tables.specs.Faults.{AreChunksRight, AreNamesRight, AreSizesRight, BreaksRule, IsChunkFault, disk_key, file_key, key_of_chunk, key_of_marks, node_key, settings_key}
 use Rattle.catalog_tables.specs.Faults as fault
 
@@ -83,7 +83,7 @@ on_quorum_is s es t at k e is = fault.on_quorum at e is
 pub no_room_is : (s : Shape) (es : List status.Entry) (t : Tables) (k : Key) → s.dir_blocks < blocks_used t + 2 → k ≡ settings_key → BreaksRule s es t k
 no_room_is s es t k e is = fault.no_room e is
 
-pub misplaced_is : (s : Shape) (es : List status.Entry) (t : Tables) (at : Chunk) (k : Key) → misplaced s.step (unused_maps s es) t.extents ≡ Some at → k ≡ key_of_chunk at → BreaksRule s es t k
+pub misplaced_is : (s : Shape) (es : List status.Entry) (t : Tables) (at : Chunk) (k : Key) → first_misplaced s.step (unused_maps s es) t.extents ≡ Some at → k ≡ key_of_chunk at → BreaksRule s es t k
 misplaced_is s es t at k e is = fault.out_of_place at e is
 
 -- ---- the number of a chunk that is found has room in its key
@@ -104,13 +104,13 @@ fault_numbered t at are (inr (inr (inr e))) = first_numbered is_on_disks t.exten
 pub quorum_numbered : (es : List status.Entry) (t : Tables) (at : Chunk) → IsExtentTable t.extents → first_wrong (is_regular_chunk es) t.extents ≡ Some at → at.1 + 1 < 2 ^ 32
 quorum_numbered es t at table e = first_numbered (is_regular_chunk es) t.extents at (table_numbered t.extents table) e
 
-placed_numbered : (step : ℕ) (xs : List Chunked) (ms : List UnitMap) (at : Chunk) → AllByRecursion IsNumbered xs → misplaced step ms xs ≡ Some at → at.1 + 1 < 2 ^ 32
-unfolding misplaced
+placed_numbered : (step : ℕ) (xs : List Chunked) (ms : List UnitMap) (at : Chunk) → AllByRecursion IsNumbered xs → first_misplaced step ms xs ≡ Some at → at.1 + 1 < 2 ^ 32
+unfolding first_misplaced
 placed_numbered step [] ms at all e = absurd (none-some at e)
 placed_numbered step (x ∷ xs) ms at all e = by (after_homes ms (homes_of step x)) refl (λ next. placed_numbered step xs next at all.1) where
-  by : (placed : Option (List UnitMap)) → after_homes ms (homes_of step x) ≡ placed → ((next : List UnitMap) → misplaced step next xs ≡ Some at → at.1 + 1 < 2 ^ 32) → at.1 + 1 < 2 ^ 32
+  by : (placed : Option (List UnitMap)) → after_homes ms (homes_of step x) ≡ placed → ((next : List UnitMap) → first_misplaced step next xs ≡ Some at → at.1 + 1 < 2 ^ 32) → at.1 + 1 < 2 ^ 32
   by None is rest = subst (λ (c : Chunk). c.1 + 1 < 2 ^ 32) (some_is x.0 at (rw is at e)) all.0
   by (Some next) is rest = rest next (rw is at e)
 
-pub misplaced_numbered : (step : ℕ) (xs : List Chunked) (ms : List UnitMap) (at : Chunk) → IsExtentTable xs → misplaced step ms xs ≡ Some at → at.1 + 1 < 2 ^ 32
+pub misplaced_numbered : (step : ℕ) (xs : List Chunked) (ms : List UnitMap) (at : Chunk) → IsExtentTable xs → first_misplaced step ms xs ≡ Some at → at.1 + 1 < 2 ^ 32
 misplaced_numbered step xs ms at table e = placed_numbered step xs ms at (table_numbered xs table) e

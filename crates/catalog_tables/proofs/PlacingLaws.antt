@@ -14,7 +14,7 @@ use Rattle.partnership.specs.asm_placement.Placed.{Placed, placed_copies, placed
 use Rattle.page_map.specs.allocator.UnitMaps.{IsFreeRun, UnitMap, is_free, with_run}
 use Rattle.extent_map.specs.Extents.{Chunked}
 use Rattle.asm_base.specs.Chunks.{Chunk}
-use Rattle.catalog_tables.specs.Placing.{after_chunks, after_homes, home_placed, home_taken, homes_of, is_run_free, misplaced}
+use Rattle.catalog_tables.specs.Placing.{after_chunks, after_homes, home_placed, home_taken, homes_of, is_run_free, first_misplaced}
 
 either : (b : Bool) → (b ≡ true) ⊎ (b ≡ false)
 either true = inl refl
@@ -100,29 +100,29 @@ unfolding after_homes
 no_extents ms step f i = refl
 
 pub next_chunk : (ms next : List UnitMap) (step : ℕ) (x : Chunked) (xs : List Chunked) → after_homes ms (homes_of step x) ≡ Some next
-    → (misplaced step ms (x ∷ xs) ≡ misplaced step next xs) × (after_chunks step ms (x ∷ xs) ≡ after_chunks step next xs)
-unfolding misplaced after_chunks
+    → (first_misplaced step ms (x ∷ xs) ≡ first_misplaced step next xs) × (after_chunks step ms (x ∷ xs) ≡ after_chunks step next xs)
+unfolding first_misplaced after_chunks
 next_chunk ms next step x xs e = (rw e refl, rw e refl)
 
-pub chunk_refused : (ms : List UnitMap) (step : ℕ) (x : Chunked) (xs : List Chunked) → after_homes ms (homes_of step x) ≡ None → misplaced step ms (x ∷ xs) ≡ Some x.0
-unfolding misplaced
+pub chunk_refused : (ms : List UnitMap) (step : ℕ) (x : Chunked) (xs : List Chunked) → after_homes ms (homes_of step x) ≡ None → first_misplaced step ms (x ∷ xs) ≡ Some x.0
+unfolding first_misplaced
 chunk_refused ms step x xs e = rw e refl
 
-pub no_chunks : (ms : List UnitMap) (step : ℕ) → (misplaced step ms [] ≡ None) × (after_chunks step ms [] ≡ Some ms)
-unfolding misplaced after_chunks
+pub no_chunks : (ms : List UnitMap) (step : ℕ) → (first_misplaced step ms [] ≡ None) × (after_chunks step ms [] ≡ Some ms)
+unfolding first_misplaced after_chunks
 no_chunks ms step = (refl, refl)
 
 -- where a chunk is out of place there are no maps
-pub misplaced_none : (step : ℕ) (xs : List Chunked) (ms : List UnitMap) (at : Chunk) → misplaced step ms xs ≡ Some at → after_chunks step ms xs ≡ None
-unfolding misplaced after_chunks
+pub misplaced_none : (step : ℕ) (xs : List Chunked) (ms : List UnitMap) (at : Chunk) → first_misplaced step ms xs ≡ Some at → after_chunks step ms xs ≡ None
+unfolding first_misplaced after_chunks
 misplaced_none step [] ms at e = absurd (none-some at e)
 misplaced_none step (x ∷ xs) ms at e = by (λ next f. misplaced_none step xs next at f) (after_homes ms (homes_of step x)) refl where
-  by : ((next : List UnitMap) → misplaced step next xs ≡ Some at → after_chunks step next xs ≡ None) → (next : Option (List UnitMap)) → after_homes ms (homes_of step x) ≡ next → after_chunks step ms (x ∷ xs) ≡ None
+  by : ((next : List UnitMap) → first_misplaced step next xs ≡ Some at → after_chunks step next xs ≡ None) → (next : Option (List UnitMap)) → after_homes ms (homes_of step x) ≡ next → after_chunks step ms (x ∷ xs) ≡ None
   by rest None is = rw is refl
   by rest (Some next) is = rw is (rest next (rw is at e))
 
 -- where all homes have units, none is out of place
-pub all_placed : (step : ℕ) (xs : List Chunked) (ms next : List UnitMap) (fault : Option Chunk) (there : (all : List UnitMap) × (after_chunks step ms xs ≡ Some all)) → fault ≡ misplaced step ms xs → IfNone fault (after_chunks step ms xs ≡ Some next) → after_chunks step ms xs ≡ Some next
+pub all_placed : (step : ℕ) (xs : List Chunked) (ms next : List UnitMap) (fault : Option Chunk) (there : (all : List UnitMap) × (after_chunks step ms xs ≡ Some all)) → fault ≡ first_misplaced step ms xs → IfNone fault (after_chunks step ms xs ≡ Some next) → after_chunks step ms xs ≡ Some next
 all_placed step xs ms next None there e placed = placed
 all_placed step xs ms next (Some at) there e placed = absurd (none-some there.0 (sym (misplaced_none step xs ms at (sym e)) ∙ there.1))
 
@@ -142,18 +142,18 @@ when_false r x next e not = e ∙ rw not refl
 
 pub placed_next : (step : ℕ) (ms next : List UnitMap) (x : Chunked) (all left : List Chunked) (homes : List Homes) (r : Bool) (fault : Option Chunk) (after : Option (List UnitMap))
     → homes ≡ x.1 → after_homes ms (placed_extents step x.0.0 (x.0.1 * 256) homes) ≡ cond r (Some next) None → r ≡ true → all ≡ x ∷ left
-    → misplaced step ms all ≡ fault → after_chunks step ms all ≡ after → (misplaced step next left ≡ fault) × (after_chunks step next left ≡ after)
+    → first_misplaced step ms all ≡ fault → after_chunks step ms all ≡ after → (first_misplaced step next left ≡ fault) × (after_chunks step next left ≡ after)
 placed_next step ms next x all left homes r fault after same placed ok split f a =
     let e : after_homes ms (homes_of step x) ≡ Some next = ap (λ (hs : List Homes). after_homes ms (placed_extents step x.0.0 (x.0.1 * 256) hs)) (sym same) ∙ when_true r _ next placed ok in
     let n = next_chunk ms next step x left e in
-    (sym n.0 ∙ ap (misplaced step ms) (sym split) ∙ f, sym n.1 ∙ ap (after_chunks step ms) (sym split) ∙ a)
+    (sym n.0 ∙ ap (first_misplaced step ms) (sym split) ∙ f, sym n.1 ∙ ap (after_chunks step ms) (sym split) ∙ a)
 
 pub placed_not : (step : ℕ) (ms next : List UnitMap) (x : Chunked) (all left : List Chunked) (homes : List Homes) (r : Bool) (fault : Option Chunk)
     → homes ≡ x.1 → after_homes ms (placed_extents step x.0.0 (x.0.1 * 256) homes) ≡ cond r (Some next) None → r ≡ false → all ≡ x ∷ left
-    → misplaced step ms all ≡ fault → Some x.0 ≡ fault
+    → first_misplaced step ms all ≡ fault → Some x.0 ≡ fault
 placed_not step ms next x all left homes r fault same placed not split f =
     let e : after_homes ms (homes_of step x) ≡ None = ap (λ (hs : List Homes). after_homes ms (placed_extents step x.0.0 (x.0.1 * 256) hs)) (sym same) ∙ when_false r _ next placed not in
-    sym (chunk_refused ms step x left e) ∙ ap (misplaced step ms) (sym split) ∙ f
+    sym (chunk_refused ms step x left e) ∙ ap (first_misplaced step ms) (sym split) ∙ f
 
 pub units_some : (step i n : ℕ) → n ≡ units_of step i → 0 < n
 unfolding units_of

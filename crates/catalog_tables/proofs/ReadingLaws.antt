@@ -7,7 +7,7 @@ use Rattle.asm_formats.specs.Items.{Key}
 use Rattle.asm_formats.specs.Status as status
 use Rattle.asm_base.specs.Records.{DirectoryRecord, record_at}
 use Rattle.asm_base.proofs.Exact.{some_is}
-use Rattle.extent_map.specs.Extents.{Chunked, IsNumbered, opened, stands_at}
+use Rattle.extent_map.specs.Extents.{Chunked, IsNumbered, full_chunk, stands_at}
 use Rattle.asm_base.specs.Chunks.{Chunk}
 use Rattle.extent_map.specs.Faults.{HasGap, gap_from}
 use Rattle.extent_map.proofs.Laws.{all_numbered}
@@ -33,8 +33,8 @@ loose_at content answer.NoMemory g s es = tt
 
 numbered_in : (past : Option Chunk) (t : List Chunked) (at : Chunk) → AllByRecursion IsNumbered t → gap_from past t ≡ Some at → at.1 + 1 < 2 ^ 32
 numbered_in past [] at all e = absurd (none-some at e)
-numbered_in past (x ∷ t) at all e = by (stands_at past x) refl (numbered_in (opened x) t at all.1) where
-  by : (b : Bool) → stands_at past x ≡ b → (gap_from (opened x) t ≡ Some at → at.1 + 1 < 2 ^ 32) → at.1 + 1 < 2 ^ 32
+numbered_in past (x ∷ t) at all e = by (stands_at past x) refl (numbered_in (full_chunk x) t at all.1) where
+  by : (b : Bool) → stands_at past x ≡ b → (gap_from (full_chunk x) t ≡ Some at → at.1 + 1 < 2 ^ 32) → at.1 + 1 < 2 ^ 32
   by true is rest = rest (rw is at e)
   by false is rest = subst (λ (c : Chunk). c.1 + 1 < 2 ^ 32) (some_is x.0 at (rw is at e)) all.0
 

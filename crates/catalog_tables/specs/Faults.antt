@@ -13,7 +13,7 @@ use Rattle.catalog_tables.specs.declared.error.CatalogError.{CatalogError}
 use Rattle.catalog_tables.specs.declared.error.CatalogError.TheVariants as answer
 use Rattle.catalog_tables.specs.Tables.{AreTables, Catalogued, HasRecords, Tables, first_unreadable}
 use Rattle.catalog_tables.specs.Rules.{AreOnRegular, HasExtents, IsShortFile, KeepsRules, blocks_used, first_unknown, first_wrong, has_chunk, has_marks, has_names, is_marked_right, is_named_back, is_on_disks, is_owned, is_regular_chunk, keeps_copies}
-use Rattle.catalog_tables.specs.Placing.{HasUnits, misplaced, unused_maps}
+use Rattle.catalog_tables.specs.Placing.{HasUnits, first_misplaced, unused_maps}
 
 -- ---- keys
 
@@ -83,7 +83,7 @@ pub data BreaksRule (s : Shape) (entries : List status.Entry) (t : Tables) (k : 
   -- a chunk that has two homes of an extent on one disk
   on_one_disk : (at : Chunk) → first_wrong is_on_disks t.extents ≡ Some at → k ≡ key_of_chunk at → BreaksRule s entries t k
   -- a chunk that has a home that meets an earlier one, lies outside of the user units of its disk, or on a disk without an entry
-  out_of_place : (at : Chunk) → misplaced s.step (unused_maps s entries) t.extents ≡ Some at → k ≡ key_of_chunk at → BreaksRule s entries t k
+  out_of_place : (at : Chunk) → first_misplaced s.step (unused_maps s entries) t.extents ≡ Some at → k ≡ key_of_chunk at → BreaksRule s entries t k
   -- a chunk that has a home on a disk of a quorum failure group
   on_quorum : (at : Chunk) → first_wrong (is_regular_chunk entries) t.extents ≡ Some at → k ≡ key_of_chunk at → BreaksRule s entries t k
   -- a system or alias node that names no file that names it as such

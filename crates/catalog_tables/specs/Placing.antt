@@ -50,9 +50,9 @@ after_chunks step ms [] = Some ms
 after_chunks step ms (x ∷ xs) = option_and_then (λ next. after_chunks step next xs) (after_homes ms (homes_of step x))
 
 -- the first chunk that has a home whose units aren't free
-unfoldable pub misplaced : ℕ → List UnitMap → List Chunked → Option Chunk
-misplaced step ms [] = None
-misplaced step ms (x ∷ xs) = from (λ next. misplaced step next xs) (after_homes ms (homes_of step x))
+unfoldable pub first_misplaced : ℕ → List UnitMap → List Chunked → Option Chunk
+first_misplaced step ms [] = None
+first_misplaced step ms (x ∷ xs) = from (λ next. first_misplaced step next xs) (after_homes ms (homes_of step x))
   where
     from : (List UnitMap → Option Chunk) → Option (List UnitMap) → Option Chunk
     from go None = Some x.0

@@ -8,7 +8,7 @@ ghost use Rattle.asm_formats.specs.Regions.{reserved_units};
 ghost use Rattle.asm_formats.specs.Status.{is_entry};
 ghost use Rattle.asm_group.specs.Shape.{is_shape};
 ghost use Rattle.partnership.specs.asm_placement.Placed.{placed_copies, placed_extents};
-ghost use Rattle.catalog_tables.specs.Placing.{AreFit, IsFit, after_chunks, after_homes, disk_units, have_units, home_placed, home_taken, map_units, misplaced, unused_maps};
+ghost use Rattle.catalog_tables.specs.Placing.{AreFit, IsFit, after_chunks, after_homes, disk_units, have_units, home_placed, home_taken, map_units, first_misplaced, unused_maps};
 
 use asm_base::{Home, Homes, MOST_DISKS, NoMemory, Shape};
 use extent_map::ExtentMap;
@@ -19,7 +19,7 @@ use std::alloc::Global;
 /// Makes the units of the homes of all chunks used. The first chunk that has a home whose units aren't free.
 #[tactic(auto, using(crate::proofs::PlacingLaws::next_chunk, crate::proofs::PlacingLaws::no_chunks, crate::proofs::PlacingLaws::chunk_refused))]
 fn place_all(units: &mut [Units], step: u32, extents: &ExtentMap) -> Option<(u32, u32)>
-    ensures fault { result ≡ misplaced step units.old extents.now }
+    ensures fault { result ≡ first_misplaced step units.old extents.now }
     ensures after { IfNone result (after_chunks step units.old extents.now ≡ Some units.new) }
 {
     for (at, chunk) in extents.iter() {
@@ -32,7 +32,7 @@ fn place_all(units: &mut [Units], step: u32, extents: &ExtentMap) -> Option<(u32
 
 /// The same of a vector.
 pub(crate) fn place_in(units: &mut Vec<Units>, step: u32, extents: &ExtentMap) -> Option<(u32, u32)>
-    ensures fault { result ≡ misplaced step units.old.items extents.now }
+    ensures fault { result ≡ first_misplaced step units.old.items extents.now }
     ensures after { IfNone result (after_chunks step units.old.items extents.now ≡ Some units.new.items) }
 {
     place_all(units, step, extents)

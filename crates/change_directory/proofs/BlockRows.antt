@@ -9,12 +9,12 @@ use Rattle.asm_formats.specs.Bytes.{block}
 use Rattle.asm_formats.specs.Logs.{blocks_from}
 use Rattle.asm_images.specs.Bridge.{disk_bytes}
 use Rattle.asm_images.proofs.Bridges.{bytes_are_listed}
-use Rattle.change_directory.specs.Slots.{cut, blocks_at}
+use Rattle.change_directory.specs.Slots.{blocks_of, blocks_at}
 use Rattle.change_directory.proofs.Windows.{window-append}
 
 -- the blocks of a window
-pub cut_window : (byte : ℕ → ℕ) (k n : ℕ) → cut n (window byte (k * 4096) (n * 4096)) ≡ blocks_at byte k n
-unfolding cut blocks_at
+pub cut_window : (byte : ℕ → ℕ) (k n : ℕ) → blocks_of n (window byte (k * 4096) (n * 4096)) ≡ blocks_at byte k n
+unfolding blocks_of blocks_at
 cut_window byte k zero = refl
 cut_window byte k (suc n) =
     let a : Bytes = window byte (k * 4096) 4096 in
@@ -25,32 +25,32 @@ cut_window byte k (suc n) =
     ap (window byte (k * 4096)) more ∙ window-append byte (k * 4096) 4096 (n * 4096) ∙ ap (λ (at : ℕ). a ++ window byte at (n * 4096)) next in
     let front : take 4096 (a ++ b) ≡ a = take_at a b 4096 (length-window byte (k * 4096) 4096) in
     let rest : drop 4096 (a ++ b) ≡ b = drop_at a b 4096 (length-window byte (k * 4096) 4096) in
-    ap (cut (suc n)) split ∙ (λ i. front i ∷ cut n (rest i)) ∙ ap (λ (l : List Bytes). a ∷ l) (cut_window byte (k + 1) n)
+    ap (blocks_of (suc n)) split ∙ (λ i. front i ∷ blocks_of n (rest i)) ∙ ap (λ (l : List Bytes). a ∷ l) (cut_window byte (k + 1) n)
 
 -- one block more
-pub cut_more : (n : ℕ) (bytes : Bytes) → cut (n + 1) bytes ≡ cut n bytes ++ take 4096 (drop (n * 4096) bytes) ∷ []
-unfolding cut
+pub cut_more : (n : ℕ) (bytes : Bytes) → blocks_of (n + 1) bytes ≡ blocks_of n bytes ++ take 4096 (drop (n * 4096) bytes) ∷ []
+unfolding blocks_of
 cut_more zero bytes = refl
 cut_more (suc n) bytes =
     let more : suc n + 1 ≡ suc (n + 1) = omega arith in
     let far : 4096 + n * 4096 ≡ suc n * 4096 = omega arith in
     let at : drop (n * 4096) (drop 4096 bytes) ≡ drop (suc n * 4096) bytes = drop-drop (n * 4096) 4096 bytes ∙ ap (λ (m : ℕ). drop m bytes) far in
-    ap (λ (m : ℕ). cut m bytes) more ∙ ap (λ (l : List Bytes). take 4096 bytes ∷ l) (cut_more n (drop 4096 bytes))
-    ∙ ap (λ (b : Bytes). take 4096 bytes ∷ (cut n (drop 4096 bytes) ++ take 4096 b ∷ [])) at
+    ap (λ (m : ℕ). blocks_of m bytes) more ∙ ap (λ (l : List Bytes). take 4096 bytes ∷ l) (cut_more n (drop 4096 bytes))
+    ∙ ap (λ (b : Bytes). take 4096 bytes ∷ (blocks_of n (drop 4096 bytes) ++ take 4096 b ∷ [])) at
 
 -- some blocks, and then others
-pub cut_add : (i m : ℕ) (bytes : Bytes) → cut (i + m) bytes ≡ cut i bytes ++ cut m (drop (i * 4096) bytes)
-unfolding cut
-cut_add zero m bytes = let none : zero + m ≡ m = omega arith in ap (λ (n : ℕ). cut n bytes) none
+pub cut_add : (i m : ℕ) (bytes : Bytes) → blocks_of (i + m) bytes ≡ blocks_of i bytes ++ blocks_of m (drop (i * 4096) bytes)
+unfolding blocks_of
+cut_add zero m bytes = let none : zero + m ≡ m = omega arith in ap (λ (n : ℕ). blocks_of n bytes) none
 cut_add (suc i) m bytes =
     let more : suc i + m ≡ suc (i + m) = omega arith in
     let far : 4096 + i * 4096 ≡ suc i * 4096 = omega arith in
     let at : drop (i * 4096) (drop 4096 bytes) ≡ drop (suc i * 4096) bytes = drop-drop (i * 4096) 4096 bytes ∙ ap (λ (n : ℕ). drop n bytes) far in
-    ap (λ (n : ℕ). cut n bytes) more ∙ ap (λ (l : List Bytes). take 4096 bytes ∷ l) (cut_add i m (drop 4096 bytes))
-    ∙ ap (λ (b : Bytes). take 4096 bytes ∷ (cut i (drop 4096 bytes) ++ cut m b)) at
+    ap (λ (n : ℕ). blocks_of n bytes) more ∙ ap (λ (l : List Bytes). take 4096 bytes ∷ l) (cut_add i m (drop 4096 bytes))
+    ∙ ap (λ (b : Bytes). take 4096 bytes ∷ (blocks_of i (drop 4096 bytes) ++ blocks_of m b)) at
 
-pub cut_len : (n : ℕ) (bytes : Bytes) → length (cut n bytes) ≡ n
-unfolding cut
+pub cut_len : (n : ℕ) (bytes : Bytes) → length (blocks_of n bytes) ≡ n
+unfolding blocks_of
 cut_len zero bytes = refl
 cut_len (suc n) bytes = ap suc (cut_len n (drop 4096 bytes))
 
@@ -96,6 +96,6 @@ zip_push (a ∷ xs) [] x y e = absurd (omega (arith, e))
 zip_push (a ∷ xs) (b ∷ ys) x y e = ap (λ (l : List (ℕ × Bytes)). (a, b) ∷ l) (zip_push xs ys x y (omega (arith, e)))
 
 pub zip_more : (pages : List ℕ) (i d : ℕ) (bytes : Bytes) → i < length pages → length (take i pages) ≡ i
-    → zip (take (i + 1) pages) (cut (i + 1) bytes) ≡ zip (take i pages) (cut i bytes) ++ (get_or pages i d, take 4096 (drop (i * 4096) bytes)) ∷ []
+    → zip (take (i + 1) pages) (blocks_of (i + 1) bytes) ≡ zip (take i pages) (blocks_of i bytes) ++ (get_or pages i d, take 4096 (drop (i * 4096) bytes)) ∷ []
 zip_more pages i d bytes lt long =
-    (λ j. zip (take_more pages i d lt j) (cut_more i bytes j)) ∙ zip_push (take i pages) (cut i bytes) (get_or pages i d) (take 4096 (drop (i * 4096) bytes)) (long ∙ sym (cut_len i bytes))
+    (λ j. zip (take_more pages i d lt j) (cut_more i bytes j)) ∙ zip_push (take i pages) (blocks_of i bytes) (get_or pages i d) (take 4096 (drop (i * 4096) bytes)) (long ∙ sym (cut_len i bytes))

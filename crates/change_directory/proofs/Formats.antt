@@ -4,7 +4,7 @@ use Rattle.std.specs.Prelude.{nat_lt, nat_le}
 use Rattle.std.proofs.lemmas.Bool.{cases_Bool, cond-true, cond-false, lt-ltb, le-leb, ltb-true, leb-true, false≢true}
 use Rattle.bay.specs.Image.{Image, ChangesOnly}
 use Rattle.gate_slot.specs.declared.place.Place.{Place}
-use Rattle.gate_slot.specs.Slot.{GateOf, MayClose, shown, body_in}
+use Rattle.gate_slot.specs.Slot.{GateOf, MayClose, shown_body, body_in}
 use Rattle.gate_slot.proofs.Steps.{shown-elsewhere}
 use Rattle.asm_formats.specs.Bytes.{block_size}
 use Rattle.asm_formats.specs.Regions.{second_log}
@@ -53,7 +53,7 @@ module _ (copy : DirCopy) (shaped : IsShaped copy) (x y : Image) (sized : HasReg
   own_gate Second = le-leb m m (omega arith)
 
   module _ (l : LogSlot) (is : l ≡ spare_in copy x) (shut : is_open_at copy l y ≡ false)
-      (shows : (shown (place_of (other_of l)) copy.slot y ≡ shown (place_of (other_of l)) copy.slot x) ⊎ (shown (place_of (other_of l)) copy.slot y ≡ None)) where
+      (shows : (shown_body (place_of (other_of l)) copy.slot y ≡ shown_body (place_of (other_of l)) copy.slot x) ⊎ (shown_body (place_of (other_of l)) copy.slot y ≡ None)) where
     -- the spare slot is closed, and nothing else is done
     abbrev between : Image
     between = record { size = x.size; byte = λ s k. cond (is_his l k) (y.byte s k) (x.byte s k) }
@@ -83,7 +83,7 @@ module _ (copy : DirCopy) (shaped : IsShaped copy) (x y : Image) (sized : HasReg
     closes : MayClose (place_of l) copy.slot x between
     closes = record { shows = inr (cond-false (is_open_at copy l between) (Some (body_in (place_of l) copy.slot between)) None shut_between); elsewhere = first_step }
 
-    other_before : shown (place_of (other_of l)) copy.slot between ≡ shown (place_of (other_of l)) copy.slot x
+    other_before : shown_body (place_of (other_of l)) copy.slot between ≡ shown_body (place_of (other_of l)) copy.slot x
     other_before = shown-elsewhere (place_of (other_of l)) copy.slot (some_sector copy shaped) (GateOf (place_of l) copy.slot) x between
         (apart copy short (some_sector copy shaped) l (place_of (other_of l)) refl) first_step
 

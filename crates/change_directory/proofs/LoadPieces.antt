@@ -13,7 +13,7 @@ use Rattle.change_directory.specs.declared.loading.LoadFault.TheVariants.{Fault}
 use Rattle.change_directory.specs.declared.open_log.OpenLogs.{OpenLogs}
 use Rattle.bay.specs.Told.{Told}
 use Rattle.change_directory.specs.Loads.{damaged_block}
-use Rattle.change_directory.specs.Slots.{AreTaken, GoesUpTo, all_slots, cut, damaged_page, home_blocks}
+use Rattle.change_directory.specs.Slots.{AreTaken, GoesUpTo, all_slots, blocks_of, damaged_page, home_blocks}
 use Rattle.change_directory.specs.Works.{OnlyReads}
 use Rattle.change_directory.specs.LoadCalls.{Damages, IsPieceDamage, LoadCall, TakesPiece, piece_of_pages}
 use Rattle.change_directory.proofs.LoadAnswers.{damage_of_err}
@@ -54,8 +54,8 @@ module _ (copy : DirCopy) (logs : OpenLogs) (i count : ℕ) (at : PieceAt i copy
 -- a piece was read, and its pages are taken up
 pub piece_read : {result : Result (Unit {0}) LoadFault} (copy : DirCopy) (logs : OpenLogs) (first count : ℕ) (bytes : Bytes) (len : ℕ) → length bytes ≡ count * 4096 → len ≡ count * 4096 → {s t : BayState}
     → ForSome s.holds (λ image. bytes ≡ window (image.byte copy.slot) ((10 + first) * 4096) len) → OnlyReads copy.slot 1 s t → {a b : Pages}
-    → OnOk result (AreTaken (all_slots logs) first (cut count bytes) a b) → OnOk result (GoesUpTo (all_slots logs) first (first + count) a b)
-    → IfErr result (λ e. IfSome (damaged_block e) (λ block. damaged_page (all_slots logs) first (cut count bytes) ≡ Some block)) → (IsErrOf result Fault → ⊥)
+    → OnOk result (AreTaken (all_slots logs) first (blocks_of count bytes) a b) → OnOk result (GoesUpTo (all_slots logs) first (first + count) a b)
+    → IfErr result (λ e. IfSome (damaged_block e) (λ block. damaged_page (all_slots logs) first (blocks_of count bytes) ≡ Some block)) → (IsErrOf result Fault → ⊥)
     → LoadCall result copy.slot (λ done. TakesPiece (piece_of_pages copy logs first count) a b) (Damages (IsPieceDamage (piece_of_pages copy logs first count))) 1 s t
 piece_read {result = Ok done} copy logs first count bytes len long len_is {s} {t} read reads {a} {b} taken up_to damage no_fault = record {
   reads = reads;
@@ -69,7 +69,7 @@ piece_read {result = Ok done} copy logs first count bytes len long len_is {s} {t
 piece_read {result = Err e} copy logs first count bytes len long len_is {s} {t} read reads {a} {b} taken up_to damage no_fault = record {
   reads = reads;
   done = tt;
-  refusal = damage_of_err e (λ (block : ℕ). damaged_page (all_slots logs) first (cut count bytes) ≡ Some block) (λ (block : ℕ). Told s t (IsPieceDamage (piece_of_pages copy logs first count) block))
+  refusal = damage_of_err e (λ (block : ℕ). damaged_page (all_slots logs) first (blocks_of count bytes) ≡ Some block) (λ (block : ℕ). Told s t (IsPieceDamage (piece_of_pages copy logs first count) block))
       (λ block damage now holds image was. ap (damaged_page (all_slots logs) first) (sym (read_blocks s t copy.slot (10 + first) _ count bytes refl long len len_is read now holds image was)) ∙ damage) damage;
   cause = λ is. absurd (no_fault is);
 }

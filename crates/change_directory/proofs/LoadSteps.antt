@@ -11,7 +11,7 @@ use Rattle.change_directory.specs.declared.open_log.OpenLogs.{OpenLogs}
 use Rattle.asm_base.specs.Blocks.{image_of_page}
 use Rattle.bay.specs.Told.{Told}
 use Rattle.change_directory.specs.Loads.{OpenSlot}
-use Rattle.change_directory.specs.Slots.{ArePages, AreTaken, IsPageDamage, all_due, all_filled, all_slots, blocks_at, cut, damaged_page, first_bad, home_blocks, open_log_number, open_homes}
+use Rattle.change_directory.specs.Slots.{ArePages, AreTaken, IsPageDamage, all_due, all_filled, all_slots, blocks_at, blocks_of, damaged_page, first_bad, home_blocks, open_log_number, open_homes}
 use Rattle.change_directory.proofs.BlockRows.{blocks_len, blocks_more, blocks_same, cut_window}
 use Rattle.change_directory.proofs.PageRows.{damage_behind, damage_front, taken_more, taken_none}
 use Rattle.bay.proofs.Telling.{told_before, told_later}
@@ -106,6 +106,6 @@ page_damage copy logs s t block opened told = λ now holds image was.
 
 -- the blocks of what was read
 pub read_blocks : (s t : BayState) (slot k at n : ℕ) (bytes : Bytes) → at ≡ k * 4096 → length bytes ≡ n * 4096
-    → (len : ℕ) → len ≡ n * 4096 → ForSome s.holds (λ image. bytes ≡ window (image.byte slot) at len) → Told s t (λ image. cut n bytes ≡ blocks_at (image.byte slot) k n)
+    → (len : ℕ) → len ≡ n * 4096 → ForSome s.holds (λ image. bytes ≡ window (image.byte slot) at len) → Told s t (λ image. blocks_of n bytes ≡ blocks_at (image.byte slot) k n)
 read_blocks s t slot k at n bytes at_is long len len_is read = λ now holds image was.
-    ap (cut n) (read image was ∙ (λ i. window (image.byte slot) (at_is i) (len_is i))) ∙ cut_window (image.byte slot) k n
+    ap (blocks_of n) (read image was ∙ (λ i. window (image.byte slot) (at_is i) (len_is i))) ∙ cut_window (image.byte slot) k n

@@ -17,7 +17,7 @@ use Rattle.change_directory.specs.declared.open_log.OpenLog.{OpenLog}
 use Rattle.change_directory.specs.Places.{IsCopy, gate_of, log_place}
 use Rattle.change_directory.specs.Logs.{is_open_at, commit_number_at, open_number}
 use Rattle.bay.specs.Told.{Told}
-use Rattle.change_directory.specs.Slots.{IsLogRead, IsRestRead, cut, head_in, images_in}
+use Rattle.change_directory.specs.Slots.{IsLogRead, IsRestRead, blocks_of, head_in, images_in}
 use Rattle.change_directory.proofs.Runs.{same_disk}
 use Rattle.change_directory.proofs.Spares.{same_number}
 use Rattle.change_directory.proofs.LoadSteps.{read_blocks}
@@ -51,7 +51,7 @@ shut_told copy log s t place place_is b shut found = λ now holds image was.
 -- the images that were read
 pub images_told : (copy : DirCopy) (log : LogSlot) (s t : BayState) (at : ℕ) (pages : List ℕ) (bytes : Bytes) (images : List PageImage) → at ≡ (gate_of copy log + 2) * 4096
     → length bytes ≡ length pages * 4096 → (len : ℕ) → len ≡ length pages * 4096
-    → images ≡ zip pages (cut (length pages) bytes) → ForSome s.holds (λ image. bytes ≡ window (image.byte copy.slot) at len) → Told s t (λ image. images ≡ images_in copy log pages image)
+    → images ≡ zip pages (blocks_of (length pages) bytes) → ForSome s.holds (λ image. bytes ≡ window (image.byte copy.slot) at len) → Told s t (λ image. images ≡ images_in copy log pages image)
 images_told copy log s t at pages bytes images at_is long len len_is are read = λ now holds image was.
     are ∙ ap (zip pages) (read_blocks s t copy.slot (gate_of copy log + 2) at (length pages) bytes at_is long len len_is read now holds image was)
 

@@ -10,7 +10,7 @@ use Rattle.bay.proofs.Calls.{stops}
 use Rattle.bay.proofs.OneCall.{Follows, afforded, wider}
 use Rattle.bay.proofs.Images.{changes-within}
 use Rattle.gate_slot.specs.declared.place.Place.{Place}
-use Rattle.gate_slot.specs.Slot.{GateOf, MayClose, Closes, FromHeld, WaitsFor, shown, body_in}
+use Rattle.gate_slot.specs.Slot.{GateOf, MayClose, Closes, FromHeld, WaitsFor, shown_body, body_in}
 use Rattle.gate_slot.proofs.Steps.{shown-closed}
 use Rattle.asm_group.specs.Names.{Bytes}
 use Rattle.asm_formats.specs.Logs.{logs_decode}
@@ -58,12 +58,12 @@ module _ (copy : DirCopy) (least : 128 ≤ copy.dir_blocks) (short : copy.sector
 
     was_open : is_open_at copy l y ≡ true → is_open_at copy l x ≡ true
     was_open opened = ⊎_elim
-        (λ (before : shown (log_place copy l 65) copy.slot y ≡ shown (log_place copy l 65) copy.slot x). ⊎_elim (λ was. was)
+        (λ (before : shown_body (log_place copy l 65) copy.slot y ≡ shown_body (log_place copy l 65) copy.slot x). ⊎_elim (λ was. was)
         (λ shut. absurd (none-some _ (sym (cond-false (is_open_at copy l x) (Some (body_in (log_place copy l 65) copy.slot x)) None shut) ∙ sym before ∙ shows_now))) (cases_Bool (is_open_at copy l x)))
         (λ none. absurd (none-some _ (sym none ∙ shows_now)))
         close.shows
       where
-        shows_now : shown (log_place copy l 65) copy.slot y ≡ Some (body_in (log_place copy l 65) copy.slot y)
+        shows_now : shown_body (log_place copy l 65) copy.slot y ≡ Some (body_in (log_place copy l 65) copy.slot y)
         shows_now = cond-true (is_open_at copy l y) (Some (body_in (log_place copy l 65) copy.slot y)) None opened
 
     here : is_open_at copy l y ≡ true → SameSlot (copy_disk_bytes copy x) (copy_disk_bytes copy y) (gate_of copy l) log_blocks

@@ -16,7 +16,7 @@ use Rattle.change_directory.specs.declared.loading.Pages.{Pages}
 use Rattle.change_directory.specs.declared.open_log.OpenLog.{OpenLog}
 use Rattle.asm_base.specs.Blocks.{image_of_page}
 use Rattle.change_directory.specs.Loads.{AreInOrder, OpenSlot, are_numbers, counted_block, due_page, newest_slots}
-use Rattle.change_directory.specs.Slots.{AreTaken, AreUpTo, GoesUpTo, IsSoundRead, all_due, all_filled, are_sound, bad_image, counted_page, damage_of, filled, first_bad, is_bad, logs_of, slots_of_log}
+use Rattle.change_directory.specs.Slots.{AreTaken, AreUpTo, GoesUpTo, IsSoundRead, all_due, all_filled, are_sound, bad_image, counted_page, damage_of, page_unless_empty, first_bad, is_bad, logs_of, slots_of_log}
 use Rattle.change_directory.proofs.Afterwards.{same_numbers}
 use Rattle.change_directory.proofs.LoadRows.{all_by_images}
 
@@ -134,8 +134,8 @@ module _ (slots : List OpenSlot) (page : ℕ) where
         empty : Bool
         empty = is_empty_page c
 
-        blocks_are : map image_of_page b.blocks.items ≡ old ++ filled page c
-        blocks_are = taken.takes.blocks_are ∙ ap (λ (l : List PageImage). old ++ l) (append-nil (filled page c))
+        blocks_are : map image_of_page b.blocks.items ≡ old ++ page_unless_empty page c
+        blocks_are = taken.takes.blocks_are ∙ ap (λ (l : List PageImage). old ++ l) (append-nil (page_unless_empty page c))
 
         due_are : b.due.items ≡ a.due.items ++ due_page slots page
         due_are = taken.takes.due_are ∙ ap (λ (l : List (ℕ × ℕ)). a.due.items ++ l) (append-nil (due_page slots page))

@@ -14,7 +14,7 @@ use Rattle.asm_formats.specs.Damage.{is_bad_page}
 use Rattle.change_directory.specs.declared.loading.Pages.{Pages}
 use Rattle.asm_base.specs.Blocks.{image_of_page}
 use Rattle.change_directory.specs.Loads.{OpenSlot, counted_block, due_page, filled_page}
-use Rattle.change_directory.specs.Slots.{AreTaken, TakesUpPages, all_filled, all_due, cut, damaged_page, first_bad, counted_page, filled, is_bad, logs_of}
+use Rattle.change_directory.specs.Slots.{AreTaken, TakesUpPages, all_filled, all_due, blocks_of, damaged_page, first_bad, counted_page, page_unless_empty, is_bad, logs_of}
 use Rattle.change_directory.proofs.BlockRows.{cut_add, cut_len, cut_more}
 
 -- ---- some pages, and then others
@@ -25,8 +25,8 @@ module _ (slots : List OpenSlot) where
   filled_more p [] ys = let here : p ≡ p + 0 = omega arith in ap (λ (n : ℕ). all_filled slots n ys) here
   filled_more p (x ∷ xs) ys =
       let far : p + 1 + length xs ≡ p + suc (length xs) = omega arith in
-      ap (λ (l : List PageImage). filled p (counted_page slots p x) ++ l) (filled_more (p + 1) xs ys ∙ ap (λ (n : ℕ). all_filled slots (p + 1) xs ++ all_filled slots n ys) far)
-      ∙ sym (append_assoc (filled p (counted_page slots p x)) (all_filled slots (p + 1) xs) (all_filled slots (p + suc (length xs)) ys))
+      ap (λ (l : List PageImage). page_unless_empty p (counted_page slots p x) ++ l) (filled_more (p + 1) xs ys ∙ ap (λ (n : ℕ). all_filled slots (p + 1) xs ++ all_filled slots n ys) far)
+      ∙ sym (append_assoc (page_unless_empty p (counted_page slots p x)) (all_filled slots (p + 1) xs) (all_filled slots (p + suc (length xs)) ys))
 
   pub due_more : (p : ℕ) (xs ys : List Bytes) → all_due slots p (xs ++ ys) ≡ all_due slots p xs ++ all_due slots (p + length xs) ys
   unfolding all_due
@@ -96,11 +96,11 @@ module _ (slots : List OpenSlot) where
   -- ---- one page
 
   pub taken_image : (page block : ℕ) (home image : Bytes) (a b : Pages) → counted_block slots page ≡ Some block → image_in (logs_of slots) page ≡ Some image
-      → TakesUpPages (filled page image) ((page, block) ∷ []) a b → AreTaken slots page (home ∷ []) a b
+      → TakesUpPages (page_unless_empty page image) ((page, block) ∷ []) a b → AreTaken slots page (home ∷ []) a b
   unfolding all_filled all_due first_bad
   taken_image page block home image a b counted there takes =
-      let one : filled page image ≡ filled page (counted_page slots page home) ++ [] =
-      sym (append-nil (filled page image)) ∙ ap (λ (o : Option Bytes). filled page (unwrap_or o home) ++ []) (sym there) in
+      let one : page_unless_empty page image ≡ page_unless_empty page (counted_page slots page home) ++ [] =
+      sym (append-nil (page_unless_empty page image)) ∙ ap (λ (o : Option Bytes). page_unless_empty page (unwrap_or o home) ++ []) (sym there) in
       let due : (page, block) ∷ [] ≡ due_page slots page ++ [] = ap (λ (o : Option ℕ). option_to_list (option_map (λ (n : ℕ). (page, n)) o) ++ []) (sym counted) in
       record {
         takes = record {
@@ -112,11 +112,11 @@ module _ (slots : List OpenSlot) where
       }
 
   pub taken_home : (page : ℕ) (home : Bytes) (a b : Pages) → counted_block slots page ≡ None → image_in (logs_of slots) page ≡ None → is_page home ≡ true
-      → TakesUpPages (filled page home) [] a b → AreTaken slots page (home ∷ []) a b
+      → TakesUpPages (page_unless_empty page home) [] a b → AreTaken slots page (home ∷ []) a b
   unfolding all_filled all_due first_bad
   taken_home page home a b counted there ok takes =
-      let one : filled page home ≡ filled page (counted_page slots page home) ++ [] =
-      sym (append-nil (filled page home)) ∙ ap (λ (o : Option Bytes). filled page (unwrap_or o home) ++ []) (sym there) in
+      let one : page_unless_empty page home ≡ page_unless_empty page (counted_page slots page home) ++ [] =
+      sym (append-nil (page_unless_empty page home)) ∙ ap (λ (o : Option Bytes). page_unless_empty page (unwrap_or o home) ++ []) (sym there) in
       let due : [] ≡ due_page slots page ++ [] = ap (λ (o : Option ℕ). option_to_list (option_map (λ (n : ℕ). (page, n)) o) ++ []) (sym counted) in
       record {
         takes = record {
@@ -133,24 +133,24 @@ module _ (slots : List OpenSlot) where
 
   -- ---- pages of some bytes
 
-  pub taken_start : (p : ℕ) (bytes : Bytes) (a : Pages) → AreTaken slots p (cut 0 bytes) a a
-  unfolding cut
+  pub taken_start : (p : ℕ) (bytes : Bytes) (a : Pages) → AreTaken slots p (blocks_of 0 bytes) a a
+  unfolding blocks_of
   taken_start p bytes a = taken_none p a
 
-  pub taken_next : (p i : ℕ) (bytes home : Bytes) (a b c : Pages) → home ≡ take 4096 (drop (i * 4096) bytes) → AreTaken slots p (cut i bytes) a b → AreTaken slots (p + i) (home ∷ []) b c → AreTaken slots p (cut (i + 1) bytes) a c
+  pub taken_next : (p i : ℕ) (bytes home : Bytes) (a b c : Pages) → home ≡ take 4096 (drop (i * 4096) bytes) → AreTaken slots p (blocks_of i bytes) a b → AreTaken slots (p + i) (home ∷ []) b c → AreTaken slots p (blocks_of (i + 1) bytes) a c
   taken_next p i bytes home a b c is one two =
-      let more : cut (i + 1) bytes ≡ cut i bytes ++ home ∷ [] = cut_more i bytes ∙ ap (λ (x : Bytes). cut i bytes ++ x ∷ []) (sym is) in
-      subst (λ (l : List Bytes). AreTaken slots p l a c) (sym more) (taken_more p (p + i) (cut i bytes) (home ∷ []) a b c (ap (λ (n : ℕ). p + n) (cut_len i bytes)) one two)
+      let more : blocks_of (i + 1) bytes ≡ blocks_of i bytes ++ home ∷ [] = cut_more i bytes ∙ ap (λ (x : Bytes). blocks_of i bytes ++ x ∷ []) (sym is) in
+      subst (λ (l : List Bytes). AreTaken slots p l a c) (sym more) (taken_more p (p + i) (blocks_of i bytes) (home ∷ []) a b c (ap (λ (n : ℕ). p + n) (cut_len i bytes)) one two)
 
-  pub damage_next : (p i n block : ℕ) (bytes home : Bytes) (a b : Pages) → i < n → home ≡ take 4096 (drop (i * 4096) bytes) → AreTaken slots p (cut i bytes) a b → damaged_page slots (p + i) (home ∷ []) ≡ Some block → damaged_page slots p (cut n bytes) ≡ Some block
+  pub damage_next : (p i n block : ℕ) (bytes home : Bytes) (a b : Pages) → i < n → home ≡ take 4096 (drop (i * 4096) bytes) → AreTaken slots p (blocks_of i bytes) a b → damaged_page slots (p + i) (home ∷ []) ≡ Some block → damaged_page slots p (blocks_of n bytes) ≡ Some block
   damage_next p i n block bytes home a b lt is one damage =
-      let rest : List Bytes = cut (n - (i + 1)) (drop ((i + 1) * 4096) bytes) in
+      let rest : List Bytes = blocks_of (n - (i + 1)) (drop ((i + 1) * 4096) bytes) in
       let all : i + 1 + (n - (i + 1)) ≡ n = omega arith in
-      let more : cut (i + 1) bytes ≡ cut i bytes ++ home ∷ [] = cut_more i bytes ∙ ap (λ (x : Bytes). cut i bytes ++ x ∷ []) (sym is) in
-      let split : cut n bytes ≡ (cut i bytes ++ home ∷ []) ++ rest =
-      ap (λ (m : ℕ). cut m bytes) (sym all) ∙ cut_add (i + 1) (n - (i + 1)) bytes ∙ ap (λ (l : List Bytes). l ++ rest) more in
-      let front = damage_behind p (p + i) block (cut i bytes) (home ∷ []) (ap (λ (m : ℕ). p + m) (cut_len i bytes)) one.sound damage in
-      subst (λ (l : List Bytes). damaged_page slots p l ≡ Some block) (sym split) (damage_front p block (cut i bytes ++ home ∷ []) rest front)
+      let more : blocks_of (i + 1) bytes ≡ blocks_of i bytes ++ home ∷ [] = cut_more i bytes ∙ ap (λ (x : Bytes). blocks_of i bytes ++ x ∷ []) (sym is) in
+      let split : blocks_of n bytes ≡ (blocks_of i bytes ++ home ∷ []) ++ rest =
+      ap (λ (m : ℕ). blocks_of m bytes) (sym all) ∙ cut_add (i + 1) (n - (i + 1)) bytes ∙ ap (λ (l : List Bytes). l ++ rest) more in
+      let front = damage_behind p (p + i) block (blocks_of i bytes) (home ∷ []) (ap (λ (m : ℕ). p + m) (cut_len i bytes)) one.sound damage in
+      subst (λ (l : List Bytes). damaged_page slots p l ≡ Some block) (sym split) (damage_front p block (blocks_of i bytes ++ home ∷ []) rest front)
 
 -- ---- all pages of a disk
 
@@ -164,7 +164,7 @@ module _ (dir_blocks : ℕ) (bytes : Bytes) (slots : List OpenSlot) (are : logs_
   filled_all p zero = refl
   filled_all p (suc n) =
       let next : 10 + p + 1 ≡ 10 + (p + 1) = omega arith in
-      (λ i. filled p (counted_is p i) ++ all_filled slots (p + 1) (blocks_from bytes (next i) n)) ∙ ap (λ (l : List PageImage). filled_page dir_blocks bytes p ++ l) (filled_all (p + 1) n)
+      (λ i. page_unless_empty p (counted_is p i) ++ all_filled slots (p + 1) (blocks_from bytes (next i) n)) ∙ ap (λ (l : List PageImage). filled_page dir_blocks bytes p ++ l) (filled_all (p + 1) n)
 
   pub due_all : (p k n : ℕ) → all_due slots p (blocks_from bytes k n) ≡ flat_map (due_page slots) (range_with_len p n)
   unfolding all_due

@@ -11,7 +11,7 @@ use Rattle.bay.proofs.Calls.{goes_on, both_done}
 use Rattle.bay.proofs.Images.{window-same, changes-within, changes-same, changes-trans, length-window, get_or-window}
 use Rattle.gate_slot.proofs.Steps.{shown-elsewhere}
 use Rattle.gate_slot.specs.declared.place.Place.{Place}
-use Rattle.gate_slot.specs.Slot.{PlaceOf, MayPut, HasPut, shown, body_in}
+use Rattle.gate_slot.specs.Slot.{PlaceOf, MayPut, HasPut, shown_body, body_in}
 use Rattle.asm_base.specs.declared.block.Block.{Block}
 use Rattle.asm_group.specs.Names.{Bytes}
 use Rattle.asm_formats.specs.Bytes.{block_size, is_open}
@@ -112,7 +112,7 @@ module _ (copy : DirCopy) (number : ℕ) (pages : List (ℕ × Block)) where
 
   pub same_put : (some : 0 < copy.sector) (l : LogSlot) (x w y : Image) → Same x w → MayPut (place_of l) copy.slot body_of w y → MayPut (place_of l) copy.slot body_of x y
   same_put some l x w y same put =
-      let shown_same : shown (place_of l) copy.slot w ≡ shown (place_of l) copy.slot x =
+      let shown_same : shown_body (place_of l) copy.slot w ≡ shown_body (place_of l) copy.slot x =
       shown-elsewhere (place_of l) copy.slot some (λ s k. ⊥) x w (λ k mine none. none) (changes-same (λ s k. ⊥) x w same) in
       record {
         shows = ⊎_elim (λ before. inl (before ∙ shown_same)) inr put.shows;
@@ -222,7 +222,7 @@ module _ (copy : DirCopy) (least : 128 ≤ copy.dir_blocks) (most : copy.dir_blo
       (λ shut. log_closed (gate_after put.elsewhere ∙ shut))
       (cases_Bool (is_open_at copy (spare_in copy x) y))
     where
-      shows_now : is_open_at copy (spare_in copy x) y ≡ true → shown place copy.slot y ≡ Some (body_in place copy.slot y)
+      shows_now : is_open_at copy (spare_in copy x) y ≡ true → shown_body place copy.slot y ≡ Some (body_in place copy.slot y)
       shows_now opened = cond-true (is_open_at copy (spare_in copy x) y) (Some (body_in place copy.slot y)) None opened
 
       before : is_open_at copy (spare_in copy x) y ≡ true → (b : Bool) → is_open_at copy (spare_in copy x) x ≡ b → Some (body_in place copy.slot y) ≡ cond b (Some (body_in place copy.slot x)) None
@@ -231,7 +231,7 @@ module _ (copy : DirCopy) (least : 128 ≤ copy.dir_blocks) (most : copy.dir_blo
       before opened false was e = absurd (none-some _ (sym e))
 
       go : is_open_at copy (spare_in copy x) y ≡ true
-          → (shown place copy.slot y ≡ shown place copy.slot x) ⊎ ((shown place copy.slot y ≡ None) ⊎ (shown place copy.slot y ≡ Some (log_body log)))
+          → (shown_body place copy.slot y ≡ shown_body place copy.slot x) ⊎ ((shown_body place copy.slot y ≡ None) ⊎ (shown_body place copy.slot y ≡ Some (log_body log)))
           → LogMoment (copy_disk_bytes copy x) (copy_disk_bytes copy y) k log
       go opened (inl same) = before opened (is_open_at copy (spare_in copy x) x) refl (sym (shows_now opened) ∙ same)
       go opened (inr (inl none)) = absurd (none-some _ (sym none ∙ shows_now opened))
@@ -251,10 +251,10 @@ module _ (copy : DirCopy) (least : 128 ≤ copy.dir_blocks) (most : copy.dir_blo
   pub holds_logged : HasLogged copy number pages x y → HoldsLog (copy_disk_bytes copy y) k log
   holds_logged put = ⊎_elim
       (λ opened.
-      let shows_now : shown place copy.slot y ≡ Some (body_in place copy.slot y) = cond-true (is_open_at copy (spare_in copy x) y) (Some (body_in place copy.slot y)) None opened in
+      let shows_now : shown_body place copy.slot y ≡ Some (body_in place copy.slot y) = cond-true (is_open_at copy (spare_in copy x) y) (Some (body_in place copy.slot y)) None opened in
       has_log put.elsewhere opened (same_Some (body_in place copy.slot y) (log_body log) (sym shows_now ∙ put.shows)))
       (λ shut.
-      let shows_none : shown place copy.slot y ≡ None = cond-false (is_open_at copy (spare_in copy x) y) (Some (body_in place copy.slot y)) None shut in
+      let shows_none : shown_body place copy.slot y ≡ None = cond-false (is_open_at copy (spare_in copy x) y) (Some (body_in place copy.slot y)) None shut in
       absurd (none-some _ (sym shows_none ∙ put.shows)))
       (cases_Bool (is_open_at copy (spare_in copy x) y))
 

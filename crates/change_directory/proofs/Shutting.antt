@@ -4,7 +4,7 @@ use Rattle.bay.specs.Image.{Image, Same, ChangesOnly, Range}
 use Rattle.bay.specs.State.{BayState}
 use Rattle.bay.proofs.Images.{changes-within, changes-same, changes-trans, same-trans}
 use Rattle.gate_slot.specs.declared.place.Place.{Place}
-use Rattle.gate_slot.specs.Slot.{GateOf, PlaceOf, MayClose, Closes, FromHeld, WaitsFor, shown}
+use Rattle.gate_slot.specs.Slot.{GateOf, PlaceOf, MayClose, Closes, FromHeld, WaitsFor, shown_body}
 use Rattle.gate_slot.proofs.Steps.{shown-elsewhere, shown-shut}
 use Rattle.asm_formats.specs.Bytes.{block_size}
 use Rattle.change_directory.specs.declared.copy.DirCopy.{DirCopy}
@@ -56,7 +56,7 @@ module _ (copy : DirCopy) (short : copy.sector ≤ 4096) (some : 0 < copy.sector
     shuts_from_held x w y same (inl still) = same_shut x y (same-trans x w y same still)
     shuts_from_held x w y same (inr from) =
         let close : MayClose (place_of log) copy.slot w y = subst (λ (p : Place). MayClose p copy.slot w y) at from.steps in
-        let shown_same : shown (place_of log) copy.slot w ≡ shown (place_of log) copy.slot x =
+        let shown_same : shown_body (place_of log) copy.slot w ≡ shown_body (place_of log) copy.slot x =
         shown-elsewhere (place_of log) copy.slot some (λ s k. ⊥) x w (λ k mine none. none) (changes-same (λ s k. ⊥) x w same) in
         spare_closing (subst (λ (l : LogSlot). MayClose (place_of l) copy.slot x y) (here held log is x w same (from.disk held holds)) (record {
           shows = ⊎_elim (λ before. inl (before ∙ shown_same)) inr close.shows;
@@ -90,13 +90,13 @@ module _ (copy : DirCopy) (short : copy.sector ≤ 4096) (some : 0 < copy.sector
     then_shuts x y z first step =
         let close : MayClose (place_of (other_of log)) copy.slot y z = subst (λ (p : Place). MayClose p copy.slot y z) at step in
         let shut = stays_shut y z first.shut close.elsewhere in
-        let before : shown (place_of (other_of log)) copy.slot y ≡ shown (place_of (other_of log)) copy.slot x =
+        let before : shown_body (place_of (other_of log)) copy.slot y ≡ shown_body (place_of (other_of log)) copy.slot x =
         shown-elsewhere (place_of (other_of log)) copy.slot some (GateOf (place_of log) copy.slot) x y apart first.elsewhere in
-        let shows : (shown (place_of (other_of log)) copy.slot z ≡ shown (place_of (other_of log)) copy.slot x) ⊎ (shown (place_of (other_of log)) copy.slot z ≡ None) =
+        let shows : (shown_body (place_of (other_of log)) copy.slot z ≡ shown_body (place_of (other_of log)) copy.slot x) ⊎ (shown_body (place_of (other_of log)) copy.slot z ≡ None) =
         ⊎_elim (λ same. inl (same ∙ before)) inr close.shows in
         let elsewhere = changes-trans (LogGatesOf copy) x y z (in_gates log x y first.elsewhere) (in_gates (other_of log) y z close.elsewhere) in
         other_closing (subst (λ (l : LogSlot). is_open_at copy l z ≡ false) first.is shut)
-        (subst (λ (l : LogSlot). (shown (place_of (other_of l)) copy.slot z ≡ shown (place_of (other_of l)) copy.slot x) ⊎ (shown (place_of (other_of l)) copy.slot z ≡ None)) first.is shows)
+        (subst (λ (l : LogSlot). (shown_body (place_of (other_of l)) copy.slot z ≡ shown_body (place_of (other_of l)) copy.slot x) ⊎ (shown_body (place_of (other_of l)) copy.slot z ≡ None)) first.is shows)
         elsewhere
 
     pub both_shut : (x y z : Image) → HasShutSpare copy log x y → Closes place copy.slot y z → HasShut copy x z

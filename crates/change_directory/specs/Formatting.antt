@@ -1,7 +1,7 @@
 -- What a format does to an image.
 use Rattle.std.specs.Prelude.{◌≡◌, ◌⊎◌, ℕ, ◌+◌, ◌*◌, ◌<◌, ◌≤◌, false, None}
 use Rattle.bay.specs.Image.{Image, Range, ChangesOnly}
-use Rattle.gate_slot.specs.Slot.{GateOf, MayClose, shown}
+use Rattle.gate_slot.specs.Slot.{GateOf, MayClose, shown_body}
 use Rattle.asm_formats.specs.Bytes.{block_size}
 use Rattle.asm_formats.specs.Regions.{region_start, region_end}
 use Rattle.change_directory.specs.declared.copy.DirCopy.{DirCopy}
@@ -26,8 +26,8 @@ AreShut copy image = (log : LogSlot) → is_open_at copy log image ≡ false
 pub data MayShut (copy : DirCopy) (old new : Image) : Type 0 where
   spare_closing : MayClose (log_place copy (spare_in copy old) 65) copy.slot old new → MayShut copy old new
   other_closing : is_open_at copy (spare_in copy old) new ≡ false
-      → (shown (log_place copy (other_of (spare_in copy old)) 65) copy.slot new ≡ shown (log_place copy (other_of (spare_in copy old)) 65) copy.slot old)
-      ⊎ (shown (log_place copy (other_of (spare_in copy old)) 65) copy.slot new ≡ None)
+      → (shown_body (log_place copy (other_of (spare_in copy old)) 65) copy.slot new ≡ shown_body (log_place copy (other_of (spare_in copy old)) 65) copy.slot old)
+      ⊎ (shown_body (log_place copy (other_of (spare_in copy old)) 65) copy.slot new ≡ None)
       → ChangesOnly (LogGatesOf copy) old new → MayShut copy old new
 
 -- the spare log slot is closed, and nothing else is changed

@@ -33,9 +33,9 @@ is_head_of dir_blocks head pages = are_numbers dir_blocks pages && bytes_eq head
 -- ---- blocks, one behind the other
 
 -- n blocks of some bytes
-unfoldable pub cut : ℕ → Bytes → List Bytes
-cut zero bytes = []
-cut (suc n) bytes = take block_size bytes ∷ cut n (drop block_size bytes)
+unfoldable pub blocks_of : ℕ → Bytes → List Bytes
+blocks_of zero bytes = []
+blocks_of (suc n) bytes = take block_size bytes ∷ blocks_of n (drop block_size bytes)
 
 -- n blocks of a disk, from block k on
 unfoldable pub blocks_at : (ℕ → ℕ) → ℕ → ℕ → List Bytes
@@ -114,8 +114,8 @@ abbrev pub counted_page : List OpenSlot → ℕ → Bytes → Bytes
 counted_page slots page home = unwrap_or (image_in (logs_of slots) page) home
 
 -- the page that counts, where it isn't zeros
-abbrev pub filled : ℕ → Bytes → List PageImage
-filled page bytes = if is_empty_page bytes then [] else (page, bytes) ∷ []
+abbrev pub page_unless_empty : ℕ → Bytes → List PageImage
+page_unless_empty page bytes = if is_empty_page bytes then [] else (page, bytes) ∷ []
 
 -- it counts as it stands at home, and is no page
 abbrev pub is_bad : List OpenSlot → ℕ → Bytes → Bool
@@ -124,7 +124,7 @@ is_bad slots page home = not (is_some (image_in (logs_of slots) page)) && not (i
 -- the same of pages, one behind the other, of which the first has a number
 unfoldable pub all_filled : List OpenSlot → ℕ → List Bytes → List PageImage
 all_filled slots page [] = []
-all_filled slots page (home ∷ homes) = filled page (counted_page slots page home) ++ all_filled slots (page + 1) homes
+all_filled slots page (home ∷ homes) = page_unless_empty page (counted_page slots page home) ++ all_filled slots (page + 1) homes
 
 unfoldable pub all_due : List OpenSlot → ℕ → List Bytes → List (ℕ × ℕ)
 all_due slots page [] = []

@@ -6,7 +6,7 @@ ghost use Rattle.asm_formats.specs.Content.{is_empty_page, is_page};
 ghost use Rattle.change_directory.specs.Places.{IsCopy};
 ghost use Rattle.change_directory.specs.CopyCalls.{LoadsCopy};
 ghost use Rattle.change_directory.specs.Loads.{damaged_block};
-ghost use Rattle.change_directory.specs.Slots.{AreTaken, GoesUpTo, IsPageDamage, TakesUpPages, all_slots, cut, damage_of, damaged_page, filled, open_log_number};
+ghost use Rattle.change_directory.specs.Slots.{AreTaken, GoesUpTo, IsPageDamage, TakesUpPages, all_slots, blocks_of, damage_of, damaged_page, page_unless_empty, open_log_number};
 ghost use Rattle.change_directory.specs.LoadCalls.{Damages, IsPieceDamage, LoadCall, PagesAreRead, TakesPiece, piece_of_pages};
 ghost use Rattle.change_directory.specs.declared.loading.LoadFault.TheVariants.{Fault as DiskFault, NoMemory as OutOfMemory};
 
@@ -206,9 +206,9 @@ fn take_pages(
 ) -> Result<(), LoadFault>
     requires small { first + count ≤ 16384 }
     requires bytes { length bytes.now ≡ count * 4096 }
-    ensures taken { OnOk result (AreTaken (all_slots logs.now) first (cut count bytes.now) pages.old pages.new) }
+    ensures taken { OnOk result (AreTaken (all_slots logs.now) first (blocks_of count bytes.now) pages.old pages.new) }
     ensures up_to { OnOk result (GoesUpTo (all_slots logs.now) first (first + count) pages.old pages.new) }
-    ensures damage { IfErr result (λ e. IfSome (damaged_block e) (λ block. damaged_page (all_slots logs.now) first (cut count bytes.now) ≡ Some block)) }
+    ensures damage { IfErr result (λ e. IfSome (damaged_block e) (λ block. damaged_page (all_slots logs.now) first (blocks_of count bytes.now) ≡ Some block)) }
     ensures no_fault { IsErrOf result LoadFault.Fault → ⊥ }
 {
     for i in 0..count {
@@ -233,7 +233,7 @@ fn take_page(page: u32, home: Block, logs: &OpenLogs, pages: &mut Pages) -> Resu
 
 /// Takes up a page by its image.
 fn put_image(page: u32, block: u64, image: &Block, pages: &mut Pages) -> Result<(), LoadFault>
-    ensures put { OnOk result (TakesUpPages (filled page image.now.bytes) ((page, block) ∷ []) pages.old pages.new) }
+    ensures put { OnOk result (TakesUpPages (page_unless_empty page image.now.bytes) ((page, block) ∷ []) pages.old pages.new) }
     ensures no_damage { IfErr result (λ e. e ≡ LoadFault.NoMemory) }
 {
     pages.due.push((page, block)).map_err(|_| NoMemory)?;
@@ -244,7 +244,7 @@ fn put_image(page: u32, block: u64, image: &Block, pages: &mut Pages) -> Result<
 /// Takes up a page by its home.
 fn put_home(page: u32, home: Block, pages: &mut Pages) -> Result<(), LoadFault>
     requires { page < 16384 }
-    ensures put { OnOk result (TakesUpPages (filled page home.bytes) [] pages.old pages.new) }
+    ensures put { OnOk result (TakesUpPages (page_unless_empty page home.bytes) [] pages.old pages.new) }
     ensures page { OnOk result (is_page home.bytes ≡ true) }
     ensures damage { IfErr result (λ e. IfSome (damaged_block e) (λ block. (block ≡ page_home page) × (is_page home.bytes ≡ false))) }
     ensures no_fault { IsErrOf result LoadFault.Fault → ⊥ }
@@ -259,7 +259,7 @@ fn put_home(page: u32, home: Block, pages: &mut Pages) -> Result<(), LoadFault>
 
 /// Keeps a page that isn't zeros.
 fn put_filled(page: u32, block: Block, pages: &mut Pages) -> Result<(), LoadFault>
-    ensures put { OnOk result (TakesUpPages (filled page block.bytes) [] pages.old pages.new) }
+    ensures put { OnOk result (TakesUpPages (page_unless_empty page block.bytes) [] pages.old pages.new) }
     ensures no_damage { IfErr result (λ e. e ≡ LoadFault.NoMemory) }
 {
     if is_empty(&block) {

@@ -5,7 +5,7 @@ ghost use Rattle.asm_formats.specs.Logs.{image_in, logged_image};
 ghost use Rattle.change_directory.specs.Places.{IsCopy};
 ghost use Rattle.asm_base.specs.Blocks.{image_of_page};
 ghost use Rattle.change_directory.specs.Loads.{counted_block, newest_slots};
-ghost use Rattle.change_directory.specs.Slots.{all_slots, bad_image, cut, has_slots, head_in, logs_of, place_in, slots_of_log};
+ghost use Rattle.change_directory.specs.Slots.{all_slots, bad_image, blocks_of, has_slots, head_in, logs_of, place_in, slots_of_log};
 ghost use Rattle.change_directory.specs.Works.{ReadCall, ToldOver};
 ghost use Rattle.change_directory.specs.LoadCalls.{ImagesAreRead, LoadCall, LogIsRead, NoDamage, RestIsRead};
 
@@ -137,7 +137,7 @@ fn fill_images<B: Bay>(
 /// Each page with its image, of images that stand one behind the other.
 fn images_of(alloc: Global, pages: &[u32], bytes: &[u8]) -> Result<Vec<(u32, Block)>, NoMemory>
     requires { length bytes.now ≡ length pages.now * 4096 }
-    ensures images { IfOk result (λ images. map image_of_page images.items ≡ zip pages.now (cut (length pages.now) bytes.now)) }
+    ensures images { IfOk result (λ images. map image_of_page images.items ≡ zip pages.now (blocks_of (length pages.now) bytes.now)) }
     ensures len { IfOk result (λ images. vec_len images ≡ length pages.now) }
 {
     let mut images = Vec::new(alloc);

@@ -9,7 +9,7 @@ use Rattle.asm_base.specs.asm_formats.Values.{decoded_item}
 use Rattle.asm_base.specs.asm_formats.Records.{Frame, decoded_record}
 use Rattle.asm_base.specs.asm_formats.Content.{is_empty_page, is_page, page_items}
 use Rattle.asm_base.specs.Records.{DirectoryRecord}
-use Rattle.asm_base.specs.Frames.{Head, entry_frame, framed_entry, framed, head_reading}
+use Rattle.asm_base.specs.Frames.{Head, entry_frame, framed_entry, record_in_frame, head_reading}
 use Rattle.asm_base.proofs.Exact.{IsBytes}
 use Rattle.asm_base.proofs.FrameLaws.{frame_is_read}
 use Rattle.directory_page.specs.Frames.{is_framed, is_value_of}
@@ -19,7 +19,7 @@ abbrev says : Option DirectoryRecord → Bool
 says None = false
 says (Some e) = is_some (decoded_item e.0 e.1)
 
-framed_says : (read : Option (Head × Bytes)) → is_framed read ≡ says (option_and_then (λ h. framed h.0 h.1) read)
+framed_says : (read : Option (Head × Bytes)) → is_framed read ≡ says (option_and_then (λ h. record_in_frame h.0 h.1) read)
 framed_says None = refl
 framed_says (Some ((k, len), rest)) = go (nat_le len 4064 && (nat_le len (length rest) && list_all (λ b. b == 0) (drop len rest))) where
   go : (b : Bool) → is_value_of k (cond b (Some (take len rest)) None) ≡ says (cond b (Some (k, take len rest)) None)

@@ -7,13 +7,13 @@ use Rattle.asm_base.specs.Readings.{Reading, both, as_a, repeated}
 use Rattle.asm_base.specs.Records.{all_of}
 use Rattle.asm_base.proofs.Exact.{IsBytes}
 use Rattle.asm_base.proofs.Tables.{bytes_are}
-use Rattle.directory_page.specs.Checks.{Check, passed, checks_in_turn, times, is_all}
+use Rattle.directory_page.specs.Checks.{Check, check_of, checks_in_turn, times, is_all}
 
 -- the check gives what the reading leaves
 pub record Passing {A : Type 0} (check : Check) (reading : Reading A) : Type 0 where
-  pub same : (bytes : List ℕ) → check bytes ≡ passed reading bytes
+  pub same : (bytes : List ℕ) → check bytes ≡ check_of reading bytes
 
-pub read_passes : {A : Type 0} (r : Reading A) → Passing (passed r) r
+pub read_passes : {A : Type 0} (r : Reading A) → Passing (check_of r) r
 read_passes r = record { same = λ bytes. refl }
 
 pub both_pass : {A B : Type 0} {c d : Check} {r : Reading A} {q : Reading B} → Passing c r → Passing d q → Passing (checks_in_turn c d) (both r q)
@@ -32,7 +32,7 @@ as_passes {A} {B} {c} {r} made law = record { same = λ bytes. law.same bytes �
   go None = refl
   go (Some x) = refl
 
-times_same : {A : Type 0} (c : Check) (r : Reading A) → Passing c r → (n : ℕ) (bytes : List ℕ) → times n c bytes ≡ passed (repeated n r) bytes
+times_same : {A : Type 0} (c : Check) (r : Reading A) → Passing c r → (n : ℕ) (bytes : List ℕ) → times n c bytes ≡ check_of (repeated n r) bytes
 unfolding times repeated
 times_same c r law zero bytes = refl
 times_same {A} c r law (suc n) bytes = ap (λ (o : Option (List ℕ)). option_and_then (times n c) o) (law.same bytes) ∙ go (times_same c r law n) (r bytes) where
@@ -40,7 +40,7 @@ times_same {A} c r law (suc n) bytes = ap (λ (o : Option (List ℕ)). option_an
   inner x None = refl
   inner x (Some y) = refl
 
-  go : ((rest : List ℕ) → times n c rest ≡ passed (repeated n r) rest) → (o : Option (A × List ℕ))
+  go : ((rest : List ℕ) → times n c rest ≡ check_of (repeated n r) rest) → (o : Option (A × List ℕ))
       → option_and_then (times n c) (option_map (λ (x : A × List ℕ). x.1) o) ≡ option_map (λ (y : List A × List ℕ). y.1) (option_and_then (λ (x : A × List ℕ). option_and_then (λ (xs : List A × List ℕ). Some (x.0 ∷ xs.0, xs.1)) (repeated n r x.1)) o)
   go others None = refl
   go others (Some x) = others x.1 ∙ inner x.0 (repeated n r x.1)

@@ -17,7 +17,7 @@ use Rattle.record_values.proofs.Operations.{pending_decoded, power_decoded}
 use Rattle.record_values.proofs.Templates.{templates_decoded}
 use Rattle.record_values.proofs.Nodes.{node_decoded}
 use Rattle.record_values.proofs.Settings.{settings_decoded}
-use Rattle.directory_page.specs.Checks.{passed, is_all}
+use Rattle.directory_page.specs.Checks.{check_of, is_all}
 use Rattle.directory_page.specs.Values.{file_numbers_check, file_check, extent_check, chunk_check, disk_check, pending_check, templates_check, node_check, settings_check}
 use Rattle.directory_page.proofs.Passing.{Passing, read_passes, both_pass, as_passes, times_pass, passes_decoded}
 use Rattle.directory_page.proofs.Ascending.{templates_pass}
@@ -62,7 +62,7 @@ chunk_passes f c bytes file number = passes_decoded chunk_passing (chunk_item f 
 pub disk_passes : (d : ℕ) (bytes : Bytes) → d < 64 → IsBytes bytes → is_all (disk_check bytes) ≡ is_some (decoded_item (record { kind = 2; a = d; b = 0 }) bytes)
 disk_passes d bytes lt = passes_decoded disk_passing (disk_item d) (record { kind = 2; a = d; b = 0 }) bytes (disk_decoded d bytes lt)
 
-pub power_passes : (bytes : Bytes) → IsBytes bytes → is_all (passed (number_reading w16) bytes) ≡ is_some (decoded_item (record { kind = 4; a = 0; b = 0 }) bytes)
+pub power_passes : (bytes : Bytes) → IsBytes bytes → is_all (check_of (number_reading w16) bytes) ≡ is_some (decoded_item (record { kind = 4; a = 0; b = 0 }) bytes)
 power_passes bytes = passes_decoded (read_passes (number_reading w16)) rebalance_item (record { kind = 4; a = 0; b = 0 }) bytes (power_decoded bytes)
 
 pub pending_passes : (bytes : Bytes) → IsBytes bytes → is_all (pending_check bytes) ≡ is_some (decoded_item (record { kind = 4; a = 1; b = 0 }) bytes)

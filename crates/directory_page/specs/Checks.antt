@@ -7,8 +7,8 @@ abbrev pub Check : Type 0
 Check = List ℕ → Option (List ℕ)
 
 -- a reading whose value isn't kept
-abbrev pub passed : {A : Type 0} → Reading A → Check
-passed reading bytes = option_map (λ x. x.1) (reading bytes)
+abbrev pub check_of : {A : Type 0} → Reading A → Check
+check_of reading bytes = option_map (λ x. x.1) (reading bytes)
 
 -- the first, and then the second of what is left
 abbrev pub checks_in_turn : Check → Check → Check

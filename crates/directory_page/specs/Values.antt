@@ -11,22 +11,22 @@ use Rattle.asm_base.specs.Readings.{Reading, byte_reading, flag_reading, number_
 use Rattle.asm_base.specs.Words.{stripe_reading, node_kind_reading, pending_kind_reading}
 use Rattle.asm_base.specs.Parts.{home_reading}
 use Rattle.record_values.specs.Values.{copies_reading, named_reading, system_reading}
-use Rattle.directory_page.specs.Checks.{Check, passed, checks_in_turn, times, is_all}
+use Rattle.directory_page.specs.Checks.{Check, check_of, checks_in_turn, times, is_all}
 
 -- ---- files
 
 -- the numbers behind the type's name
 unfoldable pub file_numbers_check : Check
-file_numbers_check = checks_in_turn (passed (number_reading w64)) (checks_in_turn (passed (number_reading w64)) (checks_in_turn (passed system_reading) (passed (number_reading w32))))
+file_numbers_check = checks_in_turn (check_of (number_reading w64)) (checks_in_turn (check_of (number_reading w64)) (checks_in_turn (check_of system_reading) (check_of (number_reading w32))))
 
 unfoldable pub file_check : Check
-file_check = checks_in_turn (passed copies_reading) (checks_in_turn (passed stripe_reading) (checks_in_turn (passed (name_reading 30)) file_numbers_check))
+file_check = checks_in_turn (check_of copies_reading) (checks_in_turn (check_of stripe_reading) (checks_in_turn (check_of (name_reading 30)) file_numbers_check))
 
 -- ---- chunks
 
 -- the homes of one extent
 unfoldable pub extent_check : Check
-extent_check = times 3 (passed home_reading)
+extent_check = times 3 (check_of home_reading)
 
 abbrev pub chunk_check : Check
 chunk_check = times chunk_len extent_check
@@ -34,12 +34,12 @@ chunk_check = times chunk_len extent_check
 -- ---- disks
 
 unfoldable pub disk_check : Check
-disk_check = checks_in_turn (passed (number_reading w64)) (checks_in_turn (passed named_reading) (passed named_reading))
+disk_check = checks_in_turn (check_of (number_reading w64)) (checks_in_turn (check_of named_reading) (check_of named_reading))
 
 -- ---- operations
 
 unfoldable pub pending_check : Check
-pending_check = checks_in_turn (passed pending_kind_reading) (checks_in_turn (passed (number_reading w32)) (passed (number_reading w64)))
+pending_check = checks_in_turn (check_of pending_kind_reading) (checks_in_turn (check_of (number_reading w32)) (check_of (number_reading w64)))
 
 -- ---- templates
 
@@ -50,7 +50,7 @@ ascend_after before (t ∷ ts) = precedes (folded before) (folded t.name) && asc
 
 -- what stands behind its name
 unfoldable pub template_rest_check : Check
-template_rest_check = checks_in_turn (passed copies_reading) (checks_in_turn (passed stripe_reading) (passed flag_reading))
+template_rest_check = checks_in_turn (check_of copies_reading) (checks_in_turn (check_of stripe_reading) (check_of flag_reading))
 
 -- a template, of which the name is kept
 abbrev pub template_name_reading : Reading Bytes
@@ -68,13 +68,13 @@ templates_check bytes = option_and_then (λ n. if nat_le n.0 most_templates then
 -- ---- nodes
 
 unfoldable pub node_check : Check
-node_check = checks_in_turn (passed (number_reading w32)) (checks_in_turn (passed node_kind_reading) (checks_in_turn (passed (number_reading w32)) (passed (name_reading 80))))
+node_check = checks_in_turn (check_of (number_reading w32)) (checks_in_turn (check_of node_kind_reading) (checks_in_turn (check_of (number_reading w32)) (check_of (name_reading 80))))
 
 -- ---- settings
 
 unfoldable pub settings_check : Check
 settings_check =
-    checks_in_turn (passed (number_reading w64)) (checks_in_turn (passed (number_reading w64)) (checks_in_turn (passed (text_reading 30)) (checks_in_turn (passed (text_reading 30)) (passed (text_reading 30)))))
+    checks_in_turn (check_of (number_reading w64)) (checks_in_turn (check_of (number_reading w64)) (checks_in_turn (check_of (text_reading 30)) (checks_in_turn (check_of (text_reading 30)) (check_of (text_reading 30)))))
 
 -- ---- marks
 
@@ -86,7 +86,7 @@ is_marks_value bytes = (length bytes == chunk_len) && list_all (λ m. nat_lt m 8
 
 abbrev pub operation_passes : ℕ → Bytes → Bool
 operation_passes a bytes =
-    if a == 0 then is_all (passed (number_reading w16) bytes) else if a == 1 then is_all (pending_check bytes) else false
+    if a == 0 then is_all (check_of (number_reading w16) bytes) else if a == 1 then is_all (pending_check bytes) else false
 
 -- of the kinds that have one number at most
 abbrev pub single_passes : ℕ → ℕ → Bytes → Bool

@@ -4,7 +4,7 @@ ghost use Rattle.asm_base.specs.asm_group.Names.{folded};
 ghost use Rattle.asm_base.specs.asm_formats.Items.{precedes};
 ghost use Rattle.asm_base.specs.Cursors.{ReadsBy};
 ghost use Rattle.asm_base.specs.Readings.{name_reading, text_reading};
-ghost use Rattle.directory_page.specs.Checks.{Passes, passed};
+ghost use Rattle.directory_page.specs.Checks.{Passes, check_of};
 ghost use Rattle.record_values.specs.Values.{named_reading};
 
 use asm_base::{Reader, folded_byte, is_name, is_part, text_in};
@@ -30,7 +30,7 @@ pub(crate) fn take_named<'a>(from: &mut Reader<'a>) -> Option<&'a [u8]>
 
 /// Passes over a text of a width.
 pub(crate) fn pass_text(from: &mut Reader, width: u8) -> Option<()>
-    ensures { Passes from.new result (passed (text_reading width) from.old) }
+    ensures { Passes from.new result (check_of (text_reading width) from.old) }
 {
     take_text(from, width)?;
     Some(())
@@ -38,7 +38,7 @@ pub(crate) fn pass_text(from: &mut Reader, width: u8) -> Option<()>
 
 /// Passes over a name of a disk or a failure group.
 pub(crate) fn pass_named(from: &mut Reader) -> Option<()>
-    ensures { Passes from.new result (passed named_reading from.old) }
+    ensures { Passes from.new result (check_of named_reading from.old) }
 {
     take_named(from)?;
     Some(())
@@ -46,7 +46,7 @@ pub(crate) fn pass_named(from: &mut Reader) -> Option<()>
 
 /// Passes over a part of a path of a width.
 pub(crate) fn pass_name(from: &mut Reader, width: u8) -> Option<()>
-    ensures { Passes from.new result (passed (name_reading width) from.old) }
+    ensures { Passes from.new result (check_of (name_reading width) from.old) }
 {
     let name = take_text(from, width)?;
     if is_part(name, width) { Some(()) } else { None }

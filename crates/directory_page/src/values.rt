@@ -5,7 +5,7 @@ ghost use Rattle.std.specs.Int.{w16};
 ghost use Rattle.std.specs.Option.{is_some};
 ghost use Rattle.asm_base.specs.Readings.{number_reading};
 ghost use Rattle.asm_base.specs.asm_formats.Values.{decoded_item};
-ghost use Rattle.directory_page.specs.Checks.{Passes, is_all, passed};
+ghost use Rattle.directory_page.specs.Checks.{Passes, is_all, check_of};
 ghost use Rattle.directory_page.specs.Values.{file_check, file_numbers_check, chunk_check, extent_check, disk_check, pending_check, node_check, settings_check, is_marks_value, operation_passes, single_passes, value_passes};
 
 use crate::fields::{
@@ -164,7 +164,7 @@ fn pass_disk(from: &mut Reader) -> Option<()>
 
 fn is_power(bytes: &[u8]) -> bool
     requires { length bytes.now ≤ 4064 }
-    ensures { result ≡ is_all (passed (number_reading w16) bytes.now) }
+    ensures { result ≡ is_all (check_of (number_reading w16) bytes.now) }
 {
     let mut from = Reader { bytes, at: 0 };
     match take_u16(&mut from) {

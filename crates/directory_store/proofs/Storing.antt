@@ -33,7 +33,7 @@ use Rattle.directory_store.specs.Commits.{CommitsPages}
 use Rattle.directory_store.specs.Contents.{ArePutItems}
 use Rattle.directory_store.specs.Copies.{AreCopiesApart, AreKept, AreNamedCopies, Earlier, HasOnlyFailedCopies, HaveEither, IsSlotOfCopy, MayPutOn, RegionsOf, WritesFew, calls_for, due_of}
 use Rattle.directory_store.specs.StoreCalls.{CommitsRecords}
-use Rattle.directory_store.specs.Stores.{Stored, IsEmpty, Keeps, HaveRecords, HaveEitherRecords, off, others, without}
+use Rattle.directory_store.specs.Stores.{Stored, IsEmpty, Keeps, HaveRecords, HaveEitherRecords, off, others, without_copies}
 use Rattle.directory_store.specs.declared.due.Due.{Due}
 use Rattle.directory_store.specs.declared.error.StoreError.TheVariants.{NoMemory}
 use Rattle.directory_store.proofs.Records.{items_after, pages_decode, is_head, has_records}
@@ -285,7 +285,7 @@ may_put_on old was table put gone pages s next is keeps applies sound puts few l
 
 -- ---- between the calls
 
-pub forgotten_keeps : (store : Stored) (slot : ℕ) (s : BayState) → Keeps store s → Keeps (without slot store) s
+pub forgotten_keeps : (store : Stored) (slot : ℕ) (s : BayState) → Keeps store s → Keeps (without_copies slot store) s
 forgotten_keeps store slot s keeps = record {
   table = keeps.table;
   items = keeps.items;

@@ -2,7 +2,7 @@
 use Rattle.std.proofs.Common.{◌≡◌, ◌∙◌, ◌⊎◌, inl, inr, ⊎_elim, [], List, map, refl, sym, ap, subst, Option, Some, None, Result, Ok, Err}
 use Rattle.std.specs.Prelude.{IfErr, IfOk, IfSome, ℕ}
 use Rattle.bay.specs.State.{BayState}
-use Rattle.asm_base.specs.Refusals.{said}
+use Rattle.asm_base.specs.Refusals.{meaning_of}
 use Rattle.asm_base.specs.declared.refusal.Refusal.{Refusal}
 use Rattle.asm_base.specs.declared.refusal.Refusal.TheVariants as cause
 use Rattle.asm_group.specs.Names.{Bytes}
@@ -24,8 +24,8 @@ use Rattle.disk_commands.specs.Waits.{HasShortCause, HasWaited, IsLeftShort, IsN
 
 -- ---- a rebalance to its end
 
-no_short : (m : MountedGroup) (names : ℕ → Bytes) (e : Refusal) → IsNoShortfall e → ShortCause m (said names e)
-unfolding said
+no_short : (m : MountedGroup) (names : ℕ → Bytes) (e : Refusal) → IsNoShortfall e → ShortCause m (meaning_of names e)
+unfolding meaning_of
 no_short m names (cause.NoSpace x) why = absurd why
 no_short m names (cause.Lost x) why = absurd why
 no_short m names _ why = tt
@@ -40,14 +40,14 @@ faults_short a b s t (Ok end) why = tt
 faults_short a b s t (Err e) why = fault_short a b s t e why
 
 pub shortfall_cause : (m : MountedGroup) (end : Result Slice Refusal) → IfOk end (EndCause m) → IfErr end IsNoShortfall → IfSome (refusal_of_rebalance end) (HasShortCause m)
-unfolding said
+unfolding meaning_of
 shortfall_cause m (Ok slice.More) why fault = tt
 shortfall_cause m (Ok slice.Done) why fault = tt
 shortfall_cause m (Ok (slice.NoSpace x)) why fault = why
 shortfall_cause m (Ok (slice.Lost x)) why fault = why
 shortfall_cause m (Err e) why fault = no_short m (disk_name m) e fault
 
-pub spelt_short : (m : MountedGroup) (raw spelt : Refusal) → (said (λ _. []) spelt ≡ said (disk_name m) raw) ⊎ (said (λ _. []) spelt ≡ r.NoMemory) → HasShortCause m raw → ShortCause m (said (λ _. []) spelt)
+pub spelt_short : (m : MountedGroup) (raw spelt : Refusal) → (meaning_of (λ _. []) spelt ≡ meaning_of (disk_name m) raw) ⊎ (meaning_of (λ _. []) spelt ≡ r.NoMemory) → HasShortCause m raw → ShortCause m (meaning_of (λ _. []) spelt)
 spelt_short m raw spelt is why = ⊎_elim (λ same. subst (ShortCause m) (sym same) why) (λ memory. subst (ShortCause m) (sym memory) tt) is
 
 pub told_waits : (m : MountedGroup) (end : Result Slice Refusal) (raw : Option Refusal) (waited : Waited) → raw ≡ refusal_of_rebalance end → IfOk end (EndCause m) → IfErr end IsNoShortfall
@@ -81,37 +81,37 @@ module _ (name : Bytes) (old new : SessionView) (s t : BayState) where
   Does = λ a result b u v. WaitsForRebalance result b
 
   pub waited_so : (result : Result Waited Refusal) → WorksOn name Does result old new s t → (waited : Waited) → result ≡ Ok waited → (e : Refusal) → (waited.refusal ≡ Some e) ⊎ (e ≡ cause.NoMemory)
-      → WaitCause new name (said (λ _. []) e)
-  unfolding said
+      → WaitCause new name (meaning_of (λ _. []) e)
+  unfolding meaning_of
   waited_so result works waited is e from =
       let did : DoesOn name Does old new s t waited = subst (λ (x : Result Waited Refusal). IfOk x (DoesOn name Does old new s t)) is works.done in
       let changes = did.0 in
       let named = left_named old new name changes.before changes.after works.carries.keys changes.is.named changes.groups in
       ⊎_elim
-      (λ told. wait_cause new name changes.after named (said (λ _. []) e) (subst (λ (o : Option Refusal). IfSome o (λ x. ShortCause changes.after (said (λ _. []) x))) told did.1.waited))
-      (λ memory. no_memory_waits new name (said (λ _. []) e) (ap (said (λ _. [])) memory))
+      (λ told. wait_cause new name changes.after named (meaning_of (λ _. []) e) (subst (λ (o : Option Refusal). IfSome o (λ x. ShortCause changes.after (meaning_of (λ _. []) x))) told did.1.waited))
+      (λ memory. no_memory_waits new name (meaning_of (λ _. []) e) (ap (meaning_of (λ _. [])) memory))
       from
 
-  refused_by : (after : MountedGroup) (answer result : Result Waited Refusal) (e : Refusal) → result ≡ Err e → IsSpelt after answer result → WaitsForRebalance answer after → WaitCause new name (said (λ _. []) e)
-  unfolding said
+  refused_by : (after : MountedGroup) (answer result : Result Waited Refusal) (e : Refusal) → result ≡ Err e → IsSpelt after answer result → WaitsForRebalance answer after → WaitCause new name (meaning_of (λ _. []) e)
+  unfolding meaning_of
   refused_by after (Ok waited) result e is spelt did = absurd (not_both result waited e spelt is)
   refused_by after (Err raw) result e is spelt did =
       let same : spelt.0 ≡ e = one_refusal result spelt.0 e spelt.1 is in
-      let memory = λ (k : said (λ _. []) spelt.0 ≡ r.NoMemory). no_memory_waits new name (said (λ _. []) e) (ap (said (λ _. [])) (sym same) ∙ k) in
-      ⊎_elim (λ said_so. memory (said_so ∙ ap (said (disk_name after)) did.short)) memory spelt.2
+      let memory = λ (k : meaning_of (λ _. []) spelt.0 ≡ r.NoMemory). no_memory_waits new name (meaning_of (λ _. []) e) (ap (meaning_of (λ _. [])) (sym same) ∙ k) in
+      ⊎_elim (λ said_so. memory (said_so ∙ ap (meaning_of (disk_name after)) did.short)) memory spelt.2
 
-  out_waits : (e : Refusal) → IsOutCause old.entries name e → WaitCause new name (said (λ _. []) e)
-  out_waits e out = ⊎_elim (by_entry (entry_among old.entries name)) (no_memory_waits new name (said (λ _. []) e)) out
+  out_waits : (e : Refusal) → IsOutCause old.entries name e → WaitCause new name (meaning_of (λ _. []) e)
+  out_waits e out = ⊎_elim (by_entry (entry_among old.entries name)) (no_memory_waits new name (meaning_of (λ _. []) e)) out
     where
-      by_state : (state : SessionState) → in_state state (said (λ _. []) e) → WaitCause new name (said (λ _. []) e)
+      by_state : (state : SessionState) → in_state state (meaning_of (λ _. []) e) → WaitCause new name (meaning_of (λ _. []) e)
       by_state Mounted why = absurd why
       by_state (DismountedBy disk) why = subst (WaitCause new name) (sym why) tt
 
-      by_entry : (o : Option SessionEntry) → of_entry o (said (λ _. []) e) → WaitCause new name (said (λ _. []) e)
+      by_entry : (o : Option SessionEntry) → of_entry o (meaning_of (λ _. []) e) → WaitCause new name (meaning_of (λ _. []) e)
       by_entry None why = subst (WaitCause new name) (sym why) tt
       by_entry (Some entry) why = by_state entry.state why
 
-  pub refused_so : (result : Result Waited Refusal) → WorksOn name Does result old new s t → (e : Refusal) → result ≡ Err e → WaitCause new name (said (λ _. []) e)
+  pub refused_so : (result : Result Waited Refusal) → WorksOn name Does result old new s t → (e : Refusal) → result ≡ Err e → WaitCause new name (meaning_of (λ _. []) e)
   refused_so result works e is =
       ⊎_elim
       (λ found. let did = works.works found in refused_by did.after did.answer result e is did.spelt did.does)
@@ -120,10 +120,10 @@ module _ (name : Bytes) (old new : SessionView) (s t : BayState) where
 
 -- ---- replies
 
-pub reply_waits : (now : SessionView) (name : Bytes) (ended : Result (Unit {0}) Refusal) (reply : Reply) → IfErr ended (λ e. WaitCause now name (said (λ _. []) e)) → refused_after reply ≡ refusal_in ended
+pub reply_waits : (now : SessionView) (name : Bytes) (ended : Result (Unit {0}) Refusal) (reply : Reply) → IfErr ended (λ e. WaitCause now name (meaning_of (λ _. []) e)) → refused_after reply ≡ refusal_in ended
     → ReplyWaited now name reply
-reply_waits now name ended reply why is = subst (λ (o : Option Refusal). IfSome o (λ e. WaitCause now name (said (λ _. []) e))) (sym is) (by ended why)
+reply_waits now name ended reply why is = subst (λ (o : Option Refusal). IfSome o (λ e. WaitCause now name (meaning_of (λ _. []) e))) (sym is) (by ended why)
   where
-    by : (x : Result (Unit {0}) Refusal) → IfErr x (λ e. WaitCause now name (said (λ _. []) e)) → IfSome (refusal_in x) (λ e. WaitCause now name (said (λ _. []) e))
+    by : (x : Result (Unit {0}) Refusal) → IfErr x (λ e. WaitCause now name (meaning_of (λ _. []) e)) → IfSome (refusal_in x) (λ e. WaitCause now name (meaning_of (λ _. []) e))
     by (Ok done) k = tt
     by (Err e) k = k

@@ -1,6 +1,6 @@
 -- Why what a statement waits for is refused, by the group as it is left.
 use Rattle.std.specs.Prelude.{◌≡◌, ⊤, [], IfErr, IfOk, IfSome, Option, Some, None, Result, Ok, Err}
-use Rattle.asm_base.specs.Refusals.{said}
+use Rattle.asm_base.specs.Refusals.{meaning_of}
 use Rattle.asm_base.specs.declared.refusal.Refusal.{Refusal}
 use Rattle.asm_base.specs.declared.refusal.Refusal.TheVariants as cause
 use Rattle.asm_group.specs.Names.{Bytes}
@@ -41,11 +41,11 @@ IsNoShortfall another = ⊤
 
 -- the refusal, with the names of the group's disks, has its cause in the group
 abbrev pub HasShortCause : MountedGroup → Refusal → Type 0
-HasShortCause m refusal = ShortCause m (said (disk_name m) refusal)
+HasShortCause m refusal = ShortCause m (meaning_of (disk_name m) refusal)
 
 -- the refusal with which what was waited for ended, if there is one, has its cause in the group: its disks are spelt already
 abbrev pub HasWaited : MountedGroup → Waited → Type 0
-HasWaited m waited = IfSome waited.refusal (λ refusal. ShortCause m (said (λ _. []) refusal))
+HasWaited m waited = IfSome waited.refusal (λ refusal. ShortCause m (meaning_of (λ _. []) refusal))
 
 -- A rebalance went to its end, or memory was wanting.
 pub record WaitsForRebalance (result : Result Waited Refusal) (new : MountedGroup) : Type 0 where
@@ -79,4 +79,4 @@ refused_after (reply.RefusedAfter lines refusal) = Some refusal
 
 -- it has its cause in the group of the name
 abbrev pub ReplyWaited : SessionView → Bytes → Reply → Type 0
-ReplyWaited now name reply = IfSome (refused_after reply) (λ refusal. WaitCause now name (said (λ _. []) refusal))
+ReplyWaited now name reply = IfSome (refused_after reply) (λ refusal. WaitCause now name (meaning_of (λ _. []) refusal))

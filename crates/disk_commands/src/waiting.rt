@@ -1,6 +1,6 @@
 // Statements on disks, and what they wait for: rebalances and resyncs to their ends, with their lines.
 ghost use Rattle.std.specs.Prelude.{◌≡◌, ◌⊎◌, ⊤, ◌≤◌, [], length, IfErr, IfOk, IfSome, Some};
-ghost use Rattle.asm_base.specs.Refusals.{said};
+ghost use Rattle.asm_base.specs.Refusals.{meaning_of};
 ghost use Rattle.asm_base.specs.declared.refusal.Refusal.TheVariants as cause;
 ghost use Rattle.disk_commands.specs.Waits.{HasShortCause, HasWaited, IsNoShortfall, ReplyWaited, WaitCause, WaitsForRebalance, refusal_in, refused_after, refusal_of_rebalance};
 ghost use Rattle.session.specs.group_engine.Mounts.{Takes};
@@ -255,7 +255,7 @@ fn rebalance_all<B: Bay>(
 ) -> Result<(), Refusal>
     requires ready { AreReady session.old.groups (B.state bay.old) }
     ensures carries { CarriesOn session.old session.new (B.state bay.old) (B.state bay.new) }
-    ensures why { IfErr result (λ refusal. WaitCause session.new name.now (said (λ _. []) refusal)) }
+    ensures why { IfErr result (λ refusal. WaitCause session.new name.now (meaning_of (λ _. []) refusal)) }
 {
     match session.work(alloc, bay, name, RebalanceAll { power }) {
         Ok(waited) => put_waited(lines, waited),

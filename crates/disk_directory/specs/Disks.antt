@@ -4,7 +4,6 @@ use Rattle.std.specs.Ordering.{nat_cmp}
 use Rattle.asm_formats.specs.Items.{DiskInfo, Item, Key, disk_item, disks_kind}
 use Rattle.asm_base.specs.Records.{DirectoryRecord}
 use Rattle.item_table.specs.Tables.{IsTable as IsKeyTable, bytes_at, record_of as key_record}
-
 -- what the record of a disk says, and the table with another record of it or without it
 pub use Rattle.item_table.specs.Numbers.{at_number as info_at, with_number as with_info, without_number as without_disk, is_lower_number as is_lower_disk}
 pub use Rattle.item_table.specs.Tables.{add_record}

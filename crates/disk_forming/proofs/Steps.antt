@@ -4,7 +4,7 @@ use Rattle.std.specs.Prelude.{◌==◌}
 use Rattle.bay.specs.Image.{Image, ChangesOnly}
 use Rattle.bay.proofs.Images.{changes-within, changes-trans}
 use Rattle.bay.proofs.OneCall.{Follows}
-use Rattle.gate_slot.specs.Slot.{PlaceOf, shown, is_open_in, MayPut, HasPut}
+use Rattle.gate_slot.specs.Slot.{PlaceOf, shown_body, is_open_in, MayPut, HasPut}
 use Rattle.gate_slot.proofs.Steps.{shown-elsewhere, shown-closed}
 use Rattle.disk_forming.proofs.Shutting.{other_gates_inside}
 use Rattle.disk_forming.specs.Places.{gated_slot_at, all_gates}
@@ -18,7 +18,7 @@ module _ (slot sector : ℕ) (some : 0 < sector) (short : sector ≤ 4096) where
 
   -- slots of two blocks each that don't meet
   other_stays : (at other : ℕ) → (other + 2 ≤ at) ⊎ (at + 2 ≤ other) → (x y : Image) → ChangesOnly (PlaceOf (gated_slot_at at 1 sector) slot) x y
-      → shown (gated_slot_at other 1 sector) slot y ≡ shown (gated_slot_at other 1 sector) slot x
+      → shown_body (gated_slot_at other 1 sector) slot y ≡ shown_body (gated_slot_at other 1 sector) slot x
   other_stays at other apart x y step = shown-elsewhere (gated_slot_at other 1 sector) slot some (PlaceOf (gated_slot_at at 1 sector) slot) x y meet step
     where
       meet : (k : ℕ) → PlaceOf (gated_slot_at other 1 sector) slot slot k → PlaceOf (gated_slot_at at 1 sector) slot slot k → ⊥
@@ -51,7 +51,7 @@ module _ (slot sector : ℕ) (some : 0 < sector) (short : sector ≤ 4096) where
     header_change : (x y z : Image) → ClosesAll slot sector dir_blocks x y → ChangesOnly (PlaceOf (gated_slot_at 0 1 sector) slot) y z → ChangesOnly (MetaOf slot dir_blocks) x z
     header_change x y z closed step = changes-trans (MetaOf slot dir_blocks) x y z (gates_in_meta x y closed.elsewhere) (header_in_meta y z step)
 
-    header_put : (shows : Option (List ℕ)) (x y z : Image) → ClosesAll slot sector dir_blocks x y → shown (gated_slot_at 0 1 sector) slot z ≡ shows → ChangesOnly (PlaceOf (gated_slot_at 0 1 sector) slot) y z
+    header_put : (shows : Option (List ℕ)) (x y z : Image) → ClosesAll slot sector dir_blocks x y → shown_body (gated_slot_at 0 1 sector) slot z ≡ shows → ChangesOnly (PlaceOf (gated_slot_at 0 1 sector) slot) y z
         → ShowsBodies slot sector shows None None z
     header_put shows x y z closed is step = record {
       header_slot = is;
@@ -94,7 +94,7 @@ module _ (slot sector : ℕ) (some : 0 < sector) (short : sector ≤ 4096) where
     in_records at low high x y step = changes-within (RecordsOf slot) (PlaceOf (gated_slot_at at 1 sector) slot) x y
         (λ s k there. ⊎_elim (λ gate. (gate.0, omega (arith, gate.1, low), omega (arith, gate.1, gate.2, high))) (λ body. (body.0, omega (arith, body.1, low), omega (arith, body.1, body.2, high))) there) step
 
-    claim_put : (header : List ℕ) (shows : Option (List ℕ)) (y z : Image) → ShowsBodies slot sector (Some header) None None y → shown (gated_slot_at 2 1 sector) slot z ≡ shows
+    claim_put : (header : List ℕ) (shows : Option (List ℕ)) (y z : Image) → ShowsBodies slot sector (Some header) None None y → shown_body (gated_slot_at 2 1 sector) slot z ≡ shows
         → ChangesOnly (PlaceOf (gated_slot_at 2 1 sector) slot) y z → ShowsBodies slot sector (Some header) shows None z
     claim_put header shows y z before is step = record {
       header_slot = other_stays 2 0 (inl (omega arith)) y z step ∙ before.header_slot;
@@ -104,7 +104,7 @@ module _ (slot sector : ℕ) (some : 0 < sector) (short : sector ≤ 4096) where
       second_status = other_stays 2 8 (inr (omega arith)) y z step ∙ before.second_status;
     }
 
-    status_put : (header : List ℕ) (shows : Option (List ℕ)) (y z : Image) → ShowsBodies slot sector (Some header) (Some claim) None y → shown (gated_slot_at 6 1 sector) slot z ≡ shows
+    status_put : (header : List ℕ) (shows : Option (List ℕ)) (y z : Image) → ShowsBodies slot sector (Some header) (Some claim) None y → shown_body (gated_slot_at 6 1 sector) slot z ≡ shows
         → ChangesOnly (PlaceOf (gated_slot_at 6 1 sector) slot) y z → ShowsBodies slot sector (Some header) (Some claim) shows z
     status_put header shows y z before is step = record {
       header_slot = other_stays 6 0 (inl (omega arith)) y z step ∙ before.header_slot;

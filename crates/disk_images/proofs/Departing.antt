@@ -8,7 +8,7 @@ use Rattle.std.proofs.Math.Seq.{map-set_same}
 use Rattle.bay.specs.Image as bay
 use Rattle.bay.specs.Image.{Range, ChangesOnly, Makes, MayMake}
 use Rattle.bay.proofs.Images.{window-same, changes-within}
-use Rattle.gate_slot.specs.Slot.{GateOf, is_open_in, shown, MayClose}
+use Rattle.gate_slot.specs.Slot.{GateOf, is_open_in, shown_body, MayClose}
 use Rattle.gate_slot.proofs.Steps.{shown-closed, shown-shut}
 use Rattle.disk_forming.specs.Places.{gated_slot_at}
 use Rattle.disk_forming.specs.Gates.{MayCloseAll}
@@ -164,7 +164,7 @@ module _ (h : History) (slot sector : ℕ) (old new : bay.Image) (room : IsRoom 
     blocks_change = (range_change 0 slot 0 8192 old new (changes-within (Range slot 0 8192) (GateOf (gated_slot_at 0 1 sector) slot) old new (λ s k inside. (inside.0, omega arith, omega (arith, inside.2, room.0))) may.elsewhere)).1
 
     -- the gate's sector was written, and shows what it did
-    module _ (same : shown (gated_slot_at 0 1 sector) slot new ≡ shown (gated_slot_at 0 1 sector) slot old) (opened : is_open_in (gated_slot_at 0 1 sector) slot new ≡ true) where
+    module _ (same : shown_body (gated_slot_at 0 1 sector) slot new ≡ shown_body (gated_slot_at 0 1 sector) slot old) (opened : is_open_in (gated_slot_at 0 1 sector) slot new ≡ true) where
       was_open : is_open_in (gated_slot_at 0 1 sector) slot old ≡ true
       was_open = ⊎_elim (λ yes. yes)
           (λ no. absurd (false≢true (sym (shown-shut (gated_slot_at 0 1 sector) slot new (same ∙ shown-closed (gated_slot_at 0 1 sector) slot old no)) ∙ opened)))

@@ -5,7 +5,7 @@ use Rattle.std.proofs.lemmas.Bool.{cond-true, cond-false, cond_both, le-leb, lt-
 use Rattle.std.proofs.lemmas.Option.{same_Some, none-some}
 use Rattle.bay.specs.Image.{Image, Same, window}
 use Rattle.bay.proofs.Images.{window-same}
-use Rattle.gate_slot.specs.Slot.{shown, is_open_in, body_in}
+use Rattle.gate_slot.specs.Slot.{shown_body, is_open_in, body_in}
 use Rattle.gate_slot.proofs.Steps.{shown-shut}
 use Rattle.disk_forming.specs.Places.{gated_slot_at}
 use Rattle.asm_formats.specs.Bytes.{block, is_open}
@@ -61,10 +61,10 @@ module _ (slot : ℕ) (image : Image) where
         ∙ ap decoded_header (same_block 1 (omega (arith, long)))
 
     -- a slot that shows nothing, and one that shows a header
-    pub nothing_shown : shown (gated_slot_at 0 1 sector) slot image ≡ None → header_in image slot ≡ None
+    pub nothing_shown : shown_body (gated_slot_at 0 1 sector) slot image ≡ None → header_in image slot ≡ None
     nothing_shown none = gate_shut_none (sym (shown-shut (gated_slot_at 0 1 sector) slot image none))
 
-    pub header_shown : (h : Header) → is_header h ≡ true → shown (gated_slot_at 0 1 sector) slot image ≡ Some (header_spelling h) → header_in image slot ≡ Some h
+    pub header_shown : (h : Header) → is_header h ≡ true → shown_body (gated_slot_at 0 1 sector) slot image ≡ Some (header_spelling h) → header_in image slot ≡ Some h
     header_shown h ok is = cond_both (is_open_in (gated_slot_at 0 1 sector) slot image) (Some (body_in (gated_slot_at 0 1 sector) slot image)) None
         (λ (o : Option (List ℕ)). o ≡ Some (header_spelling h) → header_in image slot ≡ Some h)
         (λ yes found. open_header (sym yes) ∙ ap decoded_header (same_Some (body_in (gated_slot_at 0 1 sector) slot image) (header_spelling h) found) ∙ header_again h ok)

@@ -37,7 +37,7 @@ use Rattle.new_groups.specs.group_mount.Verdicts.{IsSlotIn}
 use Rattle.new_groups.specs.group_mount.declared.finding.Headed.{Headed}
 use Rattle.new_groups.proofs.group_mount.Searches.{sector_of}
 use Rattle.disk_images.specs.disk_forming.Gates.{HasAttachedRegion}
-use Rattle.status_register.specs.Holders.{numbered}
+use Rattle.status_register.specs.Holders.{with_next_number}
 use Rattle.status_register.specs.Registered.{Registered}
 use Rattle.status_register.specs.declared.member.Member.{Member}
 use Rattle.new_groups.specs.Forming.{AreHeadable, AreLong, Works}
@@ -209,7 +209,7 @@ entries_are r (k ∷ ks) passes h among =
     (λ later. entries_are r ks p.1 h later) among
 
 -- the record was written under the next number
-pub entries_written : {E : Type 0} (answer : Result (Unit {0}) E) (register : Registered) (next value : Status) (hs : List Headed) → are_entered next hs ≡ true → OnOk answer (value ≡ numbered register next) → OnOk answer (AreEntered value hs)
+pub entries_written : {E : Type 0} (answer : Result (Unit {0}) E) (register : Registered) (next value : Status) (hs : List Headed) → are_entered next hs ≡ true → OnOk answer (value ≡ with_next_number register next) → OnOk answer (AreEntered value hs)
 entries_written (Ok done) register next value hs have is =
     subst (λ (r : Status). AreEntered r hs) (sym is)
     (λ h among. let e = entries_are next hs have h among in record { entry = e.entry; there = e.there; birth = e.birth })

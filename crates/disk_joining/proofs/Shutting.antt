@@ -3,12 +3,12 @@ use Rattle.std.proofs.Common.{List, ℕ, Result, Ok, Err}
 use Rattle.bay.specs.State.{BayState}
 use Rattle.asm_base.specs.declared.refusal.Refusal.{Refusal}
 use Rattle.asm_base.specs.declared.refusal.Refusal.TheVariants as refusal
-use Rattle.file_extents.specs.Closing.{or_shut, shut}
+use Rattle.file_extents.specs.Closing.{or_shut, shut_group}
 use Rattle.file_extents.specs.group_engine.Mounts.{MountedGroup}
 use Rattle.file_extents.proofs.group_engine.Endings.{closed_takes_none}
 use Rattle.disk_joining.specs.Taking.{TakesIn}
 
-pub shut_taken : (held : List ℕ) {a b : MountedGroup} {s t : BayState} → TakesIn held a b s t → TakesIn held a (shut b) s t
+pub shut_taken : (held : List ℕ) {a b : MountedGroup} {s t : BayState} → TakesIn held a b s t → TakesIn held a (shut_group b) s t
 shut_taken held {a} {b} {s} {t} taken = record {
   name = taken.name;
   id = taken.id;

@@ -2,7 +2,7 @@
 use Rattle.std.specs.Prelude.{◌≡◌, ◌⊎◌, ⊤, ℕ, ◌+◌, ◌-◌, ◌<◌, nat_lt, List, [], ◌∷◌, ◌++◌, length, Option, Some, None, if◌then◌else◌}
 use Rattle.bay.specs.Counts.{Rose}
 use Rattle.bay.specs.State.{BayState}
-use Rattle.asm_base.specs.Refusals.{said}
+use Rattle.asm_base.specs.Refusals.{meaning_of}
 use Rattle.asm_base.specs.declared.refusal.DiskRef.TheVariants as disk
 use Rattle.asm_base.specs.declared.refusal.Refusal.{Refusal}
 use Rattle.asm_base.specs.declared.refusal.Refusal.TheVariants as refusal
@@ -103,5 +103,5 @@ JoinCause old new s t other = StepCause old new s t other
 
 -- Why new disks don't join: by what they are, or since a step is refused.
 pub data AddCause (paths : List Bytes) (groups : List NewFailgroup) (known : Known) (old new : MountedGroup) (s t : BayState) (given : Refusal) : Type 0 where
-  by_disks : IsNotPrepared paths groups known old (said (λ _. []) given) s t → AddCause paths groups known old new s t given
+  by_disks : IsNotPrepared paths groups known old (meaning_of (λ _. []) given) s t → AddCause paths groups known old new s t given
   by_step : JoinCause old new s t given → AddCause paths groups known old new s t given

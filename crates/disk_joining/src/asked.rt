@@ -1,7 +1,7 @@
 //! The disks that an ADD names, each with its number and what is said of it.
 ghost use Rattle.std.specs.Prelude.{◌≡◌, ◌<◌, ◌≤◌, ◌+◌, ◌++◌, ◌∷◌, [], IfErr, IfOk, OnOk, length};
 ghost use Rattle.std.specs.Bool.{OnFalse};
-ghost use Rattle.asm_base.specs.Refusals.{said};
+ghost use Rattle.asm_base.specs.Refusals.{meaning_of};
 ghost use Rattle.asm_formats.specs.Status.{has_entry};
 ghost use Rattle.asm_world.specs.NewDisks.{planned_disk};
 ghost use Rattle.new_groups.specs.Causes.{terms_in, terms_of};
@@ -139,7 +139,7 @@ pub fn asked_disks(alloc: Global, m: &Mounted, groups: &[NewFailgroup]) -> Resul
     ensures disks { IfOk result (λ asked. asked.disks.items ≡ asked_disks m.now groups.now) }
     ensures terms { IfOk result (λ asked. asked.terms.items ≡ terms_of groups.now) }
     ensures numbers { IfOk result (λ asked. asked.numbers.items ≡ given_numbers m.now groups.now) }
-    ensures refused { IfErr result (λ refusal. IsTooManyMore m.now.register.value.entries groups.now (said (λ _. []) refusal)) }
+    ensures refused { IfErr result (λ refusal. IsTooManyMore m.now.register.value.entries groups.now (meaning_of (λ _. []) refusal)) }
 {
     if !has_room(m, groups) {
         return Err(Refusal::TooMany {

@@ -1,7 +1,7 @@
 //! What new disks become before anything is written: their headers, their records, and their units.
 ghost use Rattle.std.specs.Prelude.{◌≡◌, ◌≤◌, ◌<◌, ◌*◌, [], IfErr, IfOk, IsTrue, length, map, true};
 ghost use Rattle.std.specs.String.{string_bytes};
-ghost use Rattle.asm_base.specs.Refusals.{said};
+ghost use Rattle.asm_base.specs.Refusals.{meaning_of};
 ghost use Rattle.asm_group.specs.Refusal.{NoMemory as NoMemoryLeft};
 ghost use Rattle.asm_group.specs.Shape.{is_shape};
 ghost use Rattle.disk_images.specs.Looks.{Looks};
@@ -133,7 +133,7 @@ fn checked(
 ) -> Result<Joining, Refusal>
     ensures may { IfOk result (λ joining. may_join m.now looked.now held.now joining ≡ true) }
     ensures asked { IfOk result (λ joining. are_asked joining.disks.items asked.now.disks.items asked.now.numbers.items ≡ true) }
-    ensures refused { IfErr result (λ refusal. said (λ _. []) refusal ≡ NoMemoryLeft) }
+    ensures refused { IfErr result (λ refusal. meaning_of (λ _. []) refusal ≡ NoMemoryLeft) }
 {
     let joining = match joining_of(alloc, m, asked, fitting) {
         Ok(joining) => joining,
@@ -161,7 +161,7 @@ fn planned(
     requires shape { IsTrue (is_shape m.now.catalog.shape) }
     ensures may { IfOk result (λ joining. may_join m.now looked.now known.now.held.items joining ≡ true) }
     ensures asked { IfOk result (λ joining. are_asked joining.disks.items asked.now.disks.items asked.now.numbers.items ≡ true) }
-    ensures refused { IfErr result (λ refusal. IsUnfit known.now m.now (map string_bytes paths.now) looked.now asked.now (said (λ _. []) refusal)) }
+    ensures refused { IfErr result (λ refusal. IsUnfit known.now m.now (map string_bytes paths.now) looked.now asked.now (meaning_of (λ _. []) refusal)) }
 {
     let all = match known_with(alloc, m, known) {
         Ok(all) => all,
@@ -188,7 +188,7 @@ pub fn prepare<B: Bay>(
     ensures looks { Looks (λ slot. slot < length paths.now) (4 * length paths.now) (B.state bay.old) (B.state bay.new) }
     ensures may { IfOk result (λ joining. CanJoin known.now.held.items m.now joining (B.state bay.new)) }
     ensures asked { IfOk result (λ joining. are_asked joining.disks.items (asked_disks m.now groups.now) (given_numbers m.now groups.now) ≡ true) }
-    ensures refused { IfErr result (λ refusal. IsNotPrepared (map string_bytes paths.now) groups.now known.now m.now (said (λ _. []) refusal) (B.state bay.old) (B.state bay.new)) }
+    ensures refused { IfErr result (λ refusal. IsNotPrepared (map string_bytes paths.now) groups.now known.now m.now (meaning_of (λ _. []) refusal) (B.state bay.old) (B.state bay.new)) }
 {
     let asked = match asked_disks(alloc, m, groups) {
         Ok(asked) => asked,

@@ -1,7 +1,7 @@
 //! Whether the images of new disks may be taken.
 ghost use Rattle.std.specs.Prelude.{◌≡◌, ◌≤◌, ◌++◌, [], IfErr, IfOk, IsTrue, None, OnOk, length, map};
 ghost use Rattle.std.specs.String.{string_bytes};
-ghost use Rattle.asm_base.specs.Refusals.{said};
+ghost use Rattle.asm_base.specs.Refusals.{meaning_of};
 ghost use Rattle.asm_group.specs.Shape.{is_shape};
 ghost use Rattle.new_groups.specs.Causes.{IsThisRefusal, creation_disks, first_refusal, first_refused, image_refusals, places_at, small_refusal};
 ghost use Rattle.disk_joining.specs.AddCauses.{add_refusal, free_blocks, full_refusal, group_refusals};
@@ -79,7 +79,7 @@ fn units_of(
 ) -> Result<Vec<u32>, Refusal>
     requires shape { IsTrue (is_shape m.now.catalog.shape) }
     ensures fit { OnOk result (first_refused (small_refusal m.now.catalog.shape) (creation_disks asked.now.disks.items asked.now.terms.items places.now) ≡ None) }
-    ensures refused { IfErr result (λ refusal. IsThisRefusal (first_refused (small_refusal m.now.catalog.shape) (creation_disks asked.now.disks.items asked.now.terms.items places.now)) (said (λ _. []) refusal)) }
+    ensures refused { IfErr result (λ refusal. IsThisRefusal (first_refused (small_refusal m.now.catalog.shape) (creation_disks asked.now.disks.items asked.now.terms.items places.now)) (meaning_of (λ _. []) refusal)) }
 {
     let shape = m.catalog().shape();
     let mut units = Vec::new(alloc);
@@ -99,7 +99,7 @@ fn units_of(
 /// Whether the directories have a block for each new disk. Refused as DirectoryFull.
 fn check_blocks(m: &Mounted, disks: &[PlannedDisk]) -> Result<(), Refusal>
     ensures none { OnOk result (full_refusal (length disks.now) (free_blocks m.now.catalog) ≡ None) }
-    ensures refused { IfErr result (λ refusal. IsThisRefusal (full_refusal (length disks.now) (free_blocks m.now.catalog)) (said (λ _. []) refusal)) }
+    ensures refused { IfErr result (λ refusal. IsThisRefusal (full_refusal (length disks.now) (free_blocks m.now.catalog)) (meaning_of (λ _. []) refusal)) }
 {
     let need = disks.len() as u64;
     let free = m.catalog().free_blocks();
@@ -122,7 +122,7 @@ fn free_places(
     requires few { length paths.now ≤ 512 }
     ensures places { IfOk result (λ places. places.items ≡ places_at (map string_bytes paths.now) looked.now asked.now.disks.items) }
     ensures none { OnOk result (first_refusal (image_refusals all.now (map string_bytes paths.now) looked.now asked.now.disks.items asked.now.terms.items) ≡ None) }
-    ensures refused { IfErr result (λ refusal. IsThisRefusal (first_refusal (image_refusals all.now (map string_bytes paths.now) looked.now asked.now.disks.items asked.now.terms.items)) (said (λ _. []) refusal)) }
+    ensures refused { IfErr result (λ refusal. IsThisRefusal (first_refusal (image_refusals all.now (map string_bytes paths.now) looked.now asked.now.disks.items asked.now.terms.items)) (meaning_of (λ _. []) refusal)) }
 {
     let places = match find_places(alloc, paths, looked, &asked.disks) {
         Ok(places) => places,
@@ -143,7 +143,7 @@ fn right_units(
     places: &[Place],
 ) -> Result<Vec<u32>, Refusal>
     requires shape { IsTrue (is_shape m.now.catalog.shape) }
-    ensures refused { IfErr result (λ refusal. IsThisRefusal (first_refusal (group_refusals m.now asked.now.disks.items asked.now.terms.items places.now)) (said (λ _. []) refusal)) }
+    ensures refused { IfErr result (λ refusal. IsThisRefusal (first_refusal (group_refusals m.now asked.now.disks.items asked.now.terms.items places.now)) (meaning_of (λ _. []) refusal)) }
 {
     match check_names(alloc, m, &asked.disks) {
         Ok(()) => {}
@@ -171,7 +171,7 @@ pub fn fit_disks(
 ) -> Result<Fitting, Refusal>
     requires few { length paths.now ≤ 512 }
     requires shape { IsTrue (is_shape m.now.catalog.shape) }
-    ensures refused { IfErr result (λ refusal. IsThisRefusal (add_refusal all.now m.now (map string_bytes paths.now) looked.now asked.now) (said (λ _. []) refusal)) }
+    ensures refused { IfErr result (λ refusal. IsThisRefusal (add_refusal all.now m.now (map string_bytes paths.now) looked.now asked.now) (meaning_of (λ _. []) refusal)) }
 {
     let places = match free_places(alloc, paths, all, asked, looked) {
         Ok(places) => places,

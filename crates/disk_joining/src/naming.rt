@@ -1,7 +1,7 @@
 //! Whether names of new disks are taken, and the numbers of failure groups.
 ghost use Rattle.std.specs.Prelude.{◌≡◌, ◌++◌, [], IfErr, IfOk, None, OnOk};
 ghost use Rattle.std.specs.List.{filter_map};
-ghost use Rattle.asm_base.specs.Refusals.{said};
+ghost use Rattle.asm_base.specs.Refusals.{meaning_of};
 ghost use Rattle.new_groups.specs.Causes.{IsThisRefusal};
 ghost use Rattle.disk_joining.specs.AddCauses.{names_refusal};
 ghost use Rattle.disk_joining.specs.Asking.{row_of, group_rows};
@@ -69,7 +69,7 @@ fn group_rows(alloc: Global, m: &Mounted) -> Result<Vec<DiskRow>, NoMemory>
 /// Whether names, paths and failure groups don't clash.
 fn check_clash(rows: &[DiskRow], disks: &[PlannedDisk]) -> Result<(), Refusal>
     ensures none { OnOk result (names_refusal rows.now disks.now ≡ None) }
-    ensures refused { IfErr result (λ refusal. IsThisRefusal (names_refusal rows.now disks.now) (said (λ _. []) refusal)) }
+    ensures refused { IfErr result (λ refusal. IsThisRefusal (names_refusal rows.now disks.now) (meaning_of (λ _. []) refusal)) }
 {
     if is_name_taken(rows, disks) {
         Err(Refusal::NameTaken)
@@ -82,7 +82,7 @@ fn check_clash(rows: &[DiskRow], disks: &[PlannedDisk]) -> Result<(), Refusal>
 /// NameTaken.
 pub fn check_names(alloc: Global, m: &Mounted, disks: &[PlannedDisk]) -> Result<(), Refusal>
     ensures none { OnOk result (names_refusal (group_rows m.now) disks.now ≡ None) }
-    ensures refused { IfErr result (λ refusal. IsThisRefusal (names_refusal (group_rows m.now) disks.now) (said (λ _. []) refusal)) }
+    ensures refused { IfErr result (λ refusal. IsThisRefusal (names_refusal (group_rows m.now) disks.now) (meaning_of (λ _. []) refusal)) }
 {
     match group_rows(alloc, m) {
         Ok(rows) => check_clash(&rows, disks),

@@ -3,7 +3,7 @@ ghost use Rattle.std.specs.Prelude.{◌≡◌, OnOk};
 ghost use Rattle.asm_formats.specs.Status.{entry_of};
 ghost use Rattle.file_extents.specs.group_engine.Mounts.{Takes};
 ghost use Rattle.file_extents.specs.group_engine.Pending.{GoesOn};
-ghost use Rattle.status_register.specs.Holders.{numbered};
+ghost use Rattle.status_register.specs.Holders.{with_next_number};
 
 use asm_base::Refusal;
 use bay::Bay;
@@ -42,7 +42,7 @@ pub fn write_next<B: Bay>(
     requires takes { Takes m.old (B.state bay.old) }
     ensures goes { GoesOn m.old result m.new (B.state bay.old) (B.state bay.new) }
     ensures tables { m.new.catalog.tables ≡ m.old.catalog.tables }
-    ensures recorded { OnOk result (m.new.register.value ≡ numbered m.old.register next.now) }
+    ensures recorded { OnOk result (m.new.register.value ≡ with_next_number m.old.register next.now) }
 {
     if !m.may_get(next) {
         return Err(Refusal::NoMemory);

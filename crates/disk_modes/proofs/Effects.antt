@@ -13,7 +13,7 @@ use Rattle.group_reports.specs.catalog_tables.Tables.{Catalogued, Tables}
 use Rattle.group_reports.proofs.catalog_tables.AfterLaws.{one_after}
 use Rattle.record_laws.specs.group_engine.Commits.{KeepsRecord}
 use Rattle.record_laws.specs.group_engine.Mounts.{MountedGroup}
-use Rattle.record_laws.specs.status_register.Holders.{numbered}
+use Rattle.record_laws.specs.status_register.Holders.{with_next_number}
 use Rattle.disk_modes.specs.declared.changing.Changes.{Changes}
 use Rattle.disk_modes.specs.declared.changing.Changes.TheVariants as changes
 use Rattle.disk_modes.specs.declared.records.NewModes.{NewModes}
@@ -27,7 +27,7 @@ on_ok P Q (Err e) f is = tt
 -- ---- one change
 
 -- the record was written under the next number
-pub puts_modes : (to : NewModes) (old new : MountedGroup) (next : Status) → new.catalog.tables ≡ old.catalog.tables → new.register.value ≡ numbered old.register next
+pub puts_modes : (to : NewModes) (old new : MountedGroup) (next : Status) → new.catalog.tables ≡ old.catalog.tables → new.register.value ≡ with_next_number old.register next
     → IsUnder to old.register.value next → PutsModes to old new
 puts_modes to old new next tables written under = record {
   tables = tables;
@@ -39,10 +39,10 @@ pub puts_rebalance : (power : Option ℕ) (old new : MountedGroup) (put : List r
     → IsAfter old.catalog.tables put gone (with_rebalance_power old.catalog.tables power) → KeepsRecord old.register.value new.register.value → PutsRebalance power old new
 puts_rebalance power old new put gone applied planned kept = record { tables = one_after old.catalog.tables new.catalog.tables (with_rebalance_power old.catalog.tables power) put gone applied planned; kept = kept }
 
-pub modes_put : (to : NewModes) (old new : MountedGroup) (next : Status) (r : Result (Unit {0}) Refusal) → new.catalog.tables ≡ old.catalog.tables → OnOk r (new.register.value ≡ numbered old.register next)
+pub modes_put : (to : NewModes) (old new : MountedGroup) (next : Status) (r : Result (Unit {0}) Refusal) → new.catalog.tables ≡ old.catalog.tables → OnOk r (new.register.value ≡ with_next_number old.register next)
     → IsUnder to old.register.value next → OnOk r (PutsModes to old new)
 modes_put to old new next r tables written under =
-    on_ok (new.register.value ≡ numbered old.register next) (PutsModes to old new) r (λ is. puts_modes to old new next tables is under) written
+    on_ok (new.register.value ≡ with_next_number old.register next) (PutsModes to old new) r (λ is. puts_modes to old new next tables is under) written
 
 pub rebalance_put : (power : Option ℕ) (old new : MountedGroup) (c : Catalogued) (put : List records.DirectoryRecord) (gone : List Key) (r : Result (Unit {0}) Refusal) → c ≡ old.catalog
     → IsPlan c put gone (with_rebalance_power c.tables power) → OnOk r (IsAfter old.catalog.tables put gone new.catalog.tables) → KeepsRecord old.register.value new.register.value

@@ -8,7 +8,7 @@ use Rattle.asm_group.specs.Shape.{Shape}
 use Rattle.asm_formats.specs.Regions.{most_units}
 use Rattle.asm_formats.specs.Sets.{has_bit, most_disks}
 use Rattle.asm_formats.specs.Status.{Entry, Status, is_entry, is_status}
-use Rattle.record_laws.specs.status_register.Holders.{numbered}
+use Rattle.record_laws.specs.status_register.Holders.{with_next_number}
 use Rattle.status_table.specs.Changes.{entry_with_units}
 use Rattle.record_laws.specs.group_engine.declared.attached.Attached.{Attached}
 use Rattle.record_laws.specs.group_engine.Mounts.{MountedGroup}
@@ -16,7 +16,7 @@ use Rattle.record_laws.specs.group_engine.Own.{IsSameGroup}
 use Rattle.record_laws.proofs.group_engine.Records.{record_parts}
 use Rattle.disk_modes.specs.declared.sizes.Asked.{Asked}
 use Rattle.disk_modes.specs.Effects.{PutsRebalance}
-use Rattle.disk_modes.specs.Sizes.{HasAsked, PutsUnits, ResizesDisks, capped, entry_capped, entry_resized, is_other, status_resized, units_asked}
+use Rattle.disk_modes.specs.Sizes.{HasAsked, PutsUnits, ResizesDisks, capped_units, entry_capped, entry_resized, is_other, status_resized, units_asked}
 use Rattle.disk_modes.proofs.Effects.{on_ok}
 use Rattle.disk_modes.proofs.Naming.{each_entry}
 
@@ -52,7 +52,7 @@ same_side n i differ = ⊎_elim (λ lt. lt-ltb n i lt ∙ sym (lt-ltb n (i + 1) 
 capped_number : (s : Shape) (disks : List (Option Attached)) (asked : Asked) (e : Entry) → (entry_capped s disks asked e).number ≡ e.number
 capped_number s disks asked e = go (has_bit asked.disks e.number)
   where
-    go : (b : Bool) → (cond b (record e { units = capped (units_asked s disks asked.size e.number) }) e).number ≡ e.number
+    go : (b : Bool) → (cond b (record e { units = capped_units (units_asked s disks asked.size e.number) }) e).number ≡ e.number
     go true = refl
     go false = refl
 
@@ -65,19 +65,19 @@ below_number m asked i e = go (nat_lt e.number i)
 
 -- the disk of the number is asked for
 one_asked : (m : MountedGroup) (asked : Asked) (i : ℕ) (e : Entry) → has_bit asked.disks i ≡ true
-    → entry_with_units i (capped (units_asked m.catalog.shape m.disks asked.size i)) (below m asked i e) ≡ below m asked (i + 1) e
+    → entry_with_units i (capped_units (units_asked m.catalog.shape m.disks asked.size i)) (below m asked i e) ≡ below m asked (i + 1) e
 one_asked m asked i e has = ⊎_elim
     (λ (same : e.number ≡ i).
     let now : below m asked i e ≡ e = ap (λ (b : Bool). cond b (entry_capped m.catalog.shape m.disks asked e) e) (le-ltb e.number i (omega (arith, same))) in
     let then : below m asked (i + 1) e ≡ entry_capped m.catalog.shape m.disks asked e = ap (λ (b : Bool). cond b (entry_capped m.catalog.shape m.disks asked e) e) (lt-ltb e.number (i + 1) (omega (arith, same))) in
-    let given : entry_capped m.catalog.shape m.disks asked e ≡ record e { units = capped (units_asked m.catalog.shape m.disks asked.size e.number) } =
-    ap (λ (b : Bool). cond b (record e { units = capped (units_asked m.catalog.shape m.disks asked.size e.number) }) e) (ap (has_bit asked.disks) same ∙ has) in
-    ap (entry_with_units i (capped (units_asked m.catalog.shape m.disks asked.size i))) now
-    ∙ ap (λ (b : Bool). cond b (record e { units = capped (units_asked m.catalog.shape m.disks asked.size i) }) e) (eq-eqb e.number i same)
-    ∙ ap (λ (n : ℕ). record e { units = capped (units_asked m.catalog.shape m.disks asked.size n) }) (sym same) ∙ sym given ∙ sym then)
+    let given : entry_capped m.catalog.shape m.disks asked e ≡ record e { units = capped_units (units_asked m.catalog.shape m.disks asked.size e.number) } =
+    ap (λ (b : Bool). cond b (record e { units = capped_units (units_asked m.catalog.shape m.disks asked.size e.number) }) e) (ap (has_bit asked.disks) same ∙ has) in
+    ap (entry_with_units i (capped_units (units_asked m.catalog.shape m.disks asked.size i))) now
+    ∙ ap (λ (b : Bool). cond b (record e { units = capped_units (units_asked m.catalog.shape m.disks asked.size i) }) e) (eq-eqb e.number i same)
+    ∙ ap (λ (n : ℕ). record e { units = capped_units (units_asked m.catalog.shape m.disks asked.size n) }) (sym same) ∙ sym given ∙ sym then)
     (λ differ.
     let other : (below m asked i e).number ≢ i = λ same. differ (sym (below_number m asked i e) ∙ same) in
-    ap (λ (b : Bool). cond b (record (below m asked i e) { units = capped (units_asked m.catalog.shape m.disks asked.size i) }) (below m asked i e)) (ne_eqb (below m asked i e).number i other)
+    ap (λ (b : Bool). cond b (record (below m asked i e) { units = capped_units (units_asked m.catalog.shape m.disks asked.size i) }) (below m asked i e)) (ne_eqb (below m asked i e).number i other)
     ∙ ap (λ (b : Bool). cond b (entry_capped m.catalog.shape m.disks asked e) e) (same_side e.number i differ))
     (cases_eq e.number i)
 
@@ -85,7 +85,7 @@ one_not_asked : (m : MountedGroup) (asked : Asked) (i : ℕ) (e : Entry) → has
 one_not_asked m asked i e not_in = ⊎_elim
     (λ (same : e.number ≡ i).
     let given : entry_capped m.catalog.shape m.disks asked e ≡ e =
-    ap (λ (b : Bool). cond b (record e { units = capped (units_asked m.catalog.shape m.disks asked.size e.number) }) e) (ap (has_bit asked.disks) same ∙ not_in) in
+    ap (λ (b : Bool). cond b (record e { units = capped_units (units_asked m.catalog.shape m.disks asked.size e.number) }) e) (ap (has_bit asked.disks) same ∙ not_in) in
     ap (λ (b : Bool). cond b (entry_capped m.catalog.shape m.disks asked e) e) (le-ltb e.number i (omega (arith, same))) ∙ sym given
     ∙ sym (ap (λ (b : Bool). cond b (entry_capped m.catalog.shape m.disks asked e) e) (lt-ltb e.number (i + 1) (omega (arith, same)))))
     (λ differ. ap (λ (b : Bool). cond b (entry_capped m.catalog.shape m.disks asked e) e) (same_side e.number i differ))
@@ -95,11 +95,11 @@ pub one_below : (m : MountedGroup) (asked : Asked) (r s t : Status) (i : ℕ) �
 one_below m asked r s t i so_far is = is ∙ ap (status_resized m asked i) so_far ∙ go (has_bit asked.disks i) refl
   where
     go : (b : Bool) → has_bit asked.disks i ≡ b
-        → cond b (record r { entries = map (entry_with_units i (capped (units_asked m.catalog.shape m.disks asked.size i))) (map (below m asked i) r.entries) }) (record r { entries = map (below m asked i) r.entries })
+        → cond b (record r { entries = map (entry_with_units i (capped_units (units_asked m.catalog.shape m.disks asked.size i))) (map (below m asked i) r.entries) }) (record r { entries = map (below m asked i) r.entries })
         ≡ record r { entries = map (below m asked (i + 1)) r.entries }
     go true has = ap (λ (es : List Entry). record r { entries = es })
-        (map_map (entry_with_units i (capped (units_asked m.catalog.shape m.disks asked.size i))) (below m asked i) r.entries
-        ∙ same_map (λ (e : Entry). entry_with_units i (capped (units_asked m.catalog.shape m.disks asked.size i)) (below m asked i e)) (below m asked (i + 1)) (λ e. one_asked m asked i e has) r.entries)
+        (map_map (entry_with_units i (capped_units (units_asked m.catalog.shape m.disks asked.size i))) (below m asked i) r.entries
+        ∙ same_map (λ (e : Entry). entry_with_units i (capped_units (units_asked m.catalog.shape m.disks asked.size i)) (below m asked i e)) (below m asked (i + 1)) (λ e. one_asked m asked i e has) r.entries)
     go false has = ap (λ (es : List Entry). record r { entries = es }) (same_map (below m asked i) (below m asked (i + 1)) (λ e. one_not_asked m asked i e has) r.entries)
 
 pub all_below : (m : MountedGroup) (asked : Asked) (r s : Status) (i : ℕ) → IsTrue (is_status r) → 64 ≤ i → IsBelow m asked r i s
@@ -118,7 +118,7 @@ few_units e ok =
     let c = and_parts (nat_lt e.failgroup 256) _ b.1 in
     leb-true e.units most_units (and_parts (nat_le e.units most_units) _ c.1).0
 
-uncapped : (units : ℕ) → min units (2 ^ 32 - 1) ≤ most_units → capped units ≡ units
+uncapped : (units : ℕ) → min units (2 ^ 32 - 1) ≤ most_units → capped_units units ≡ units
 uncapped units le = omega (arith, le)
 
 pub all_uncapped : (s : Shape) (disks : List (Option Attached)) (asked : Asked) (es : List Entry) → list_all is_entry (map (entry_capped s disks asked) es) ≡ true
@@ -129,9 +129,9 @@ all_uncapped s disks asked (e ∷ es) ok =
     let rest : map (entry_capped s disks asked) es ≡ map (entry_resized s disks asked) es = all_uncapped s disks asked es p.1 in
     λ i. go (has_bit asked.disks e.number) p.0 i ∷ rest i
   where
-    go : (b : Bool) → is_entry (cond b (record e { units = capped (units_asked s disks asked.size e.number) }) e) ≡ true
-        → cond b (record e { units = capped (units_asked s disks asked.size e.number) }) e ≡ cond b (record e { units = units_asked s disks asked.size e.number }) e
-    go true good = ap (λ (n : ℕ). record e { units = n }) (uncapped (units_asked s disks asked.size e.number) (few_units (record e { units = capped (units_asked s disks asked.size e.number) }) good))
+    go : (b : Bool) → is_entry (cond b (record e { units = capped_units (units_asked s disks asked.size e.number) }) e) ≡ true
+        → cond b (record e { units = capped_units (units_asked s disks asked.size e.number) }) e ≡ cond b (record e { units = units_asked s disks asked.size e.number }) e
+    go true good = ap (λ (n : ℕ). record e { units = n }) (uncapped (units_asked s disks asked.size e.number) (few_units (record e { units = capped_units (units_asked s disks asked.size e.number) }) good))
     go false good = refl
 
 -- ---- no disk is to have other units
@@ -160,11 +160,11 @@ of_status asked m r next held made = made ∙ ap (λ (s : Status). record s { en
 
 -- ---- both changes
 
-pub units_put : (asked : Asked) (old new : MountedGroup) (next : Status) (r : Result (Unit {0}) Refusal) → new.catalog.tables ≡ old.catalog.tables → OnOk r (new.register.value ≡ numbered old.register next)
+pub units_put : (asked : Asked) (old new : MountedGroup) (next : Status) (r : Result (Unit {0}) Refusal) → new.catalog.tables ≡ old.catalog.tables → OnOk r (new.register.value ≡ with_next_number old.register next)
     → IsTrue (is_status next) → next ≡ record old.register.value { entries = map (entry_capped old.catalog.shape old.disks asked) old.register.value.entries } → OnOk r (PutsUnits asked old new)
-units_put asked old new next r tables written allowed made = on_ok (new.register.value ≡ numbered old.register next) (PutsUnits asked old new) r put written
+units_put asked old new next r tables written allowed made = on_ok (new.register.value ≡ with_next_number old.register next) (PutsUnits asked old new) r put written
   where
-    put : new.register.value ≡ numbered old.register next → PutsUnits asked old new
+    put : new.register.value ≡ with_next_number old.register next → PutsUnits asked old new
     put is = record {
       tables = tables;
       entries = ap (λ (s : Status). s.entries) is ∙ ap (λ (s : Status). s.entries) made

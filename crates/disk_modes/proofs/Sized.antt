@@ -29,7 +29,7 @@ use Rattle.record_laws.proofs.Partners.{table_stays}
 use Rattle.disk_modes.specs.declared.sizes.Asked.{Asked}
 use Rattle.disk_modes.specs.Causes.{AreLargeEnough, IsLargeEnough, asked_of, disk_image_units}
 use Rattle.disk_modes.specs.Ends.{IsUsedTo}
-use Rattle.disk_modes.specs.Sizes.{HasAsked, capped, entry_capped, image_units, most, units_asked, whole_units_in, units_of_size}
+use Rattle.disk_modes.specs.Sizes.{HasAsked, capped_units, entry_capped, image_units, most, units_asked, whole_units_in, units_of_size}
 use Rattle.disk_modes.specs.Stops.{FitImages}
 use Rattle.disk_modes.proofs.Ends.{needs_same}
 use Rattle.disk_modes.proofs.Naming.{small}
@@ -43,7 +43,7 @@ units_fit s size = go (s.au == 0) (size / s.au)
     go true q = omega arith
     go false q = omega arith
 
-capped_less : (n : ℕ) → capped n ≤ n
+capped_less : (n : ℕ) → capped_units n ≤ n
 capped_less n = omega arith
 
 module _ (m : MountedGroup) (asked : Asked) (fit : FitImages asked m) where
@@ -57,28 +57,28 @@ module _ (m : MountedGroup) (asked : Asked) (fit : FitImages asked m) where
   room_of (Some a) e units at le = inr (record { image = a; attached = at; units = omega (arith, le, units_fit m.catalog.shape a.size) })
 
   asked_room : (e : Entry) → e.number < 64 → has_bit asked.disks e.number ≡ true
-      → (capped (units_asked m.catalog.shape m.disks asked.size e.number) ≤ e.units)
-      ⊎ IsAttachedWith m (record e { units = capped (units_asked m.catalog.shape m.disks asked.size e.number) })
+      → (capped_units (units_asked m.catalog.shape m.disks asked.size e.number) ≤ e.units)
+      ⊎ IsAttachedWith m (record e { units = capped_units (units_asked m.catalog.shape m.disks asked.size e.number) })
   asked_room e lt has =
       let o = get_or m.disks e.number None in
       let inside : image_units m.catalog.shape m.disks e.number ≡ units_of_size m.catalog.shape (option_map (λ (a : Attached). a.size) o) =
       ap (λ (b : Bool). cond b (units_of_size m.catalog.shape (option_map (λ (a : Attached). a.size) o)) 0) (lt-ltb e.number 64 lt) in
-      room_of o e (capped (units_asked m.catalog.shape m.disks asked.size e.number)) refl
+      room_of o e (capped_units (units_asked m.catalog.shape m.disks asked.size e.number)) refl
       (omega (arith, capped_less (units_asked m.catalog.shape m.disks asked.size e.number), fit e.number lt has, inside))
 
   keeps_entry : (e f : Entry) → f ≡ change e → e.number < 64 → entry_of m.register.value.entries e.number ≡ Some e → KeepsEntry m f
   keeps_entry e f is lt there = subst (λ (x : Entry). KeepsEntry m x) (sym is) (go (has_bit asked.disks e.number) (asked_room e lt))
     where
-      go : (b : Bool) → (b ≡ true → (capped (units_asked m.catalog.shape m.disks asked.size e.number) ≤ e.units)
-          ⊎ IsAttachedWith m (record e { units = capped (units_asked m.catalog.shape m.disks asked.size e.number) }))
-          → KeepsEntry m (cond b (record e { units = capped (units_asked m.catalog.shape m.disks asked.size e.number) }) e)
+      go : (b : Bool) → (b ≡ true → (capped_units (units_asked m.catalog.shape m.disks asked.size e.number) ≤ e.units)
+          ⊎ IsAttachedWith m (record e { units = capped_units (units_asked m.catalog.shape m.disks asked.size e.number) }))
+          → KeepsEntry m (cond b (record e { units = capped_units (units_asked m.catalog.shape m.disks asked.size e.number) }) e)
       go true room = record { was = e; there = there; birth = refl; quorum = refl; forced = λ forced. forced; room = room refl }
       go false room = record { was = e; there = there; birth = refl; quorum = refl; forced = λ forced. forced; room = inl (omega arith) }
 
   keeps_place : (e : Entry) → KeepsPlace e (change e)
   keeps_place e = go (has_bit asked.disks e.number)
     where
-      go : (b : Bool) → KeepsPlace e (cond b (record e { units = capped (units_asked m.catalog.shape m.disks asked.size e.number) }) e)
+      go : (b : Bool) → KeepsPlace e (cond b (record e { units = capped_units (units_asked m.catalog.shape m.disks asked.size e.number) }) e)
       go true = record { number = refl; failgroup = refl; quorum = refl; partners = refl; stays = refl }
       go false = record { number = refl; failgroup = refl; quorum = refl; partners = refl; stays = refl }
 

@@ -102,8 +102,8 @@ abbrev pub has_dropping : List Entry → Bool
 has_dropping es = list_any (λ (e : Entry). is_dropping e.mode) es
 
 -- each disk that is being dropped is Online
-abbrev pub undropped : List Entry → List Entry
-undropped es = if has_dropping es then entries_after modes.Undropped es else es
+abbrev pub without_drops : List Entry → List Entry
+without_drops es = if has_dropping es then entries_after modes.Undropped es else es
 
 -- the modes stay where no disk is being dropped
 abbrev pub undropping : List Entry → Changes
@@ -112,7 +112,7 @@ undropping es = if has_dropping es then changes.RebalanceThenModes 1 else change
 -- No disk is being dropped, and a rebalance is active.
 pub record Undrops (old new : MountedGroup) : Type 0 where
   pub tables : new.catalog.tables ≡ with_rebalance_power old.catalog.tables (Some 1)
-  pub entries : new.register.value.entries ≡ undropped old.register.value.entries
+  pub entries : new.register.value.entries ≡ without_drops old.register.value.entries
   pub copies : IsSubset new.register.value.directories old.register.value.directories
 
 -- ---- expiry

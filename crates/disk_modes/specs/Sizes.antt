@@ -46,11 +46,11 @@ pub record ResizesDisks (disks : ℕ) (size : Option ℕ) (power : ℕ) (old new
 -- ---- the record with the units
 
 -- as many as a number of 32 bits may say
-abbrev pub capped : ℕ → ℕ
-capped units = min units (2 ^ 32 - 1)
+abbrev pub capped_units : ℕ → ℕ
+capped_units units = min units (2 ^ 32 - 1)
 
 abbrev pub entry_capped : Shape → List (Option Attached) → Asked → Entry → Entry
-entry_capped s disks asked e = if has_bit asked.disks e.number then record e { units = capped (units_asked s disks asked.size e.number) } else e
+entry_capped s disks asked e = if has_bit asked.disks e.number then record e { units = capped_units (units_asked s disks asked.size e.number) } else e
 
 -- the record is the one that holds, where the disks have their units
 abbrev pub HasAsked : Asked → MountedGroup → Status → Type 0
@@ -58,7 +58,7 @@ HasAsked asked m next = next ≡ record m.register.value { entries = map (entry_
 
 -- one disk is given its units
 abbrev pub status_resized : MountedGroup → Asked → ℕ → Status → Status
-status_resized m asked d r = if has_bit asked.disks d then status_with_units r d (capped (units_asked m.catalog.shape m.disks asked.size d)) else r
+status_resized m asked d r = if has_bit asked.disks d then status_with_units r d (capped_units (units_asked m.catalog.shape m.disks asked.size d)) else r
 
 -- the disk is to have other units than it has
 abbrev pub is_other : Shape → List (Option Attached) → Asked → Entry → Bool

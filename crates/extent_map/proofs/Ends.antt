@@ -10,7 +10,7 @@ use Rattle.asm_formats.specs.Items.{Homes}
 use Rattle.asm_base.specs.Records.{Ascend}
 use Rattle.asm_base.specs.Tables.{IsItemTable}
 use Rattle.asm_base.proofs.Exact.{some_is, test_some}
-use Rattle.extent_map.specs.Extents.{Chunked, IsExtentTable, chunk_at, has_no_gap, is_behind, is_blank, is_full, item_of_chunk, opened, stand_first, stands_at}
+use Rattle.extent_map.specs.Extents.{Chunked, IsExtentTable, chunk_at, has_no_gap, is_behind, is_blank, is_full, item_of_chunk, full_chunk, stand_first, stands_at}
 use Rattle.asm_base.specs.Chunks.{Chunk, chunk_cmp, is_chunk_before}
 use Rattle.extent_map.proofs.Laws.{chunk_total, same_chunk}
 use Rattle.extent_map.proofs.Numbering.{Full, Stands, all_stand, comes_after, found, found_or, found_self, full_before, is_same, tail_up}
@@ -103,13 +103,13 @@ stands_here past x t rule up = both_hold (stand_first false x.1) (is_blank x.1 |
   r = rule x.0 x.1 (at_head x t)
 
 -- a full chunk of the table is the first one or stands behind it
-full_on : (x : Chunked) (t : List Chunked) (k : Chunk) → Full (x ∷ t) k → (opened x ≡ Some k) ⊎ Full t k
+full_on : (x : Chunked) (t : List Chunked) (k : Chunk) → Full (x ∷ t) k → (full_chunk x ≡ Some k) ⊎ Full t k
 full_on x t k full = elim (found_or k x t full.0 full.1) [
   | inl here ↦ inl (rw (ap is_full here.1 ∙ full.2) (ap (λ (j : Chunk). Some j) (sym here.0)))
   | inr behind ↦ inr (full.0, behind.1, full.2)
 ]
 
-rule_on : (past : Option Chunk) (x : Chunked) (t : List Chunked) → Rule past (x ∷ t) → Ascend is_chunk_before (x ∷ t) → IsPast past (x ∷ t) → Rule (opened x) t
+rule_on : (past : Option Chunk) (x : Chunked) (t : List Chunked) → Rule past (x ∷ t) → Ascend is_chunk_before (x ∷ t) → IsPast past (x ∷ t) → Rule (full_chunk x) t
 rule_on past x t rule up is k homes e = record { stands = r.stands; place = place r.place } where
   after : chunk_cmp x.0 k ≡ Less
   after = comes_after x t k homes up e
@@ -120,18 +120,18 @@ rule_on past x t rule up is k homes e = record { stands = r.stands; place = plac
   r : IsRight past (x ∷ t) k homes
   r = rule k homes (rw other e)
 
-  place : Place past (x ∷ t) k homes → Place (opened x) t k homes
+  place : Place past (x ∷ t) k homes → Place (full_chunk x) t k homes
   place (inl blank) = inl blank
   place (inr (inl none)) = inr (inl none)
   place (inr (inr (c, next, inl before))) = absurd (between (k.0, c) x.0 k refl next (is (k.0, c) x.0 x.1 before (at_head x t)) after)
   place (inr (inr (c, next, inr full))) = inr (inr (c, next, full_on x t (k.0, c) full))
 
-past_on : (x : Chunked) (t : List Chunked) → Ascend is_chunk_before (x ∷ t) → IsPast (opened x) t
+past_on : (x : Chunked) (t : List Chunked) → Ascend is_chunk_before (x ∷ t) → IsPast (full_chunk x) t
 past_on x t up j k homes e at = let o = test_some (is_full x.1) x.0 j e in subst (λ (i : Chunk). chunk_cmp i k ≡ Less) o.1 (comes_after x t k homes up at)
 
 no_gap : (t : List Chunked) (past : Option Chunk) → Rule past t → Ascend is_chunk_before t → IsPast past t → has_no_gap past t ≡ true
 no_gap [] past rule up is = refl
-no_gap (x ∷ t) past rule up is = rw (stands_here past x t rule up) (no_gap t (opened x) (rule_on past x t rule up is) (tail_up x t up) (past_on x t up))
+no_gap (x ∷ t) past rule up is = rw (stands_here past x t rule up) (no_gap t (full_chunk x) (rule_on past x t rule up is) (tail_up x t up) (past_on x t up))
 
 pub rule_of : (t : List Chunked) → IsExtentTable t → Rule None t
 rule_of t fits k homes e = record { stands = all_stand t None k homes fits.1 e; place = by (is_blank homes) refl k.1 refl } where

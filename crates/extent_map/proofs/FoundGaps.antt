@@ -4,7 +4,7 @@ use Rattle.std.proofs.lemmas.Option.{none-some}
 use Rattle.asm_base.specs.Records.{DirectoryRecord, read_from}
 use Rattle.asm_base.proofs.Exact.{some_is}
 use Rattle.asm_base.proofs.ItemTables.{items_again, items_found}
-use Rattle.extent_map.specs.Extents.{Chunked, add_chunk_record, has_no_gap, is_chunk, opened, stands_at}
+use Rattle.extent_map.specs.Extents.{Chunked, add_chunk_record, has_no_gap, is_chunk, full_chunk, stands_at}
 use Rattle.asm_base.specs.Chunks.{Chunk, is_chunk_before}
 use Rattle.extent_map.specs.Faults.{HasGap, IsWithoutGap, gap_from}
 use Rattle.extent_map.proofs.Laws.{chunk_entries}
@@ -16,8 +16,8 @@ gap_is records read t at e some gap =
 
 none_gap : (past : Option Chunk) (t : List Chunked) → gap_from past t ≡ None → has_no_gap past t ≡ true
 none_gap past [] e = refl
-none_gap past (x ∷ t) e = by (stands_at past x) refl (none_gap (opened x) t) where
-  by : (b : Bool) → stands_at past x ≡ b → (gap_from (opened x) t ≡ None → has_no_gap (opened x) t ≡ true) → has_no_gap past (x ∷ t) ≡ true
+none_gap past (x ∷ t) e = by (stands_at past x) refl (none_gap (full_chunk x) t) where
+  by : (b : Bool) → stands_at past x ≡ b → (gap_from (full_chunk x) t ≡ None → has_no_gap (full_chunk x) t ≡ true) → has_no_gap past (x ∷ t) ≡ true
   by true is rest = rw is (rest (rw is at e))
   by false is rest = absurd (none-some x.0 (sym (rw is at e)))
 

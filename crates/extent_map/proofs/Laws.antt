@@ -12,19 +12,19 @@ use Rattle.asm_base.specs.Tables.{entry_of_record}
 use Rattle.asm_base.proofs.Exact.{bind_some, test_some}
 use Rattle.asm_base.proofs.ItemTables.{AreEntries, IsEntry, entry_is_read, entry_taken, items_found, items_again}
 use Rattle.item_table.proofs.Entries.{IsKnown, entry_laws}
-use Rattle.extent_map.specs.Extents.{absent_homes, Chunked, IsNumbered, IsExtentTable, add_chunk_record, chunk_key, chunked, has_no_gap, chunk_at, is_chunk, item_of_chunk, record_of_chunk, with_chunk, with_extent, without_gap}
+use Rattle.extent_map.specs.Extents.{absent_homes, Chunked, IsNumbered, IsExtentTable, add_chunk_record, chunk_key, chunk_of_item, has_no_gap, chunk_at, is_chunk, item_of_chunk, record_of_chunk, with_chunk, with_extent, without_gap}
 use Rattle.asm_base.specs.Chunks.{chunk_cmp, is_chunk_before}
 pub use Rattle.asm_base.proofs.Chunks.{chunk_total, same_chunk}
 use Rattle.extent_map.proofs.Values.{chunk_numbered}
 
 -- ---- chunks and their records
 
-each_item : (i : Item) → IsKnown is_chunk item_of_chunk chunked i
+each_item : (i : Item) → IsKnown is_chunk item_of_chunk chunk_of_item i
 each_item (chunk_item f c homes) = inl (((f, c), homes), refl)
 each_item _ = inr (refl, refl)
 
-pub chunk_entries : IsEntry item_of_chunk chunked × AreEntries is_chunk item_of_chunk
-chunk_entries = entry_laws is_chunk item_of_chunk chunked each_item (λ x. refl)
+pub chunk_entries : IsEntry item_of_chunk chunk_of_item × AreEntries is_chunk item_of_chunk
+chunk_entries = entry_laws is_chunk item_of_chunk chunk_of_item each_item (λ x. refl)
 
 -- ---- one record more
 
@@ -40,7 +40,7 @@ mine f c k at =
     rw (eq-eqb k.kind 1 kind, ne_eqb k.b 0 (λ e. omega (arith, next, e))) refl
 
 pub entry_read : (k : Key) (f c : ℕ) → chunk_key f c ≡ k → (v bytes : List ℕ) (read : Option (List Homes)) → bytes ≡ v → option_map (chunk_item f c) read ≡ decoded_item (chunk_key f c) bytes
-    → entry_of_record chunked (k, v) ≡ option_map (λ homes. ((f, c), homes)) read
+    → entry_of_record chunk_of_item (k, v) ≡ option_map (λ homes. ((f, c), homes)) read
 entry_read k f c at v bytes read is e =
     entry_is_read chunk_entries.0 (chunk_item f c) (λ homes. ((f, c), homes)) (λ homes. refl) (k, v) read (e ∙ ap (decoded_item (chunk_key f c)) is ∙ ap (λ (j : Key). decoded_item j v) at)
 

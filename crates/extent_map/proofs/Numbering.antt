@@ -11,7 +11,7 @@ use Rattle.std.proofs.lemmas.Option.{none-some}
 use Rattle.asm_formats.specs.Items.{Homes, is_item}
 use Rattle.asm_base.specs.Records.{Ascend}
 use Rattle.asm_base.proofs.Exact.{some_is, test_some}
-use Rattle.extent_map.specs.Extents.{Chunked, IsExtentTable, chunk_at, has_home, has_no_gap, is_behind, is_blank, is_full, item_of_chunk, opened, stand_first, stands_at}
+use Rattle.extent_map.specs.Extents.{Chunked, IsExtentTable, chunk_at, has_home, has_no_gap, is_behind, is_blank, is_full, item_of_chunk, full_chunk, stand_first, stands_at}
 use Rattle.asm_base.specs.Chunks.{Chunk, chunk_cmp, is_chunk_before}
 use Rattle.extent_map.specs.Laws.{NumbersExtents}
 use Rattle.extent_map.proofs.Laws.{chunk_total, same_chunk}
@@ -110,10 +110,10 @@ Stands homes = stand_first false homes ≡ true
 pub all_stand : (t : List Chunked) (past : Option Chunk) (k : Chunk) (homes : List Homes) → has_no_gap past t ≡ true → chunk_at t k ≡ Some homes → Stands homes
 all_stand [] past k homes s e = absurd cc
 all_stand (x ∷ t) past k homes s e =
-    let g = both_true (stands_at past x) (has_no_gap (opened x) t) s in
+    let g = both_true (stands_at past x) (has_no_gap (full_chunk x) t) s in
     elim (found_or k x t homes e) [
       | inl here ↦ subst Stands here.1 (and_parts (stand_first false x.1) (is_blank x.1 || (eqb x.0.1 0 || is_behind past x.0)) g.0).0
-      | inr behind ↦ all_stand t (opened x) k homes g.1 behind.1
+      | inr behind ↦ all_stand t (full_chunk x) k homes g.1 behind.1
     ]
 
 -- what is found behind a chunk comes after it
@@ -151,12 +151,12 @@ stands_behind past f c homes s filled =
 pub full_before : (t : List Chunked) (past : Option Chunk) (f c : ℕ) (homes : List Homes) → has_no_gap past t ≡ true → Ascend is_chunk_before t → chunk_at t (f, c + 1) ≡ Some homes → is_blank homes ≡ false → (past ≡ Some (f, c)) ⊎ Full t (f, c)
 full_before [] past f c homes s up e filled = absurd cc
 full_before (x ∷ t) past f c homes s up e filled =
-    let g = both_true (stands_at past x) (has_no_gap (opened x) t) s in
+    let g = both_true (stands_at past x) (has_no_gap (full_chunk x) t) s in
     elim (found_or (f, c + 1) x t homes e) [
       | inl here ↦
           let same : ((f, c + 1), homes) ≡ x = ap (λ (k : Chunk). (k, homes)) here.0 ∙ ap (λ (hs : List Homes). (x.0, hs)) (sym here.1) in
           inl (stands_behind past f c homes (ap (stands_at past) same ∙ g.0) filled)
-      | inr behind ↦ elim (full_before t (opened x) f c homes g.1 (tail_up x t up) behind.1 filled) [
+      | inr behind ↦ elim (full_before t (full_chunk x) f c homes g.1 (tail_up x t up) behind.1 filled) [
         | inl open_ ↦
             let o = test_some (is_full x.1) x.0 (f, c) open_ in
             let at : found (f, c) x ≡ true = ap (λ (k : Chunk). is_at (chunk_cmp (f, c)) k) o.1 ∙ found_self f c in

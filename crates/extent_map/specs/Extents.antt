@@ -8,7 +8,6 @@ use Rattle.asm_formats.specs.Items.{Homes, Item, chunk_item, chunk_len, is_homes
 use Rattle.asm_base.specs.Records.{DirectoryRecord}
 use Rattle.asm_base.specs.Chunks.{Chunk, chunk_cmp}
 use Rattle.item_table.specs.Tables.{IsTable as IsKeyTable, add_record as key_add, record_of as key_record}
-
 -- the extents of a chunk, the table with other extents of it or without it, and the chunks from one on, in order
 pub use Rattle.item_table.specs.Chunks.{at_chunk as chunk_at, with_chunk, without_chunk, from_chunk as chunks_from}
 
@@ -100,9 +99,9 @@ abbrev pub is_chunk : Key → Bool
 is_chunk key = (key.kind == files_kind) && not (key.b == 0)
 
 -- the entry that an item is
-abbrev pub chunked : Item → Option Chunked
-chunked (chunk_item f c homes) = Some ((f, c), homes)
-chunked _ = None
+abbrev pub chunk_of_item : Item → Option Chunked
+chunk_of_item (chunk_item f c homes) = Some ((f, c), homes)
+chunk_of_item _ = None
 
 -- the number of a chunk has room in its key
 abbrev pub IsNumbered : Chunked → Type 0
@@ -129,20 +128,20 @@ is_behind (Some before) chunk = (before.0 == chunk.0) && (before.1 + 1 == chunk.
 abbrev pub stands_at : Option Chunk → Chunked → Bool
 stands_at past x = stand_first false x.1 && (is_blank x.1 || (x.0.1 == 0 || is_behind past x.0))
 
-abbrev pub opened : Chunked → Option Chunk
-opened x = if is_full x.1 then Some x.0 else None
+abbrev pub full_chunk : Chunked → Option Chunk
+full_chunk x = if is_full x.1 then Some x.0 else None
 
 -- where this chunk, if any, is the one before and full
 abbrev pub has_no_gap : Option Chunk → List Chunked → Bool
 has_no_gap past [] = true
-has_no_gap past (x ∷ table) = if stands_at past x then has_no_gap (opened x) table else false
+has_no_gap past (x ∷ table) = if stands_at past x then has_no_gap (full_chunk x) table else false
 
 -- a table: chunks in order, each of the formats, without a gap
 abbrev pub IsExtentTable : List Chunked → Type 0
 IsExtentTable table = IsKeyTable chunk_cmp item_of_chunk table × IsTrue (has_no_gap None table)
 
 abbrev pub add_chunk_record : List Chunked → DirectoryRecord → Option (List Chunked)
-add_chunk_record table e = key_add chunk_cmp chunked table e
+add_chunk_record table e = key_add chunk_cmp chunk_of_item table e
 
 -- only a table without a gap
 abbrev pub without_gap : Option (List Chunked) → Option (List Chunked)

@@ -2,13 +2,13 @@
 use Rattle.std.specs.Prelude.{◌≡◌, List, [], ◌∷◌, map, Option, Some, None, if◌then◌else◌, IsTrue}
 use Rattle.asm_base.specs.Records.{DirectoryRecord, of_kinds}
 use Rattle.asm_base.specs.Tables.{IsItemTable}
-use Rattle.extent_map.specs.Extents.{Chunked, has_no_gap, is_chunk, item_of_chunk, opened, record_of_chunk, stands_at}
+use Rattle.extent_map.specs.Extents.{Chunked, has_no_gap, is_chunk, item_of_chunk, full_chunk, record_of_chunk, stands_at}
 use Rattle.asm_base.specs.Chunks.{Chunk, is_chunk_before}
 
 -- the first chunk that doesn't stand behind the ones before it
 abbrev pub gap_from : Option Chunk → List Chunked → Option Chunk
 gap_from past [] = None
-gap_from past (x ∷ table) = if stands_at past x then gap_from (opened x) table else Some x.0
+gap_from past (x ∷ table) = if stands_at past x then gap_from (full_chunk x) table else Some x.0
 
 -- the records are chunks in order, of which this is the first that doesn't stand behind those before it
 pub record HasGap (records : List DirectoryRecord) (at : Chunk) : Type 0 where

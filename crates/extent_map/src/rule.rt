@@ -1,7 +1,7 @@
 //! The rule that the extents of a file are numbered from 0 without a gap.
 
 ghost use Rattle.std.specs.Prelude.{◌≡◌, false};
-ghost use Rattle.extent_map.specs.Extents.{is_behind, is_blank, is_full, opened, stand_first, stands_at};
+ghost use Rattle.extent_map.specs.Extents.{is_behind, is_blank, is_full, full_chunk, stand_first, stands_at};
 
 use crate::chunk::{Chunk, has_home};
 use asm_base::Homes;
@@ -16,7 +16,7 @@ pub fn stands_at(past: Option<(u32, u32)>, at: (u32, u32), chunk: &Chunk) -> boo
 
 /// The chunk, where it is full.
 pub fn opened(at: (u32, u32), chunk: &Chunk) -> Option<(u32, u32)>
-    ensures { result ≡ opened (at, chunk.now) }
+    ensures { result ≡ full_chunk (at, chunk.now) }
 {
     if is_full(chunk.as_slice()) {
         Some(at)

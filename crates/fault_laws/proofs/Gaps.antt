@@ -15,7 +15,7 @@ use Rattle.asm_base.specs.Records.{DirectoryRecord, key_cmp, keys_of, of_kinds}
 use Rattle.asm_base.specs.Tables.{IsItemTable}
 use Rattle.asm_base.proofs.Exact.{some_is, test_some}
 use Rattle.extent_map.specs.Extents as extents
-use Rattle.extent_map.specs.Extents.{Chunked, chunk_at, has_extent, has_no_gap, opened, stands_at}
+use Rattle.extent_map.specs.Extents.{Chunked, chunk_at, has_extent, has_no_gap, full_chunk, stands_at}
 use Rattle.extent_map.proofs.Laws.{chunk_total}
 use Rattle.catalog_tables.specs.Items.{AreItemsIn}
 use Rattle.catalog_tables.proofs.TableItems.{among_found, chunks_exact, found_is}
@@ -58,7 +58,7 @@ module _ (content : List DirectoryRecord) (items : List Item) (sorted : IsStrict
     only j z h e =
         let mine : extents.is_chunk (extents.chunk_key f c) ≡ true = ap not (ne_eqb (c + 1) 0 (λ e. omega (arith, e))) in
         let b = back content items sorted are extents.item_of_chunk extents.is_chunk table same fits.1 (chunk_item f c z) (subst (λ (i : Item). IsAmong items i) (told f c j z e) h) mine in
-        let one : ((f, c), z) ≡ b.0 = some_is ((f, c), z) b.0 (ap extents.chunked b.2) in
+        let one : ((f, c), z) ≡ b.0 = some_is ((f, c), z) b.0 (ap extents.chunk_of_item b.2) in
         among_found chunk_cmp chunk_total chunks_exact table ((f, c), z) fits.0 (subst (λ (x : Chunked). IsAmong table x) (sym one) b.1)
 
   home_is : (f i copy : ℕ) → home_of items f i copy ≡ get_or (get_or (unwrap_or (chunk_at table (f, i / chunk_len)) []) (i % chunk_len) []) copy None

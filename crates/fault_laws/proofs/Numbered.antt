@@ -12,7 +12,7 @@ use Rattle.asm_base.specs.Records.{Ascend}
 use Rattle.asm_base.specs.Tables.{IsItemTable}
 use Rattle.asm_base.specs.Chunks.{Chunk, chunk_cmp, is_chunk_before}
 use Rattle.asm_base.proofs.Exact.{test_some}
-use Rattle.extent_map.specs.Extents.{Chunked, chunk_at, has_extent, has_home, has_no_gap, is_behind, is_blank, is_full, item_of_chunk, opened, stand_first, stands_at}
+use Rattle.extent_map.specs.Extents.{Chunked, chunk_at, has_extent, has_home, has_no_gap, is_behind, is_blank, is_full, item_of_chunk, full_chunk, stand_first, stands_at}
 use Rattle.extent_map.proofs.Laws.{chunk_total}
 use Rattle.extent_map.proofs.Numbering.{size_of, the_chunk}
 use Rattle.catalog_tables.proofs.TableItems.{among_found, below, chunks_exact, found_is, numbers_exact, tail_up}
@@ -125,13 +125,13 @@ module _ (before : Option Chunk) (x : Chunked) (t : List Chunked) (up : Ascend i
     by false e zero at = rw (e, eq-eqb x.0.1 0 at) refl
     by false e (suc c) at = rw (e, place e c at) (or_true (eqb x.0.1 0))
 
-  next : AreBehind (opened x) t
+  next : AreBehind (full_chunk x) t
   next = record { filled = filled; later = later } where
-    later : (k : Chunk) → opened x ≡ Some k → (y : Chunked) → IsAmong t y → chunk_cmp k y.0 ≡ Less
+    later : (k : Chunk) → full_chunk x ≡ Some k → (y : Chunked) → IsAmong t y → chunk_cmp k y.0 ≡ Less
     later k e y h = let o = test_some (is_full x.1) x.0 k e in subst (λ (j : Chunk). chunk_cmp j y.0 ≡ Less) o.1 (behind_first y h)
 
     filled : (y : Chunked) → IsAmong t y → (c : ℕ) → y.0.1 ≡ suc c → is_blank y.1 ≡ false
-        → (opened x ≡ Some (y.0.0, c)) ⊎ ((z : Chunked) × IsAmong t z × (z.0 ≡ (y.0.0, c)) × (is_full z.1 ≡ true))
+        → (full_chunk x ≡ Some (y.0.0, c)) ⊎ ((z : Chunked) × IsAmong t z × (z.0 ≡ (y.0.0, c)) × (is_full z.1 ≡ true))
     filled y h c number blank = elim (b.filled y (inr h) c number blank) [
       | inl at ↦ absurd (none_between y.0.0 c x.0 y.0 refl number (b.later (y.0.0, c) at x (inl refl)) (behind_first y h))
       | inr (z, among, at, full) ↦ elim among [
@@ -146,7 +146,7 @@ none_by : (t : List Chunked) (before : Option Chunk) → Ascend is_chunk_before 
 none_by [] before up b first = refl
 none_by (x ∷ t) before up b first =
     rw (stands before x t up b (first x (inl refl)))
-    (none_by t (opened x) (tail_up chunk_cmp chunk_total chunks_exact x t up) (next before x t up b) (λ y h. first y (inr h)))
+    (none_by t (full_chunk x) (tail_up chunk_cmp chunk_total chunks_exact x t up) (next before x t up b) (λ y h. first y (inr h)))
 
 -- ---- a table whose extents are numbered
 

@@ -8,7 +8,7 @@ use Rattle.std.proofs.lemmas.Slice.Eq.{bytes_eq-Decides}
 use Rattle.bay.specs.Counts.{Rose}
 use Rattle.bay.specs.Hosts.{CountsAt}
 use Rattle.bay.specs.State.{BayState}
-use Rattle.asm_base.specs.Refusals.{said}
+use Rattle.asm_base.specs.Refusals.{meaning_of}
 use Rattle.asm_base.specs.declared.refusal.Refusal.{Refusal}
 use Rattle.asm_base.specs.declared.refusal.Refusal.TheVariants as cause
 use Rattle.asm_group.specs.Causes.{Causes, first_cause}
@@ -97,25 +97,25 @@ abbrev IsNoneSaid : r.Refusal → Type 0
 IsNoneSaid (r.HostFault path) = ⊥
 IsNoneSaid other = Unit {0}
 
-none_said : (names : ℕ → Bytes) (refusal : Refusal) → IsNoHostFault refusal → IsNoneSaid (said names refusal)
-unfolding said
+none_said : (names : ℕ → Bytes) (refusal : Refusal) → IsNoHostFault refusal → IsNoneSaid (meaning_of names refusal)
+unfolding meaning_of
 none_said names (cause.HostFault path) none = none
 none_said names other none = tt
 
-said_none : (names : ℕ → Bytes) (refusal : Refusal) → IsNoneSaid (said names refusal) → IsNoHostFault refusal
-unfolding said
+said_none : (names : ℕ → Bytes) (refusal : Refusal) → IsNoneSaid (meaning_of names refusal) → IsNoHostFault refusal
+unfolding meaning_of
 said_none names (cause.HostFault path) none = none
 said_none names other none = tt
 
-said_fault : (names : ℕ → Bytes) (refusal : Refusal) (path : Bytes) → r.HostFault path ≡ said names refusal → refusal ≡ cause.HostFault path
-unfolding said
+said_fault : (names : ℕ → Bytes) (refusal : Refusal) (path : Bytes) → r.HostFault path ≡ meaning_of names refusal → refusal ≡ cause.HostFault path
+unfolding meaning_of
 said_fault names (cause.HostFault other) path is = cc
 said_fault names other path is = absurd cc
 
 spelt_none : (m : MountedGroup) (raw refusal : Refusal) → IsNoHostFault raw → SpellsRefusal m raw refusal → IsNoHostFault refusal
 spelt_none m raw refusal none spells = said_none (λ _. []) refusal (⊎_elim
-    (λ (same : said (λ _. []) refusal ≡ said (disk_name m) raw). subst IsNoneSaid (sym same) (none_said (disk_name m) raw none))
-    (λ (memory : said (λ _. []) refusal ≡ r.NoMemory). subst IsNoneSaid (sym memory) tt)
+    (λ (same : meaning_of (λ _. []) refusal ≡ meaning_of (disk_name m) raw). subst IsNoneSaid (sym same) (none_said (disk_name m) raw none))
+    (λ (memory : meaning_of (λ _. []) refusal ≡ r.NoMemory). subst IsNoneSaid (sym memory) tt)
     spells)
 
 -- ---- those of a group
@@ -159,8 +159,8 @@ checks_none s t (Some name) size file = (tt, (tt, (tt, tt)))
 
 check_none : (c : Catalogued) (path : Path) (size : ℕ) (refusal : Refusal) → IsCheckRefusal c path size refusal → IsNoHostFault refusal
 check_none c path size refusal why = said_none (λ _. []) refusal (⊎_elim
-    (λ (memory : said (λ _. []) refusal ≡ r.NoMemory). subst IsNoneSaid (sym memory) tt)
-    (λ found. first_none (check_causes c.shape c.tables (name_at path) size found.0) (said (λ _. []) refusal) (checks_none c.shape c.tables (name_at path) size found.0) found.2)
+    (λ (memory : meaning_of (λ _. []) refusal ≡ r.NoMemory). subst IsNoneSaid (sym memory) tt)
+    (λ found. first_none (check_causes c.shape c.tables (name_at path) size found.0) (meaning_of (λ _. []) refusal) (checks_none c.shape c.tables (name_at path) size found.0) found.2)
     why)
 
 pub begin_none : (old : MountedGroup) (new : NewFile) (group : MountedGroup) (s t : BayState) (refusal : Refusal) → BeginCause old new group s t refusal → IsNoHostFault refusal
@@ -189,7 +189,7 @@ source_none m path refusal why = ⊎_elim (λ none. open_none m path refusal non
 -- ---- those of the session
 
 pub short_out : (entries : List SessionEntry) (name : Bytes) → IsOutCause entries name cause.NoMemory
-unfolding said
+unfolding meaning_of
 short_out entries name = inr refl
 
 by_state : (state : SessionState) (c : r.Refusal) → in_state state c → IsNoneSaid c
@@ -202,8 +202,8 @@ by_entry (Some entry) c out = by_state entry.state c out
 
 pub out_none : (entries : List SessionEntry) (name : Bytes) (refusal : Refusal) → IsOutCause entries name refusal → IsNoHostFault refusal
 out_none entries name refusal why = said_none (λ _. []) refusal (⊎_elim
-    (λ gone. by_entry (entry_among entries name) (said (λ _. []) refusal) gone)
-    (λ (memory : said (λ _. []) refusal ≡ r.NoMemory). subst IsNoneSaid (sym memory) tt)
+    (λ gone. by_entry (entry_among entries name) (meaning_of (λ _. []) refusal) gone)
+    (λ (memory : meaning_of (λ _. []) refusal ≡ r.NoMemory). subst IsNoneSaid (sym memory) tt)
     why)
 
 pub err_out : {T : Type 0} (entries : List SessionEntry) (name : Bytes) (result : Result T Refusal) → IfErr result (IsOutCause entries name) → IfErr result IsNoHostFault
@@ -217,7 +217,7 @@ by_read other why = tt
 pub read_none : (session : SessionView) (name : Bytes) (refusal : Refusal) → IsFileReadCause session name refusal → IsNoHostFault refusal
 read_none session name refusal why = ⊎_elim
     (λ away. out_none session.entries name refusal away)
-    (λ fails. said_none (λ _. []) refusal (by_read (said (λ _. []) refusal) fails))
+    (λ fails. said_none (λ _. []) refusal (by_read (meaning_of (λ _. []) refusal) fails))
     why
 
 pub target_none : (place : List Bytes) (path : Bytes) (refusal : Refusal) → IsNoTarget place path refusal → IsNoHostFault refusal
@@ -233,9 +233,9 @@ abbrev pub IsOrNone : Refusal → Refusal → Type 0
 IsOrNone given refusal = (refusal ≡ given) ⊎ IsNoHostFault refusal
 
 spelt_same : (given : Refusal) (m : MountedGroup) (raw refusal : Refusal) → IsOrNone given raw → SpellsRefusal m raw refusal → IsOrNone given refusal
-unfolding said
+unfolding meaning_of
 spelt_same given m raw (cause.HostFault path) why spells = ⊎_elim
-    (λ (same : r.HostFault path ≡ said (disk_name m) raw).
+    (λ (same : r.HostFault path ≡ meaning_of (disk_name m) raw).
     let back : raw ≡ cause.HostFault path = said_fault (disk_name m) raw path same in
     ⊎_elim (λ (is : raw ≡ given). inl (sym back ∙ is)) (λ none. absurd (subst IsNoHostFault back none)) why)
     (λ (memory : r.HostFault path ≡ r.NoMemory). absurd cc)

@@ -3,7 +3,7 @@ use Rattle.std.proofs.Common.{◌≡◌, ◌⊎◌, ⊎_elim, inr, ℕ, [], Resu
 use Rattle.std.specs.Prelude.{IfErr, IfOk}
 use Rattle.std.proofs.lemmas.Option.{same_Some}
 use Rattle.bay.specs.State.{BayState}
-use Rattle.asm_base.specs.Refusals.{said}
+use Rattle.asm_base.specs.Refusals.{meaning_of}
 use Rattle.asm_base.specs.declared.refusal.DiskRef.{DiskRef}
 use Rattle.asm_base.specs.declared.refusal.DiskRef.TheVariants.{Number, Spelt}
 use Rattle.asm_base.specs.declared.refusal.Refusal.{Refusal}
@@ -33,8 +33,8 @@ still_on : (m : MountedGroup) (s t : BayState) (by : DiskRef) → IsMounted m �
 still_on m s t (Number d) mounted why = ⊎_elim (λ before. not_mounted m d before mounted) (λ later. not_mounted m d later.0 mounted) why
 still_on m s t (Spelt text) mounted why = why
 
-fails_so : (names : ℕ → Bytes) (m : MountedGroup) (s t : BayState) (file : OpenFile) (e : Refusal) → IsMounted m → ReadCause m s t file e → FailsRead (said names e)
-unfolding said
+fails_so : (names : ℕ → Bytes) (m : MountedGroup) (s t : BayState) (file : OpenFile) (e : Refusal) → IsMounted m → ReadCause m s t file e → FailsRead (meaning_of names e)
+unfolding meaning_of
 fails_so names m s t file (cause.Lost x) mounted why = tt
 fails_so names m s t file (cause.ReadFault by) mounted why = tt
 fails_so names m s t file (cause.Dismounted by) mounted why = absurd (still_on m s t by mounted why)
@@ -43,10 +43,10 @@ fails_so names m s t file _ mounted why = absurd why
 
 -- the same with the disk spelt
 pub fails_spelt : (m : MountedGroup) (s t : BayState) (file : OpenFile) (e spelt : Refusal) → IsMounted m → ReadCause m s t file e
-    → (said (λ _. []) spelt ≡ said (disk_name m) e) ⊎ (said (λ _. []) spelt ≡ r.NoMemory) → FailsRead (said (λ _. []) spelt)
+    → (meaning_of (λ _. []) spelt ≡ meaning_of (disk_name m) e) ⊎ (meaning_of (λ _. []) spelt ≡ r.NoMemory) → FailsRead (meaning_of (λ _. []) spelt)
 fails_spelt m s t file e spelt mounted why is = ⊎_elim
-    (λ (same : said (λ _. []) spelt ≡ said (disk_name m) e). subst FailsRead (sym same) (fails_so (disk_name m) m s t file e mounted why))
-    (λ (memory : said (λ _. []) spelt ≡ r.NoMemory). subst FailsRead (sym memory) tt)
+    (λ (same : meaning_of (λ _. []) spelt ≡ meaning_of (disk_name m) e). subst FailsRead (sym same) (fails_so (disk_name m) m s t file e mounted why))
+    (λ (memory : meaning_of (λ _. []) spelt ≡ r.NoMemory). subst FailsRead (sym memory) tt)
     is
 
 -- ---- a span of a file of the group
@@ -71,9 +71,9 @@ lines_cause session name path at len file refusal there why = ⊎_elim
 -- ---- want of memory
 
 pub short_read : (session : SessionView) (name : Bytes) → IsFileReadCause session name cause.NoMemory
-unfolding said
+unfolding meaning_of
 short_read session name = inr tt
 
 pub short_lines : (session : SessionView) (name : Bytes) (path : Path) (at len : ℕ) → IsLinesCause session name path at len cause.NoMemory
-unfolding said
+unfolding meaning_of
 short_lines session name path at len = out (inr refl)

@@ -5,7 +5,7 @@ use Rattle.std.specs.FinMap as maps
 use Rattle.std.proofs.lemmas.Bool.{false≢true}
 use Rattle.bay.specs.Image.{Image}
 use Rattle.bay.specs.State.{BayState, IsSound}
-use Rattle.asm_base.specs.Refusals.{said}
+use Rattle.asm_base.specs.Refusals.{meaning_of}
 use Rattle.asm_base.specs.declared.refusal.Refusal.{Refusal}
 use Rattle.asm_base.specs.declared.refusal.Refusal.TheVariants as cause
 use Rattle.asm_group.specs.Group.{File, Group}
@@ -70,12 +70,12 @@ found_by : (w : World) (name : Bytes) (entry : SessionEntry) (group : Group) →
 found_by w name entry group at_entry on list = rw (at_entry, on, list) refl
 
 -- what a refusal says
-says_no_group : said (λ _. []) cause.NoGroup ≡ r.NoGroup
-unfolding said
+says_no_group : meaning_of (λ _. []) cause.NoGroup ≡ r.NoGroup
+unfolding meaning_of
 says_no_group = refl
 
-says_no_memory : said (λ _. []) cause.NoMemory ≡ r.NoMemory
-unfolding said
+says_no_memory : meaning_of (λ _. []) cause.NoMemory ≡ r.NoMemory
+unfolding meaning_of
 says_no_memory = refl
 
 module _ (paths : List Bytes) (text path : Bytes) (at size : ℕ) (says : meaning text ≡ Asked (DbRead path at size)) (session : SessionView) (s t : BayState) (sound : IsSound s) (only : ReadsOnly s t)
@@ -148,10 +148,10 @@ module _ (paths : List Bytes) (text path : Bytes) (at size : ℕ) (says : meanin
   pub nowhere : target_from session.place path ≡ None → IsDone (Refused [] r.NoGroup)
   nowhere isnt = let leads = at_place None isnt in refused r.NoGroup refl (rw leads refl)
 
-  pub no_target : (refusal : Refusal) → (refusal ≡ cause.NoMemory) ⊎ ((refusal ≡ cause.NoGroup) × (target_from session.place path ≡ None)) → IsDone (Refused [] (said (λ _. []) refusal))
+  pub no_target : (refusal : Refusal) → (refusal ≡ cause.NoMemory) ⊎ ((refusal ≡ cause.NoGroup) × (target_from session.place path ≡ None)) → IsDone (Refused [] (meaning_of (λ _. []) refusal))
   no_target refusal why = ⊎_elim
-      (λ (memory : refusal ≡ cause.NoMemory). subst (λ (c : r.Refusal). IsDone (Refused [] c)) (sym (ap (λ (x : Refusal). said (λ _. []) x) memory ∙ says_no_memory)) short)
-      (λ (isnt : (refusal ≡ cause.NoGroup) × (target_from session.place path ≡ None)). subst (λ (c : r.Refusal). IsDone (Refused [] c)) (sym (ap (λ (x : Refusal). said (λ _. []) x) isnt.0 ∙ says_no_group)) (nowhere isnt.1))
+      (λ (memory : refusal ≡ cause.NoMemory). subst (λ (c : r.Refusal). IsDone (Refused [] c)) (sym (ap (λ (x : Refusal). meaning_of (λ _. []) x) memory ∙ says_no_memory)) short)
+      (λ (isnt : (refusal ≡ cause.NoGroup) × (target_from session.place path ≡ None)). subst (λ (c : r.Refusal). IsDone (Refused [] c)) (sym (ap (λ (x : Refusal). meaning_of (λ _. []) x) isnt.0 ∙ says_no_group)) (nowhere isnt.1))
       why
 
   -- ---- it leads into one
@@ -181,11 +181,11 @@ module _ (paths : List Bytes) (text path : Bytes) (at size : ℕ) (says : meanin
             (subst (λ (l : List Cause). IsCaused l (r.Dismounted disk)) (sym causes_are)
             (subst (λ (l : List Cause). IsCaused (l ++ group_causes (mounted_group w name) inside_causes) (r.Dismounted disk)) (sym (ap causes_of at_entry ∙ ap state_causes is)) refl)))
 
-    out_refused : (refusal : Refusal) → IsOutCause session.entries name refusal → IsDone (Refused [] (said (λ _. []) refusal))
+    out_refused : (refusal : Refusal) → IsOutCause session.entries name refusal → IsDone (Refused [] (meaning_of (λ _. []) refusal))
     out_refused refusal why = ⊎_elim
-        (λ (away : of_entry (entry_among session.entries name) (said (λ _. []) refusal)).
-        by_entry (entry_in w name) refl (said (λ _. []) refusal) (subst (λ (es : List SessionEntry). of_entry (entry_among es name) (said (λ _. []) refusal)) (sym knows.entries_are) away))
-        (λ (memory : said (λ _. []) refusal ≡ r.NoMemory). subst (λ (x : r.Refusal). IsDone (Refused [] x)) (sym memory) short)
+        (λ (away : of_entry (entry_among session.entries name) (meaning_of (λ _. []) refusal)).
+        by_entry (entry_in w name) refl (meaning_of (λ _. []) refusal) (subst (λ (es : List SessionEntry). of_entry (entry_among es name) (meaning_of (λ _. []) refusal)) (sym knows.entries_are) away))
+        (λ (memory : meaning_of (λ _. []) refusal ≡ r.NoMemory). subst (λ (x : r.Refusal). IsDone (Refused [] x)) (sym memory) short)
         why
 
     -- ---- the group is there
@@ -298,8 +298,8 @@ module _ (paths : List Bytes) (text path : Bytes) (at size : ℕ) (says : meanin
         fails_so : IsSpan m at size file → (c : r.Refusal) → FailsRead c → (c ≡ r.NoMemory → ⊥) → Caused c
         fails_so span c fails other = caused c (spans.failed code.read_fault m shape_holds as_mounted.mounts.whole.are_tables g.name (cells_of g) inside at size file opened has_cells span c (spans.fails_read c fails other))
 
-        spans_so : (refusal : Refusal) → SpanCause m at size file refusal → Answers (said (λ _. []) refusal)
-        unfolding said
+        spans_so : (refusal : Refusal) → SpanCause m at size file refusal → Answers (meaning_of (λ _. []) refusal)
+        unfolding meaning_of
         spans_so cause.NotSectors why = (refl, caused r.NotSectors (spans.not_sectors code.read_fault m shape_holds as_mounted.mounts.whole.are_tables g.name (cells_of g) inside at size file opened why))
         spans_so cause.OutOfFile why = (refl, caused r.OutOfFile (spans.out_of_file code.read_fault m shape_holds as_mounted.mounts.whole.are_tables g.name (cells_of g) inside at size file opened has_cells why.0 why.1))
         spans_so (cause.Lost x) why = (refl, fails_so why.0 (r.Lost x.file x.index) tt (λ other. absurd cc))
@@ -311,21 +311,21 @@ module _ (paths : List Bytes) (text path : Bytes) (at size : ℕ) (says : meanin
         reads_so span r.NoMemory fails = (inl refl, tt)
         reads_so span _ fails = absurd fails
 
-      no_file_so : KeepsRules m.catalog.shape m.catalog.tables → (refusal : Refusal) → OpenCause m inside refusal → Answers (said (λ _. []) refusal)
-      unfolding said
+      no_file_so : KeepsRules m.catalog.shape m.catalog.tables → (refusal : Refusal) → OpenCause m inside refusal → Answers (meaning_of (λ _. []) refusal)
+      unfolding meaning_of
       no_file_so rules cause.NoName why = (refl, caused r.NoName (spans.no_name code.read_fault m shape_holds as_mounted.mounts.whole.are_tables g.name (cells_of g) inside at size rules why))
       no_file_so rules _ why = absurd why
 
-      none_so : (refusal : Refusal) → IsNoSpan m inside at size refusal → Answers (said (λ _. []) refusal)
+      none_so : (refusal : Refusal) → IsNoSpan m inside at size refusal → Answers (meaning_of (λ _. []) refusal)
       none_so refusal why = ⊎_elim (λ (isnt : OpenCause m inside refusal). no_file_so why.0 refusal isnt)
           (λ (isnt : (file : OpenFile) × IsOpened m.catalog.tables inside file × SpanCause m at size file refusal). spans_so isnt.0 isnt.1 refusal isnt.2) why.1
 
     -- ---- all of it
 
-    refused_so : (refusal : Refusal) → IsLinesCause session name inside at size refusal → IsDone (Refused [] (said (λ _. []) refusal))
+    refused_so : (refusal : Refusal) → IsLinesCause session name inside at size refusal → IsDone (Refused [] (meaning_of (λ _. []) refusal))
     refused_so refusal (out why) = out_refused refusal why
-    refused_so refusal (none why) = refused_on (said (λ _. []) refusal) (λ known stands. none_so why.group why.is_group known stands refusal why.caused)
-    refused_so refusal (failed there fails) = refused_on (said (λ _. []) refusal) (λ known stands. reads_so there.group there.is_group known stands there.caused.0 there.caused.1.opened there.caused.1.span (said (λ _. []) refusal) fails)
+    refused_so refusal (none why) = refused_on (meaning_of (λ _. []) refusal) (λ known stands. none_so why.group why.is_group known stands refusal why.caused)
+    refused_so refusal (failed there fails) = refused_on (meaning_of (λ _. []) refusal) (λ known stands. reads_so there.group there.is_group known stands there.caused.0 there.caused.1.opened there.caused.1.span (meaning_of (λ _. []) refusal) fails)
 
     pub read_served : (result : Result (List Bytes) Refusal) → IfOk result (ReadsLines session name inside at size s t) → IfErr result (IsLinesCause session name inside at size) → IsDone (reply_of result)
     read_served (Ok lines) read why = by_disks (Done lines) (λ known stands. did read.found.group read.found.is_group known stands lines read read.found.caused)

@@ -1,7 +1,7 @@
 -- Writes of bytes that are refused before any call.
 use Rattle.std.proofs.Common.{◌≡◌, ⊎_elim, ℕ, List, [], Option, Some, None, refl, sym, ◌∙◌, ap, subst}
 use Rattle.bay.specs.State.{BayState}
-use Rattle.asm_base.specs.Refusals.{said}
+use Rattle.asm_base.specs.Refusals.{meaning_of}
 use Rattle.asm_base.specs.declared.refusal.Refusal.{Refusal}
 use Rattle.asm_group.specs.Names.{Bytes, Path}
 use Rattle.asm_group.specs.Refusal as r
@@ -43,11 +43,11 @@ module _ (paths : List Bytes) (text path : Bytes) (at : ℕ) (bytes : Bytes) (wr
     at_place o is = ap (λ (p : List Bytes). target_from p path) knows.place_is ∙ is
 
     -- the path leads into no group
-    pub no_target : (refusal : Refusal) → IsNoTarget session.place path refusal → IsRefusedSo (said (λ _. []) refusal)
-    unfolding said
+    pub no_target : (refusal : Refusal) → IsNoTarget session.place path refusal → IsRefusedSo (meaning_of (λ _. []) refusal)
+    unfolding meaning_of
     no_target refusal why = ⊎_elim
-        (λ none. short (said (λ _. []) refusal) (ap (said (λ _. [])) none))
-        (λ none. subst (λ (x : Refusal). IsRefusedSo (said (λ _. []) x)) (sym none.0)
+        (λ none. short (meaning_of (λ _. []) refusal) (ap (meaning_of (λ _. [])) none))
+        (λ none. subst (λ (x : Refusal). IsRefusedSo (meaning_of (λ _. []) x)) (sym none.0)
         (still r.NoGroup tt (writes.nowhere (meaning text) path at bytes write (below_with below unread) w (at_place None none.1))))
         why
 
@@ -63,9 +63,9 @@ module _ (paths : List Bytes) (text path : Bytes) (at : ℕ) (bytes : Bytes) (wr
           by_state (DismountedBy disk) is out = subst (λ (x : r.Refusal). IsRefusedSo x) (sym out)
               (still (r.Dismounted disk) tt (writes.out (meaning text) path at bytes write (below_with below unread) w name inside (at_place (Some (name, inside)) leads) entry disk named is))
 
-      pub out_refused : (refusal : Refusal) → IsOutCause session.entries name refusal → IsRefusedSo (said (λ _. []) refusal)
+      pub out_refused : (refusal : Refusal) → IsOutCause session.entries name refusal → IsRefusedSo (meaning_of (λ _. []) refusal)
       out_refused refusal why = ⊎_elim
-          (λ (gone : of_entry (entry_among session.entries name) (said (λ _. []) refusal)).
-          by_entry (entry_in w name) refl (said (λ _. []) refusal) (subst (λ (es : List SessionEntry). of_entry (entry_among es name) (said (λ _. []) refusal)) (sym knows.entries_are) gone))
-          (λ (none : said (λ _. []) refusal ≡ r.NoMemory). short (said (λ _. []) refusal) none)
+          (λ (gone : of_entry (entry_among session.entries name) (meaning_of (λ _. []) refusal)).
+          by_entry (entry_in w name) refl (meaning_of (λ _. []) refusal) (subst (λ (es : List SessionEntry). of_entry (entry_among es name) (meaning_of (λ _. []) refusal)) (sym knows.entries_are) gone))
+          (λ (none : meaning_of (λ _. []) refusal ≡ r.NoMemory). short (meaning_of (λ _. []) refusal) none)
           why

@@ -7,7 +7,7 @@ use Rattle.std.specs.Cmp.Lexicographic.{bytes_decides}
 use Rattle.std.proofs.lemmas.Bool.{false≢true, true≢false}
 use Rattle.std.proofs.lemmas.Option.{none-some}
 use Rattle.bay.specs.State.{BayState, IsSound}
-use Rattle.asm_base.specs.Refusals.{said}
+use Rattle.asm_base.specs.Refusals.{meaning_of}
 use Rattle.asm_base.specs.declared.refusal.DiskRef.TheVariants as disk
 use Rattle.asm_base.specs.declared.refusal.Refusal.{Refusal}
 use Rattle.asm_base.specs.declared.refusal.Refusal.TheVariants as cause
@@ -67,7 +67,7 @@ use Rattle.file_commands.proofs.WrittenTables as tables
 -- the reply to a write that was answered so
 abbrev pub reply_of : Result (Unit {0}) Refusal → Reply
 reply_of (Ok given) = Done []
-reply_of (Err refusal) = Refused [] (said (λ _. []) refusal)
+reply_of (Err refusal) = Refused [] (meaning_of (λ _. []) refusal)
 
 get_only : (o : Option (List Group)) (g : Group) → unwrap_or o [] ≡ g ∷ [] → o ≡ Some (g ∷ [])
 get_only None g is = absurd cc
@@ -171,13 +171,13 @@ module _ (paths : List Bytes) (text name : Bytes) (inside : Path) (at : ℕ) (by
             (same_some (length paths) known was.given s w was.groups stands) stands)),
       )
 
-      no_file : (raw : Refusal) → OpenCause before inside raw → Ends (Refused [] (said (disk_name after) raw))
-      unfolding said
+      no_file : (raw : Refusal) → OpenCause before inside raw → Ends (Refused [] (meaning_of (disk_name after) raw))
+      unfolding meaning_of
       no_file cause.NoName why = idle r.NoName tt refl (in_group r.NoName (spans.no_name code.write_fault before call.shape call.rules.tables before.name told.cells inside at (length bytes) call.rules why))
       no_file _ why = absurd why
 
-      no_span : (file : OpenFile) → IsOpened before.catalog.tables inside file → (raw : Refusal) → SpanCause before at (length bytes) file raw → Ends (Refused [] (said (disk_name after) raw))
-      unfolding said
+      no_span : (file : OpenFile) → IsOpened before.catalog.tables inside file → (raw : Refusal) → SpanCause before at (length bytes) file raw → Ends (Refused [] (meaning_of (disk_name after) raw))
+      unfolding meaning_of
       no_span file opened cause.NotSectors why =
           idle r.NotSectors tt refl (in_group r.NotSectors (spans.not_sectors code.write_fault before call.shape call.rules.tables before.name told.cells inside at (length bytes) file opened why))
       no_span file opened cause.OutOfFile why =
@@ -186,7 +186,7 @@ module _ (paths : List Bytes) (text name : Bytes) (inside : Path) (at : ℕ) (by
           idle (r.Lost x.file x.index) tt refl (in_group (r.Lost x.file x.index) (spans.failed code.write_fault before call.shape call.rules.tables before.name told.cells inside at (length bytes) file opened told.has why.0 (r.Lost x.file x.index) (inl refl)))
       no_span file opened _ why = absurd why
 
-      not_there : (raw : Refusal) → AtFile before inside (SpanCause before at (length bytes)) raw → Ends (Refused [] (said (disk_name after) raw))
+      not_there : (raw : Refusal) → AtFile before inside (SpanCause before at (length bytes)) raw → Ends (Refused [] (meaning_of (disk_name after) raw))
       not_there raw why = ⊎_elim
           (λ (none : OpenCause before inside raw). no_file raw none)
           (λ (there : (file : OpenFile) × IsOpened before.catalog.tables inside file × SpanCause before at (length bytes) file raw). no_span there.0 there.1 raw there.2)
@@ -297,8 +297,8 @@ module _ (paths : List Bytes) (text name : Bytes) (inside : Path) (at : ℕ) (by
           (behind_tests file opened span (Err raw) did (r.WriteFault by) (inr (inl refl))))
           (counts (r.WriteFault by) failed) tt
 
-      refused_end : (raw : Refusal) → StaysFor (Err raw) after → WritesSpan before file at bytes (Err raw) after s t → WriteCause before after s t raw → Ends (Refused [] (said (disk_name after) raw))
-      unfolding said
+      refused_end : (raw : Refusal) → StaysFor (Err raw) after → WritesSpan before file at bytes (Err raw) after s t → WriteCause before after s t raw → Ends (Refused [] (meaning_of (disk_name after) raw))
+      unfolding meaning_of
       refused_end (cause.WriteFault (disk.Number d)) on did why = fault_end (cause.WriteFault (disk.Number d)) on did (disk_name after d) (why.0, why.2)
       refused_end (cause.WriteFault (disk.Spelt x)) on did why = absurd why
       refused_end (cause.Dismounted (disk.Number d)) on did why = ⊎_elim
@@ -311,15 +311,15 @@ module _ (paths : List Bytes) (text name : Bytes) (inside : Path) (at : ℕ) (by
 
     -- ---- all of it
 
-    spelt_so : (raw : Refusal) (result : Result (Unit {0}) Refusal) → IsSpelt after (Err raw) result → Ends (Refused [] (said (disk_name after) raw)) → Ends (reply_of result)
+    spelt_so : (raw : Refusal) (result : Result (Unit {0}) Refusal) → IsSpelt after (Err raw) result → Ends (Refused [] (meaning_of (disk_name after) raw)) → Ends (reply_of result)
     spelt_so raw result spelt ended = subst (λ (x : Result (Unit {0}) Refusal). Ends (reply_of x)) (sym spelt.1) (⊎_elim
         (λ same. subst (λ (x : r.Refusal). Ends (Refused [] x)) (sym same) ended)
         (λ none. subst (λ (x : r.Refusal). Ends (Refused [] x)) (sym none) (unknown (Refused [] r.NoMemory) short))
         spelt.2)
 
-    short_so : (raw : Refusal) → raw ≡ cause.NoMemory → Ends (Refused [] (said (disk_name after) raw))
-    unfolding said
-    short_so raw is = subst (λ (x : Refusal). Ends (Refused [] (said (disk_name after) x))) (sym is) (unknown (Refused [] r.NoMemory) short)
+    short_so : (raw : Refusal) → raw ≡ cause.NoMemory → Ends (Refused [] (meaning_of (disk_name after) raw))
+    unfolding meaning_of
+    short_so raw is = subst (λ (x : Refusal). Ends (Refused [] (meaning_of (disk_name after) x))) (sym is) (unknown (Refused [] r.NoMemory) short)
 
     not_written : (answer result : Result (Unit {0}) Refusal) → IsSpelt after answer result → WritesNothing before inside at (length bytes) answer after s t → Ends (reply_of result)
     not_written answer result spelt n =

@@ -5,7 +5,7 @@ use Rattle.std.proofs.lemmas.Option.{same_Some}
 use Rattle.bay.specs.State.{BayState, IsSound}
 use Rattle.bay.specs.declared.disk.Bay as Bay
 use Rattle.bay.specs.declared.host.Host as Host
-use Rattle.asm_base.specs.Refusals.{said}
+use Rattle.asm_base.specs.Refusals.{meaning_of}
 use Rattle.asm_base.specs.declared.refusal.Refusal.{Refusal}
 use Rattle.asm_group.specs.Names.{Bytes, Path}
 use Rattle.asm_world.specs.Below.{GroupBelow}
@@ -111,7 +111,7 @@ module _ (paths : List Bytes) (text name : Bytes) (old new : SessionView) (s t :
 -- ---- refused before any call
 
 module _ (paths : List Bytes) (text name : Bytes) (session : SessionView) (s : BayState) (w : World) (below : ℕ → GroupBelow) (knows : Knows session w below) (refusal : Refusal) (why : IsOutCause session.entries name refusal) where
-  pub out_of : (file_work : FileWork) → AsksWrite text session.place name file_work → IsServed paths unread text (Refused [] (said (λ _. []) refusal)) (roster_of session) (roster_of session) s s below w w
+  pub out_of : (file_work : FileWork) → AsksWrite text session.place name file_work → IsServed paths unread text (Refused [] (meaning_of (λ _. []) refusal)) (roster_of session) (roster_of session) s s below w w
   out_of (work.Write path at bytes) asks =
       refusals.out_refused paths text asks.1.0 at bytes (dbwrite_of text asks.1.0 at bytes asks.1.1) session s w below knows name path.parts (asks.1.2 ∙ ap (λ (n : Bytes). Some (n, path.parts)) (sym asks.0)) refusal why
   out_of (work.Fill path at len byte) asks =
@@ -121,7 +121,7 @@ module _ (paths : List Bytes) (text name : Bytes) (session : SessionView) (s : B
 -- a command that was refused, and nothing was done
 pub answered_refused : {B H : Type 0} {bay : Bay.Ghosts B} {host : Host.Ghosts H} (text : Bytes) (answer : Answer) (desk new : Desk B H bay host) (refusal : Refusal) → paths_on new ≡ paths_on desk → new.host ≡ desk.host → new.session ≡ desk.session
     → new.bay ≡ desk.bay → answer.reply ≡ replies.Refused refusal → found_view answer.found ≡ nothing_found → AreReady desk.session.groups (bay.state desk.bay)
-    → ((w : World) (below : ℕ → GroupBelow) → Knows desk.session w below → IsServed (paths_on desk) unread text (Refused [] (said (λ _. []) refusal)) (roster_of desk.session) (roster_of desk.session) (bay.state desk.bay) (bay.state desk.bay) below w w)
+    → ((w : World) (below : ℕ → GroupBelow) → Knows desk.session w below → IsServed (paths_on desk) unread text (Refused [] (meaning_of (λ _. []) refusal)) (roster_of desk.session) (roster_of desk.session) (bay.state desk.bay) (bay.state desk.bay) below w w)
     → IsAnswered text answer desk new
 answered_refused text answer desk new refusal paths host session disks reply found ready served = record {
   paths = paths;

@@ -3,7 +3,7 @@ use Rattle.std.specs.Prelude.{◌≡◌, ◌⊎◌, ⊤, ℕ, List, [], ◌++◌
 use Rattle.bay.specs.Image.{Same}
 use Rattle.bay.specs.Moments.{Runs}
 use Rattle.bay.specs.State.{BayState, KeepsAttached}
-use Rattle.asm_base.specs.Refusals.{said}
+use Rattle.asm_base.specs.Refusals.{meaning_of}
 use Rattle.asm_base.specs.declared.path.Path as code
 use Rattle.asm_base.specs.declared.refusal.Refusal.{Refusal}
 use Rattle.asm_group.specs.Group.{Group}
@@ -79,7 +79,7 @@ FailsRead other = ⊥
 
 -- why the bytes of a file of the mounted group of a name aren't read
 abbrev pub IsFileReadCause : SessionView → Bytes → Refusal → Type 0
-IsFileReadCause session name refusal = IsOutCause session.entries name refusal ⊎ FailsRead (said (λ _. []) refusal)
+IsFileReadCause session name refusal = IsOutCause session.entries name refusal ⊎ FailsRead (meaning_of (λ _. []) refusal)
 
 -- by tables that keep their rules there is no file at the path, or the span is none of it
 abbrev pub IsNoSpan : MountedGroup → Path → ℕ → ℕ → Refusal → Type 0
@@ -91,4 +91,4 @@ pub data IsLinesCause (session : SessionView) (name : Bytes) (path : Path) (at l
   out : IsOutCause session.entries name refusal → IsLinesCause session name path at len refusal
   none : IsInGroup session name (λ m. IsNoSpan m path at len refusal) → IsLinesCause session name path at len refusal
   -- there is one
-  failed : IsInGroup session name (λ m. (file : OpenFile) × OpensSpan m path at len file) → FailsRead (said (λ _. []) refusal) → IsLinesCause session name path at len refusal
+  failed : IsInGroup session name (λ m. (file : OpenFile) × OpensSpan m path at len file) → FailsRead (meaning_of (λ _. []) refusal) → IsLinesCause session name path at len refusal

@@ -4,11 +4,9 @@ use Rattle.std.specs.Ordering.{nat_cmp}
 use Rattle.asm_formats.specs.Items.{FileHead, Item, Key, file_item, files_kind}
 use Rattle.asm_base.specs.Records.{DirectoryRecord}
 use Rattle.item_table.specs.Tables.{IsTable as IsKeyTable, record_of as key_record}
-
 -- the head of a file, whether there is one, and the table with another head of it or without it
 pub use Rattle.item_table.specs.Numbers.{at_number as head_at, has_number as is_file_number, with_number as with_head, without_number as without_head}
 pub use Rattle.item_table.specs.Tables.{add_record}
-
 -- the order of numbers: the least number of a file that isn't below another one, and the least such number that no file has
 pub use Rattle.item_table.specs.Numbers.{is_lower_number as is_lower_file, IsLeastNumberFrom as IsLeastFrom, IsFreeNumberFrom as IsFreeFrom}
 

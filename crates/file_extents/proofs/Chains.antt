@@ -20,7 +20,7 @@ use Rattle.group_pieces.specs.group_engine.declared.access.Access.TheVariants as
 use Rattle.group_pieces.proofs.group_engine.Causes.{cause_on, dismount_on, gives_up, nothing_kept}
 use Rattle.group_pieces.proofs.group_engine.Endings.{goes_begin, keeps_closed}
 use Rattle.group_pieces.specs.Faults.{RoseOnDisk}
-use Rattle.file_extents.specs.Closing.{IsOrShut, or_shut, shut}
+use Rattle.file_extents.specs.Closing.{IsOrShut, or_shut, shut_group}
 use Rattle.file_extents.specs.Filling.{FailsMore, FaultOn, FillCause, PutCause}
 
 -- ---- what is kept
@@ -49,7 +49,7 @@ pub goes_short : {a b : MountedGroup} {s t : BayState} → KeepsGroup a b s t �
 goes_short keeps = record { keeps = keeps; mounted = tt; cause = tt }
 
 -- a group that is shut behind a call
-pub goes_shut : {a b : MountedGroup} {s t : BayState} → KeepsGroup a b s t → (new : MountedGroup) (e : Refusal) → new ≡ shut b → e ≡ cause.NoMemory → GoesOn a (Err e) new s t
+pub goes_shut : {a b : MountedGroup} {s t : BayState} → KeepsGroup a b s t → (new : MountedGroup) (e : Refusal) → new ≡ shut_group b → e ≡ cause.NoMemory → GoesOn a (Err e) new s t
 goes_shut {a} {b} {s} {t} keeps new e is why = subst (λ (x : Refusal). GoesOn a (Err x) new s t) (sym why) (subst (λ (v : MountedGroup). GoesOn a (Err cause.NoMemory) v s t) (sym is)
     (goes_short (keeps_closed keeps)))
 

@@ -6,12 +6,12 @@ use Rattle.group_pieces.specs.group_engine.Making.{access_after_closing}
 use Rattle.group_pieces.specs.group_engine.Mounts.{MountedGroup}
 
 -- the group takes no more calls
-abbrev pub shut : MountedGroup → MountedGroup
-shut m = record m { access = access_after_closing m.access }
+abbrev pub shut_group : MountedGroup → MountedGroup
+shut_group m = record m { access = access_after_closing m.access }
 
 -- the group that a step with this answer leaves: after want of memory it takes no more calls
 abbrev pub or_shut : Result (Unit {0}) Refusal → MountedGroup → MountedGroup
-or_shut (Err cause.NoMemory) m = shut m
+or_shut (Err cause.NoMemory) m = shut_group m
 or_shut _ m = m
 
 -- the answer stays, and after want of memory the group takes no more calls

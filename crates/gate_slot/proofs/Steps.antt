@@ -10,16 +10,16 @@ use Rattle.bay.specs.Moments.{Runs, Ends, Durable, Within}
 use Rattle.bay.specs.Calls.{Cost, Call, ChangesEachImage, Tells}
 use Rattle.bay.proofs.OneCall.{Follows, reworded}
 use Rattle.gate_slot.specs.declared.place.Place.{Place}
-use Rattle.gate_slot.specs.Slot.{IsUsablePlace, IsGateSettled, GateOf, PlaceOf, is_open_in, body_in, shown, SetsGate, FoundGate, Closes, MayClose, Opens, MayOpen, HasPut, MayFillShut, MayPut, FromHeld, WaitsFor}
+use Rattle.gate_slot.specs.Slot.{IsUsablePlace, IsGateSettled, GateOf, PlaceOf, is_open_in, body_in, shown_body, SetsGate, FoundGate, Closes, MayClose, Opens, MayOpen, HasPut, MayFillShut, MayPut, FromHeld, WaitsFor}
 
 -- where the gate is and what the body is says what is shown
-shown-open : (place : Place) (slot : ℕ) (image : Image) → is_open_in place slot image ≡ true → shown place slot image ≡ Some (body_in place slot image)
+shown-open : (place : Place) (slot : ℕ) (image : Image) → is_open_in place slot image ≡ true → shown_body place slot image ≡ Some (body_in place slot image)
 shown-open place slot image is = ap (λ (b : Bool). if b then Some (body_in place slot image) else None) is
 
-pub shown-closed : (place : Place) (slot : ℕ) (image : Image) → is_open_in place slot image ≡ false → shown place slot image ≡ None
+pub shown-closed : (place : Place) (slot : ℕ) (image : Image) → is_open_in place slot image ≡ false → shown_body place slot image ≡ None
 shown-closed place slot image is = ap (λ (b : Bool). if b then Some (body_in place slot image) else None) is
 
-shown-either : (place : Place) (slot : ℕ) (image : Image) → (shown place slot image ≡ None) ⊎ (shown place slot image ≡ Some (body_in place slot image))
+shown-either : (place : Place) (slot : ℕ) (image : Image) → (shown_body place slot image ≡ None) ⊎ (shown_body place slot image ≡ Some (body_in place slot image))
 shown-either place slot image = cases (is_open_in place slot image)
   where
     cases : (b : Bool) → ((if b then Some (body_in place slot image) else None) ≡ None) ⊎ ((if b then Some (body_in place slot image) else None) ≡ Some (body_in place slot image))
@@ -27,7 +27,7 @@ shown-either place slot image = cases (is_open_in place slot image)
     cases false = inl refl
 
 -- a slot that shows nothing is closed
-pub shown-shut : (place : Place) (slot : ℕ) (image : Image) → shown place slot image ≡ None → is_open_in place slot image ≡ false
+pub shown-shut : (place : Place) (slot : ℕ) (image : Image) → shown_body place slot image ≡ None → is_open_in place slot image ≡ false
 shown-shut place slot image none = cases (is_open_in place slot image) none
   where
     cases : (b : Bool) → (if b then Some (body_in place slot image) else None) ≡ None → b ≡ false
@@ -35,20 +35,20 @@ shown-shut place slot image none = cases (is_open_in place slot image) none
     cases false is = refl
 
 -- the same bytes show the same
-shown-same : (place : Place) (slot : ℕ) (x y : Image) → y.byte slot place.gate ≡ x.byte slot place.gate → body_in place slot y ≡ body_in place slot x → shown place slot y ≡ shown place slot x
+shown-same : (place : Place) (slot : ℕ) (x y : Image) → y.byte slot place.gate ≡ x.byte slot place.gate → body_in place slot y ≡ body_in place slot x → shown_body place slot y ≡ shown_body place slot x
 shown-same place slot x y gate body =
     ap (λ (b : ℕ). if b == 165 then Some (body_in place slot y) else None) gate
     ∙ ap (λ (l : List ℕ). if is_open_in place slot x then Some l else None) body
 
 -- a slot that a change doesn't meet shows what it did
 pub shown-elsewhere : (place : Place) (slot : ℕ) (some : 0 < place.sector) (region : ℕ → ℕ → Type 0) (x y : Image) → ((k : ℕ) → PlaceOf place slot slot k → region slot k → ⊥)
-    → ChangesOnly region x y → shown place slot y ≡ shown place slot x
+    → ChangesOnly region x y → shown_body place slot y ≡ shown_body place slot x
 shown-elsewhere place slot some region x y apart step =
     shown-same place slot x y (step.byte slot place.gate (apart place.gate (inl (refl, omega arith, omega arith))))
     (changes-window region x y slot place.body place.len (λ k low high. apart k (inr (refl, low, high))) step)
 
 -- where the disks are the same, a slot shows what it did
-still_shown : (place : Place) (slot : ℕ) (x y : Image) → Same x y → shown place slot y ≡ shown place slot x
+still_shown : (place : Place) (slot : ℕ) (x y : Image) → Same x y → shown_body place slot y ≡ shown_body place slot x
 still_shown place slot x y same = shown-same place slot x y (same.byte slot place.gate) (window-same (x.byte slot) (y.byte slot) place.body place.len (λ k low high. same.byte slot k))
 
 pub may_close-same : (place : Place) (slot : ℕ) (x y : Image) → Same x y → MayClose place slot x y
@@ -161,7 +161,7 @@ module _ {state : BayState} {place : Place} {slot : ℕ} (usable : IsUsablePlace
     filled_place : (x y : Image) → ChangesOnly (Range slot at (length body)) x y → ChangesOnly (PlaceOf place slot) x y
     filled_place x y step = changes-within (PlaceOf place slot) (Range slot at (length body)) x y (λ s k inside. inr (inside.0, omega (arith, inside.1), omega (arith, inside.2))) step
 
-    stays_shut : (x y : Image) → shown place slot x ≡ None → ChangesOnly (Range slot at (length body)) x y → shown place slot y ≡ None
+    stays_shut : (x y : Image) → shown_body place slot x ≡ None → ChangesOnly (Range slot at (length body)) x y → shown_body place slot y ≡ None
     stays_shut x y none step =
         let gate_stays = step.byte slot place.gate (λ inside. gate_apart place.gate refl (inside.0, omega (arith, inside.1), omega (arith, inside.2))) in
         shown-closed place slot y (ap (λ (b : ℕ). b == 165) gate_stays ∙ shown-shut place slot x none)

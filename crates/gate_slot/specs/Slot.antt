@@ -40,8 +40,8 @@ abbrev pub body_in : Place → ℕ → Image → List ℕ
 body_in place slot image = window (image.byte slot) place.body place.len
 
 -- what a slot shows: its body where the gate is open, else nothing
-abbrev pub shown : Place → ℕ → Image → Option (List ℕ)
-shown place slot image = if is_open_in place slot image then Some (body_in place slot image) else None
+abbrev pub shown_body : Place → ℕ → Image → Option (List ℕ)
+shown_body place slot image = if is_open_in place slot image then Some (body_in place slot image) else None
 
 -- the gate's first byte is this, and nothing but the gate is changed
 pub record SetsGate (place : Place) (slot first : ℕ) (old new : Image) : Type 0 where
@@ -55,37 +55,37 @@ pub record FoundGate (place : Place) (slot : ℕ) (answer : Bool) (old new : Ima
 
 -- the slot is closed
 pub record Closes (place : Place) (slot : ℕ) (old new : Image) : Type 0 where
-  pub shows : shown place slot new ≡ None
+  pub shows : shown_body place slot new ≡ None
   pub elsewhere : ChangesOnly (GateOf place slot) old new
 
 -- while it is closed, it shows what it did, or nothing
 pub record MayClose (place : Place) (slot : ℕ) (old new : Image) : Type 0 where
-  pub shows : (shown place slot new ≡ shown place slot old) ⊎ (shown place slot new ≡ None)
+  pub shows : (shown_body place slot new ≡ shown_body place slot old) ⊎ (shown_body place slot new ≡ None)
   pub elsewhere : ChangesOnly (GateOf place slot) old new
 
 -- the slot shows its body
 pub record Opens (place : Place) (slot : ℕ) (old new : Image) : Type 0 where
-  pub shows : shown place slot new ≡ Some (body_in place slot old)
+  pub shows : shown_body place slot new ≡ Some (body_in place slot old)
   pub elsewhere : ChangesOnly (GateOf place slot) old new
 
 -- while it is opened, it shows nothing or its body
 pub record MayOpen (place : Place) (slot : ℕ) (old new : Image) : Type 0 where
-  pub shows : (shown place slot new ≡ None) ⊎ (shown place slot new ≡ Some (body_in place slot old))
+  pub shows : (shown_body place slot new ≡ None) ⊎ (shown_body place slot new ≡ Some (body_in place slot old))
   pub elsewhere : ChangesOnly (GateOf place slot) old new
 
 -- the slot shows a new body
 pub record HasPut (place : Place) (slot : ℕ) (body : List ℕ) (old new : Image) : Type 0 where
-  pub shows : shown place slot new ≡ Some body
+  pub shows : shown_body place slot new ≡ Some body
   pub elsewhere : ChangesOnly (PlaceOf place slot) old new
 
 -- while a body is put, the slot shows what it did, nothing, or the new body
 pub record MayPut (place : Place) (slot : ℕ) (body : List ℕ) (old new : Image) : Type 0 where
-  pub shows : (shown place slot new ≡ shown place slot old) ⊎ ((shown place slot new ≡ None) ⊎ (shown place slot new ≡ Some body))
+  pub shows : (shown_body place slot new ≡ shown_body place slot old) ⊎ ((shown_body place slot new ≡ None) ⊎ (shown_body place slot new ≡ Some body))
   pub elsewhere : ChangesOnly (PlaceOf place slot) old new
 
 -- while a closed slot is filled and opened, it shows nothing or the body
 pub record MayFillShut (place : Place) (slot : ℕ) (body : List ℕ) (old new : Image) : Type 0 where
-  pub shows : shown place slot old ≡ None → (shown place slot new ≡ None) ⊎ (shown place slot new ≡ Some body)
+  pub shows : shown_body place slot old ≡ None → (shown_body place slot new ≡ None) ⊎ (shown_body place slot new ≡ Some body)
   pub elsewhere : ChangesOnly (PlaceOf place slot) old new
 
 -- the step comes from an image that has on the slot's disk what the disks held at a state, where the bay tells it

@@ -5,7 +5,7 @@ ghost use Rattle.bay.specs.Image.{Same, ChangesOnly, Range, Puts};
 ghost use Rattle.bay.specs.State.{IsSlot, IsOnSectors, size_of};
 ghost use Rattle.bay.specs.Calls.{Call, ChangesEachImage, Tells, cost};
 ghost use Rattle.bay.specs.Moments.{Runs, Ends};
-ghost use Rattle.gate_slot.specs.Slot.{IsUsablePlace, IsGateSettled, is_open_in, GateOf, SetsGate, FoundGate, MayClose, Closes, MayOpen, Opens, MayFillShut, MayPut, HasPut, shown, FromHeld, WaitsFor};
+ghost use Rattle.gate_slot.specs.Slot.{IsUsablePlace, IsGateSettled, is_open_in, GateOf, SetsGate, FoundGate, MayClose, Closes, MayOpen, Opens, MayFillShut, MayPut, HasPut, shown_body, FromHeld, WaitsFor};
 
 use crate::Place;
 use bay::{Bay, Fault};
@@ -127,7 +127,7 @@ pub fn fill_body<B: Bay>(
     bytes: &[u8],
 ) -> Result<(), Fault>
     requires usable { IsUsablePlace (B.state bay.old) slot place }
-    requires closed { ForSome (B.state bay.old).holds (λ image. shown place slot image ≡ None) }
+    requires closed { ForSome (B.state bay.old).holds (λ image. shown_body place slot image ≡ None) }
     requires inside { from + length bytes.now ≤ place.len }
     requires sectors { (from % place.sector ≡ 0) × (length bytes.now % place.sector ≡ 0) }
     ensures { Call result slot (ChangesOnly (Range slot (place.body + from) (length bytes.now)))
@@ -149,7 +149,7 @@ pub fn open_gate<B: Bay>(bay: &mut B, slot: u32, place: Place) -> Result<(), Fau
 // Writes the body of a closed slot, and opens the gate.
 fn fill_and_open<B: Bay>(bay: &mut B, slot: u32, place: Place, body: &[u8]) -> Result<(), Fault>
     requires usable { IsUsablePlace (B.state bay.old) slot place }
-    requires closed { ForSome (B.state bay.old).holds (λ image. shown place slot image ≡ None) }
+    requires closed { ForSome (B.state bay.old).holds (λ image. shown_body place slot image ≡ None) }
     requires whole { length body.now ≡ place.len }
     ensures { Call result slot (MayFillShut place slot body.now) (ChangesEachImage (HasPut place slot body.now))
         (cost 4 (place.sector + place.len)) (B.state bay.old) (B.state bay.new) }

@@ -3,7 +3,7 @@ use Rattle.std.proofs.Common.{◌≡◌, ◌⊎◌, ⊎_elim, inl, inr, ℕ, ◌
 use Rattle.bay.specs.State.{BayState}
 use Rattle.bay.specs.declared.disk.Bay as Bay
 use Rattle.bay.specs.declared.host.Host as Host
-use Rattle.asm_base.specs.Refusals.{said}
+use Rattle.asm_base.specs.Refusals.{meaning_of}
 use Rattle.asm_base.specs.declared.refusal.Refusal.{Refusal}
 use Rattle.asm_base.specs.declared.refusal.Refusal.TheVariants as cause
 use Rattle.asm_group.specs.Names.{Bytes}
@@ -68,7 +68,7 @@ module _ {B H : Type 0} {bay : Bay.Ghosts B} {host : Host.Ghosts H} (name : Byte
     -- why the group wasn't mounted, by the slots that are held and the paths as the calls had them
     pub mount_refusal : (seen : List Bytes) (refusal : Refusal) (error : MountError) → seen ≡ paths_on old → IsMountCause bay.state name n held option s t error
         → LeavesRefused bay.state name n held option s t error
-        → said (λ _. []) refusal ≡ mount_said seen error → IsMountRefusal name option old new refusal
+        → meaning_of (λ _. []) refusal ≡ mount_said seen error → IsMountRefusal name option old new refusal
     mount_refusal seen refusal error seen_is why left says = record {
       error_is = error;
       cause_is = subst (λ (k : ℕ). IsMountCause bay.state name k own option s t error) n_is (subst (λ (l : List ℕ). IsMountCause bay.state name n l option s t error) held_is why);

@@ -3,7 +3,7 @@ use Rattle.std.proofs.Common.{◌≡◌, ℕ, List, [], ◌++◌, Option, refl, 
 use Rattle.bay.specs.State.{BayState}
 use Rattle.bay.specs.declared.disk.Bay as Bay
 use Rattle.bay.specs.declared.host.Host as Host
-use Rattle.asm_base.specs.Refusals.{said}
+use Rattle.asm_base.specs.Refusals.{meaning_of}
 use Rattle.asm_base.specs.declared.refusal.Refusal.TheVariants as cause
 use Rattle.asm_group.specs.Names.{Bytes}
 use Rattle.asm_group.specs.Refusal as r
@@ -49,5 +49,5 @@ answered-found text answer old new ids made seen reply paths stays ready are fou
 }
 
 pub short_told : reply_view (Refused cause.NoMemory) ≡ world.Refused [] r.NoMemory
-unfolding said
+unfolding meaning_of
 short_told = refl

@@ -8,7 +8,7 @@ use Rattle.std.proofs.lemmas.List.{length-map}
 use Rattle.bay.specs.State.{BayState, IsSound}
 use Rattle.bay.specs.declared.disk.Bay as Bay
 use Rattle.bay.specs.declared.host.Host as Host
-use Rattle.asm_base.specs.Refusals.{said}
+use Rattle.asm_base.specs.Refusals.{meaning_of}
 use Rattle.asm_base.specs.declared.refusal.Refusal.{Refusal}
 use Rattle.asm_base.specs.declared.refusal.Refusal.TheVariants as cause
 use Rattle.asm_group.specs.Names.{Bytes}
@@ -40,8 +40,8 @@ use Rattle.group_commands.specs.Mounting.{Enters, IsMountRefusal, MountsInto, op
 use Rattle.group_commands.proofs.MountAnswers.{done_served, refused_served}
 use Rattle.group_commands.proofs.MountWorld.{knows_after, mounted_world}
 
-says_short : Refused [] (said (λ _. []) cause.NoMemory) ≡ Refused [] r.NoMemory
-unfolding said
+says_short : Refused [] (meaning_of (λ _. []) cause.NoMemory) ≡ Refused [] r.NoMemory
+unfolding meaning_of
 says_short = refl
 
 module _ {B H : Type 0} {bay : Bay.Ghosts B} {host : Host.Ghosts H} (text name : Bytes) (force : Bool) (asked : command_of text ≡ Said (Alter name (Mount force)))
@@ -112,7 +112,7 @@ module _ {B H : Type 0} {bay : Bay.Ghosts B} {host : Host.Ghosts H} (text name :
     pub any_refused_answers : (refusal : Refusal) → answer.reply ≡ replies.Refused refusal → MountsInto name option (Err refusal) old new → IsAnswered text answer old new
     any_refused_answers refusal reply into = ⊎_elim
         (λ why. refused_answers refusal reply into why.0 why.1)
-        (λ (memory : refusal ≡ cause.NoMemory). short_answers (ap reply_view reply ∙ ap (λ (c : Refusal). Refused [] (said (λ _. []) c)) memory ∙ says_short) (Err refusal) into)
+        (λ (memory : refusal ≡ cause.NoMemory). short_answers (ap reply_view reply ∙ ap (λ (c : Refusal). Refused [] (meaning_of (λ _. []) c)) memory ∙ says_short) (Err refusal) into)
         into.refused
 
     pub done_answers : answer.reply ≡ replies.Done [] → MountsInto name option (Ok tt) old new → IsAnswered text answer old new

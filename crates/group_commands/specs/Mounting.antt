@@ -2,7 +2,7 @@
 use Rattle.std.specs.Prelude.{◌≡◌, ◌⊎◌, List, ◌∷◌, ◌++◌, [], ◌≤◌, Bool, true, false, IfErr, OnOk, Result, get_or, length}
 use Rattle.bay.specs.declared.disk.Bay as Bay
 use Rattle.bay.specs.declared.host.Host as Host
-use Rattle.asm_base.specs.Refusals.{said}
+use Rattle.asm_base.specs.Refusals.{meaning_of}
 use Rattle.asm_base.specs.declared.refusal.Refusal.{Refusal}
 use Rattle.asm_base.specs.declared.refusal.Refusal.TheVariants as cause
 use Rattle.asm_group.specs.Names.{Bytes}
@@ -41,7 +41,7 @@ pub record IsMountRefusal {B H : Type 0} {bay : Bay.Ghosts B} {host : Host.Ghost
   pub error_is : MountError
   pub cause_is : IsMountCause bay.state name (length old.paths.items) (held_by old.session.groups) option (bay.state old.bay) (bay.state new.bay) error_is
   pub leaves : LeavesRefused bay.state name (length old.paths.items) (held_by old.session.groups) option (bay.state old.bay) (bay.state new.bay) error_is
-  pub says : said (λ _. []) refusal ≡ mount_said (paths_on old) error_is
+  pub says : meaning_of (λ _. []) refusal ≡ mount_said (paths_on old) error_is
 
 -- A group of the name is the last, in place of one of its name. It was mounted from the disks in slots that no other group holds.
 pub record Enters {B H : Type 0} {bay : Bay.Ghosts B} {host : Host.Ghosts H} (name : Bytes) (option : MountOption) (old new : Desk B H bay host) : Type 0 where

@@ -1,7 +1,7 @@
 // A group is mounted into the session.
 ghost use Rattle.std.specs.Prelude.{◌≡◌, [], IfOk, get_or, map};
 ghost use Rattle.std.specs.String.{string_bytes};
-ghost use Rattle.asm_base.specs.Refusals.{referred_disk_name, said};
+ghost use Rattle.asm_base.specs.Refusals.{referred_disk_name, meaning_of};
 ghost use Rattle.group_commands.specs.Mounting.{MountsInto, mount_said, option_of};
 ghost use Rattle.session.specs.Sessions.{AreReady};
 
@@ -41,7 +41,7 @@ fn spelt(alloc: Global, name: &Name) -> Result<DiskRef, NoMemory>
 
 /// Why a group isn't mounted, as a command is refused: images by their paths, disks by their names.
 fn refusal_of(alloc: Global, paths: &[String], error: MountError) -> Result<Refusal, NoMemory>
-    ensures { IfOk result (λ refusal. said (λ _. []) refusal ≡ mount_said (map string_bytes paths.now) error) }
+    ensures { IfOk result (λ refusal. meaning_of (λ _. []) refusal ≡ mount_said (map string_bytes paths.now) error) }
 {
     match error {
         MountError::NoGroup => Ok(Refusal::NoGroup),

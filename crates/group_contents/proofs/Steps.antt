@@ -13,7 +13,7 @@ use Rattle.asm_base.specs.declared.refusal.Refusal.{Refusal}
 use Rattle.asm_base.specs.declared.refusal.Refusal.TheVariants as cause
 use Rattle.asm_formats.specs.Items.{Key}
 use Rattle.file_extents.specs.catalog_tables.Changing.{IsAfter}
-use Rattle.file_extents.specs.catalog.FilePlans.{IsRemovalPlan, IsSizePlan, is_on_file, with_removal_pending, sized}
+use Rattle.file_extents.specs.catalog.FilePlans.{IsRemovalPlan, IsSizePlan, is_on_file, with_removal_pending, tables_with_size}
 use Rattle.file_extents.specs.catalog.NamePlans.{IsNamePlan, made_file}
 use Rattle.file_extents.specs.catalog.Plans.{IsPlan}
 use Rattle.file_extents.specs.catalog_tables.Tables.{Catalogued, Tables}
@@ -83,7 +83,7 @@ removal_plan k f put gone p none = (with_removal_pending k.tables f p.head, p.pl
 -- where the pending operation is on a file another size is one
 pub size_plan : (k : Catalogued) (f size : ℕ) (put : List DirectoryRecord) (gone : List Key) → IsSizePlan k f size put gone
     → is_on_file k.tables.files k.tables.operations.pending ≡ true → (u : Tables) × IsPlan k put gone u
-size_plan k f size put gone p on = (sized k.tables f p.head size p.pending, p.plan (p.owned on))
+size_plan k f size put gone p on = (tables_with_size k.tables f p.head size p.pending, p.plan (p.owned on))
 
 pub removes : (a : MountedGroup) (k : Catalogued) (f : ℕ) (put : List DirectoryRecord) (gone : List Key) (r : Result (Unit {0}) Refusal) (b : MountedGroup)
     → k ≡ a.catalog → IsRemovalPlan k f put gone → OnOk r (IsAfter k.tables put gone b.catalog.tables) → OnOk r (RemovesFile a f b)

@@ -9,7 +9,7 @@ use Rattle.std.proofs.lemmas.List.Folds.{list_all-append}
 use Rattle.asm_group.specs.Names.{Bytes, is_letter, is_name_byte, is_name, is_part}
 use Rattle.asm_group.specs.Refusal as r
 use Rattle.asm_base.specs.declared.refusal.Refusal.{Refusal}
-use Rattle.asm_base.specs.Refusals.{said}
+use Rattle.asm_base.specs.Refusals.{meaning_of}
 use Rattle.asm_base.specs.Names.{name_of}
 use Rattle.asm_base.proofs.NameLaws.{name_is_part}
 use Rattle.group_disks.specs.declared.find.Probe.{Probe}
@@ -46,7 +46,7 @@ numbered_name (c ∷ cs) is =
     λ i. both.0 i && all i && short i
 
 -- it says why, or that there was no memory
-pub unusable : (path disk : Bytes) (p : Probe) (wanted : r.Refusal) (given : Refusal) → SaysRefusal wanted given → IsUnusable path disk p wanted → IsUnusable path disk p (said (λ any. []) given)
+pub unusable : (path disk : Bytes) (p : Probe) (wanted : r.Refusal) (given : Refusal) → SaysRefusal wanted given → IsUnusable path disk p wanted → IsUnusable path disk p (meaning_of (λ any. []) given)
 unusable path disk p wanted given says is = ⊎_elim
     (λ e. subst (IsUnusable path disk p) (sym e) is)
     (λ none. subst (IsUnusable path disk p) (sym none) tt) says

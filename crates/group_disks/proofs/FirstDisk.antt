@@ -3,7 +3,7 @@ use Rattle.std.proofs.Common.{◌≡◌, ℕ, ◌+◌, ◌≤◌, true, false, L
 use Rattle.std.specs.Prelude.{◌&&◌, nat_le}
 use Rattle.std.proofs.lemmas.Bool.{cond-true, cond-false, and_from, le-leb}
 use Rattle.bay.specs.Image.{Image}
-use Rattle.gate_slot.specs.Slot.{shown}
+use Rattle.gate_slot.specs.Slot.{shown_body}
 use Rattle.disk_forming.specs.Places.{gated_slot_at}
 use Rattle.asm_formats.specs.Bytes.{block, is_open}
 use Rattle.asm_formats.specs.Regions.{least_size}
@@ -35,7 +35,7 @@ module _ (slot : ℕ) (plan : Plan) (is : IsGroupPlan plan) (image : Image) (lon
   slot_shut : {A : Type 0} (decoded : List ℕ → Option A) (k : ℕ) → is_open bytes k ≡ false → in_slot decoded bytes k ≡ []
   slot_shut decoded k out = cond-false (is_open bytes k) (decoded (block bytes (k + 1)) ∷ []) [] out
 
-  pub header_there : shown (gated_slot_at 0 1 512) slot image ≡ Some (header_body plan) → header_of bytes ≡ Some (header_of_plan plan)
+  pub header_there : shown_body (gated_slot_at 0 1 512) slot image ≡ Some (header_body plan) → header_of bytes ≡ Some (header_of_plan plan)
   header_there shows =
       let there = is_shown slot image 0 (header_body plan) (omega (arith, long)) shows in
       cond-true (nat_le least_size (length bytes) && is_open bytes 0) (decoded_header (block bytes 1)) None
@@ -43,7 +43,7 @@ module _ (slot : ℕ) (plan : Plan) (is : IsGroupPlan plan) (image : Image) (lon
       ∙ ap decoded_header there.1 ∙ header_again (header_of_plan plan) (header_ok plan is)
 
   -- no record stands yet
-  pub no_statuses : shown (gated_slot_at 6 1 512) slot image ≡ None → shown (gated_slot_at 8 1 512) slot image ≡ None → (metadata bytes).statuses ≡ []
+  pub no_statuses : shown_body (gated_slot_at 6 1 512) slot image ≡ None → shown_body (gated_slot_at 8 1 512) slot image ≡ None → (metadata bytes).statuses ≡ []
   no_statuses first second =
       let here = slot_shut decoded_status 6 (is_shut slot image 6 (omega (arith, long)) first) in
       let there = slot_shut decoded_status 8 (is_shut slot image 8 (omega (arith, long)) second) in

@@ -16,7 +16,7 @@ use Rattle.group_engine.proofs.catalog_laws.ToldRecords.{records_told}
 use Rattle.change_directory.specs.Places.{IsCopy}
 use Rattle.change_directory.specs.declared.copy.DirCopy.{DirCopy}
 use Rattle.group_mount.specs.directory_store.Stores.{Stored}
-use Rattle.group_engine.specs.Making.{made}
+use Rattle.group_engine.specs.Making.{group_of_parts}
 use Rattle.group_engine.specs.Mounts.{AreCopiesOf, IsCopyOf, IsOwn, IsWhole, MountedGroup, slot_at}
 use Rattle.group_engine.specs.declared.attached.Attached.{Attached}
 use Rattle.status_register.specs.Holders.{is_of}
@@ -136,7 +136,7 @@ module _ (slot : ℕ) where
       unfolding is_shape
       is_usual = subst (λ (s : Shape). IsTrue (is_shape s)) (sym usual) refl
 
-      whole_at : Reaches places (record_of_plan plan) → IsWhole (made name cat store register disks)
+      whole_at : Reaches places (record_of_plan plan) → IsWhole (group_of_parts name cat store register disks)
       whole_at reached = record {
         are_tables = catalog.rules.tables;
         tables = records_told store.table.records cat.tables catalog.rules.tables catalog.records;
@@ -153,22 +153,22 @@ module _ (slot : ℕ) where
         births = births;
       }
 
-      own_at : (s : ℕ) → IsOwn (made name cat store register disks) s → s ≡ slot
+      own_at : (s : ℕ) → IsOwn (group_of_parts name cat store register disks) s → s ≡ slot
       own_at s is_own = is_own.3 ∙ ap (λ (m : Member). m.slot) (place_at is_own.0 is_own.1 is_own.2).1
 
       -- the parts as the code has them
       module _ (r : Registered) (ds : List (Option Attached)) (is_first : r ≡ first_register (record_of_plan plan) (first_member slot ∷ [])) (are : ds ≡ disks)
           (reached : Reaches r.members r.value) where
-        pub first_whole : IsWhole (made name cat store r ds)
+        pub first_whole : IsWhole (group_of_parts name cat store r ds)
         first_whole =
             let same : r ≡ register = is_first ∙ register_is in
-            subst (λ (l : List (Option Attached)). IsWhole (made name cat store r l)) (sym are)
-            (subst (λ (q : Registered). IsWhole (made name cat store q disks)) (sym same) (whole_at (subst (λ (q : Registered). Reaches q.members q.value) same reached)))
+            subst (λ (l : List (Option Attached)). IsWhole (group_of_parts name cat store r l)) (sym are)
+            (subst (λ (q : Registered). IsWhole (group_of_parts name cat store q disks)) (sym same) (whole_at (subst (λ (q : Registered). Reaches q.members q.value) same reached)))
 
-        pub first_mounted : (m : MountedGroup) → m ≡ made name cat store r ds → name ≡ plan.name → state.attached slot ≡ Some size → registers.IsRegisterReady r state → registers.KeepsStanding r state → IsMountedOnSlot slot plan m state
+        pub first_mounted : (m : MountedGroup) → m ≡ group_of_parts name cat store r ds → name ≡ plan.name → state.attached slot ≡ Some size → registers.IsRegisterReady r state → registers.KeepsStanding r state → IsMountedOnSlot slot plan m state
         first_mounted m is_made named attached ready history =
             let same : r ≡ register = is_first ∙ register_is in
-            let all : m ≡ made name cat store register disks = is_made ∙ (λ i. made name cat store (same i) (are i)) in
+            let all : m ≡ group_of_parts name cat store register disks = is_made ∙ (λ i. group_of_parts name cat store (same i) (are i)) in
             subst (λ (g : MountedGroup). IsMountedOnSlot slot plan g state) (sym all) (record {
               mounted = refl;
               name = named;

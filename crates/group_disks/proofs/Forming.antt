@@ -5,7 +5,7 @@ use Rattle.std.proofs.lemmas.Bool.{cases_Bool, false≢true}
 use Rattle.std.proofs.lemmas.Option.{same_Some, none-some}
 use Rattle.bay.specs.Image.{Image, ChangesOnly}
 use Rattle.bay.proofs.Images.{window-same}
-use Rattle.gate_slot.specs.Slot.{is_open_in, shown, MayClose}
+use Rattle.gate_slot.specs.Slot.{is_open_in, shown_body, MayClose}
 use Rattle.gate_slot.proofs.Steps.{shown-closed, shown-shut}
 use Rattle.disk_forming.specs.Places.{gated_slot_at}
 use Rattle.disk_forming.specs.Gates.{MayCloseAll}
@@ -94,7 +94,7 @@ module _ (slot : ℕ) (plan : Plan) (old new : Image) (is : IsGroupPlan plan) (l
     shut_creates closed = headless_creates gates_change (shut_header now (same_gate slot new 0 (omega (arith, room)) ∙ closed))
 
     -- the header's gate sector was written, and shows what it did
-    module _ (may : MayClose (gated_slot_at 0 1 512) slot old new) (same : shown (gated_slot_at 0 1 512) slot new ≡ shown (gated_slot_at 0 1 512) slot old) (opened : is_open_in (gated_slot_at 0 1 512) slot new ≡ true) where
+    module _ (may : MayClose (gated_slot_at 0 1 512) slot old new) (same : shown_body (gated_slot_at 0 1 512) slot new ≡ shown_body (gated_slot_at 0 1 512) slot old) (opened : is_open_in (gated_slot_at 0 1 512) slot new ≡ true) where
       was_open : is_open_in (gated_slot_at 0 1 512) slot old ≡ true
       was_open = ⊎_elim (λ yes. yes)
           (λ no. absurd (false≢true (sym (shown-shut (gated_slot_at 0 1 512) slot new (same ∙ shown-closed (gated_slot_at 0 1 512) slot old no)) ∙ opened)))
@@ -143,7 +143,7 @@ module _ (slot : ℕ) (plan : Plan) (old new : Image) (is : IsGroupPlan plan) (l
     units_there = omega (arith, long, elsewhere.size slot)
 
     -- with a header and no record
-    unrecorded_creates : shown (gated_slot_at 0 1 512) slot new ≡ Some (header_body plan) → shown (gated_slot_at 6 1 512) slot new ≡ None → shown (gated_slot_at 8 1 512) slot new ≡ None
+    unrecorded_creates : shown_body (gated_slot_at 0 1 512) slot new ≡ Some (header_body plan) → shown_body (gated_slot_at 6 1 512) slot new ≡ None → shown_body (gated_slot_at 8 1 512) slot new ≡ None
         → CreatesGroupOn slot plan.id (made_group plan.name) old new
     unrecorded_creates header first second = headed_creates parts_change (header_there slot plan is new space header)
         (λ no. unrecorded_allows plan.id slot old new parts_change no (made_group plan.name ∷ []) (no_statuses slot plan is new space first second))

@@ -6,7 +6,7 @@ use Rattle.std.proofs.lemmas.Option.{none-some, same_Some}
 use Rattle.bay.specs.State.{BayState}
 use Rattle.asm_group.specs.Names.{Bytes, is_same_name}
 use Rattle.asm_formats.specs.Among.{IsAmong}
-use Rattle.group_mount.specs.Founds.{id_of_choice, undamaged}
+use Rattle.group_mount.specs.Founds.{id_of_choice, id_unless_damaged}
 use Rattle.group_mount.specs.Verdicts.{AreJudged, Chooses, choice_of, ids_named, with_id, with_verdict}
 use Rattle.group_mount.specs.declared.choosing.Choice.{Choice}
 use Rattle.group_mount.specs.declared.choosing.ShortId.{ShortId}
@@ -47,7 +47,7 @@ has_name name (h ∷ hs) id is =
 same_ok : (a b : ℕ) → (let e : Result ℕ MountError = Ok a in e ≡ Ok b) → a ≡ b
 same_ok a b e = cc
 
-whole_id : (id : ℕ) (damage : Option (ℕ × ℕ)) (k : ℕ) → undamaged (record { id = id; damage = damage }) ≡ Ok k → id ≡ k
+whole_id : (id : ℕ) (damage : Option (ℕ × ℕ)) (k : ℕ) → id_unless_damaged (record { id = id; damage = damage }) ≡ Ok k → id ≡ k
 whole_id id None k is = same_ok id k is
 whole_id id (Some place) k is = absurd cc
 

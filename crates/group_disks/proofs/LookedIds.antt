@@ -7,7 +7,7 @@ use Rattle.std.proofs.lemmas.Option.{none-some, same_Some}
 use Rattle.bay.specs.State.{BayState}
 use Rattle.asm_group.specs.Names.{Bytes, is_same_name}
 use Rattle.asm_formats.specs.Among.{IsAmong}
-use Rattle.group_mount.specs.Founds.{HasTwo, first_of_two, later, is_whole, id_of_choice, undamaged}
+use Rattle.group_mount.specs.Founds.{HasTwo, first_of_two, later, is_whole, id_of_choice, id_unless_damaged}
 use Rattle.group_mount.specs.Verdicts.{AreJudged, IsJudged, choice_of, greater_short_id, ids_named, members_with, with_id}
 use Rattle.group_mount.specs.declared.choosing.Choice.{Choice}
 use Rattle.group_mount.specs.declared.choosing.ShortId.{ShortId}
@@ -201,7 +201,7 @@ same_err a b e = cc
 pub not_taken : (choice : Choice) (e : MountError) → id_of_choice choice ≡ Err e → NotTaken choice e
 not_taken choice e is = go choice.whole choice.are_two choice.short is
   where
-    damaged : (id : ℕ) (damage : Option (ℕ × ℕ)) (short : Option ShortId) → undamaged (record { id = id; damage = damage }) ≡ Err e
+    damaged : (id : ℕ) (damage : Option (ℕ × ℕ)) (short : Option ShortId) → id_unless_damaged (record { id = id; damage = damage }) ≡ Err e
         → NotTaken (record { whole = Some (record { id = id; damage = damage }); are_two = false; short = short }) e
     damaged id None short refused = absurd cc
     damaged id (Some place) short refused =

@@ -6,7 +6,7 @@ use Rattle.bay.specs.State.{BayState, IsSound, KeepsAttached, size_of}
 use Rattle.bay.specs.Moments.{Runs, Ends, NowOnly, LeavesOnly}
 use Rattle.bay.proofs.Calls.{goes_on, stops, leaves_only, now_only, both_done, widened}
 use Rattle.bay.proofs.Images.{changes-within, changes-trans}
-use Rattle.gate_slot.specs.Slot.{PlaceOf, shown}
+use Rattle.gate_slot.specs.Slot.{PlaceOf, shown_body}
 use Rattle.gate_slot.proofs.Steps.{shown-elsewhere}
 use Rattle.change_directory.specs.declared.copy.DirCopy.{DirCopy}
 use Rattle.change_directory.specs.declared.copy.LogSlot.TheVariants.{First, Second}
@@ -95,7 +95,7 @@ module _ (slot : ℕ) (plan : Plan) where
 
   -- ---- the directory copy
 
-  slot_stays : (other : ℕ) → other + 2 ≤ 10 → (x y : Image) → ChangesOnly (RegionOf copy) x y → shown (gated_slot_at other 1 512) slot y ≡ shown (gated_slot_at other 1 512) slot x
+  slot_stays : (other : ℕ) → other + 2 ≤ 10 → (x y : Image) → ChangesOnly (RegionOf copy) x y → shown_body (gated_slot_at other 1 512) slot y ≡ shown_body (gated_slot_at other 1 512) slot x
   slot_stays other low x y step = shown-elsewhere (gated_slot_at other 1 512) slot (lit≤ tt) (RegionOf copy) x y meet step
     where
       meet : (k : ℕ) → PlaceOf (gated_slot_at other 1 512) slot slot k → RegionOf copy slot k → ⊥

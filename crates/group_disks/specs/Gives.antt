@@ -7,7 +7,7 @@ use Rattle.bay.specs.State.{BayState, IsSlot, KeepsAttached}
 use Rattle.bay.specs.declared.fault.BayError.{BayError}
 use Rattle.bay.specs.declared.fault.BayError.TheVariants.{Fault}
 use Rattle.asm_base.specs.declared.refusal.Refusal.{Refusal}
-use Rattle.asm_base.specs.Refusals.{said}
+use Rattle.asm_base.specs.Refusals.{meaning_of}
 use Rattle.change_directory.specs.StoreLaws.{RegionOf}
 use Rattle.group_mount.specs.directory_store.Stores.{Stored}
 use Rattle.disk_forming.specs.Forming.{MetaOf}
@@ -62,4 +62,4 @@ pub record FormsGroup (slot slots : ℕ) (plan : Plan) (result : Result Stored R
   pub done : OnOk result (Ends (Founds slots plan.id (made_group plan.name) (kept_of_plan slot plan)) s t)
   pub says : OnOk result (NowOnly t (SaysAll slot plan))
   pub store : IfOk result (λ store. IsFirstStore slot plan store t)
-  pub cause : IfErr result (λ refusal. IsFormFault slot plan.disk (said (λ _. []) refusal) (counts_of s) (counts_of t))
+  pub cause : IfErr result (λ refusal. IsFormFault slot plan.disk (meaning_of (λ _. []) refusal) (counts_of s) (counts_of t))

@@ -5,7 +5,7 @@ use Rattle.bay.specs.Image.{Same}
 use Rattle.bay.specs.Moments.{Runs}
 use Rattle.bay.specs.State.{BayState}
 use Rattle.asm_base.specs.declared.refusal.Refusal.{Refusal}
-use Rattle.asm_base.specs.Refusals.{said}
+use Rattle.asm_base.specs.Refusals.{meaning_of}
 use Rattle.asm_group.specs.Names.{Bytes}
 use Rattle.group_mount.specs.declared.error.MountError.{MountError}
 use Rattle.group_mount.specs.declared.quorum.MountOption.{MountOption}
@@ -29,11 +29,11 @@ pub record CreatesGroup (asked : AskedCreation) (held : List ℕ)
   pub ids : AreIdsRead noted (counts_of s) (counts_of t)
   -- a refusal has its cause
   pub cause : IfErr result.1
-      (λ refusal. RefusalCause asked.paths asked.path (said (λ _. []) refusal) (counts_of s) (counts_of t))
+      (λ refusal. RefusalCause asked.paths asked.path (meaning_of (λ _. []) refusal) (counts_of s) (counts_of t))
   -- a group that was created has an id
   pub given : OnOk result.1 (IsSome result.0)
   -- a refusal that comes before the first write has none
-  pub early : IfErr result.1 (λ refusal. IsEarly (said (λ _. []) refusal) → result.0 ≡ None)
+  pub early : IfErr result.1 (λ refusal. IsEarly (meaning_of (λ _. []) refusal) → result.0 ≡ None)
   -- as long as ids don't run out, the id is above that of each header that could be read
   pub above : IfSome result.0
       (λ id. id < last_count → IsAboveAll asked.paths id (counts_of s) (counts_of t))

@@ -5,7 +5,7 @@ use Rattle.bay.specs.Moments.{Runs}
 use Rattle.bay.specs.State.{BayState}
 use Rattle.asm_group.specs.Names.{Bytes, is_same_name}
 use Rattle.asm_formats.specs.Among.{IsAmong}
-use Rattle.group_engine.specs.Making.{made}
+use Rattle.group_engine.specs.Making.{group_of_parts}
 use Rattle.group_engine.specs.Mounts.{IsMounted, IsOwn, IsReady, IsWhole, MountedGroup}
 use Rattle.group_engine.specs.declared.attached.Attached.{Attached}
 use Rattle.group_engine.specs.Own.{KeepsGroup}
@@ -41,7 +41,7 @@ abbrev pub HaveDiskNumbers : List (Member × ℕ) → Type 0
 HaveDiskNumbers ds = (d : Member × ℕ) → IsAmong ds d → d.0.number < 64
 
 abbrev pub mounted_of : Parts → MountedGroup
-mounted_of parts = made parts.name parts.catalog parts.store parts.register (by_number parts.disks.items)
+mounted_of parts = group_of_parts parts.name parts.catalog parts.store parts.register (by_number parts.disks.items)
 
 -- ---- what is mounted
 

@@ -3,7 +3,7 @@ use Rattle.std.specs.Prelude.{◌≡◌, ℕ, ◌<◌, ◌≤◌, All, List, [],
 use Rattle.bay.specs.Counts.{last_count}
 use Rattle.bay.specs.State.{BayState}
 use Rattle.asm_base.specs.declared.refusal.Refusal.{Refusal}
-use Rattle.asm_base.specs.Refusals.{said}
+use Rattle.asm_base.specs.Refusals.{meaning_of}
 use Rattle.asm_group.specs.Names.{Bytes}
 use Rattle.asm_images.specs.Kept.{header_in}
 use Rattle.group_engine.specs.declared.attached.Attached.{Attached}
@@ -51,4 +51,4 @@ pub record IsReadyFor (asked : AskedCreation) (ids : List ℕ) (ready : Ready) (
 pub record Prepares (asked : AskedCreation) (result : Result Ready Refusal) (ids : List ℕ) (s t : BayState) : Type 0 where
   pub looks : LooksAtAll asked.slots result ids s t
   pub ready : IfOk result (λ ready. IsReadyFor asked ids ready s t)
-  pub cause : IfErr result (λ refusal. RefusalCause asked.paths asked.path (said (λ _. []) refusal) (counts_of s) (counts_of t))
+  pub cause : IfErr result (λ refusal. RefusalCause asked.paths asked.path (meaning_of (λ _. []) refusal) (counts_of s) (counts_of t))

@@ -6,7 +6,7 @@ use Rattle.bay.specs.Counts.{Rose}
 use Rattle.asm_group.specs.Names.{Bytes}
 use Rattle.asm_group.specs.Refusal as r
 use Rattle.asm_base.specs.declared.refusal.Refusal.{Refusal}
-use Rattle.asm_base.specs.Refusals.{said}
+use Rattle.asm_base.specs.Refusals.{meaning_of}
 use Rattle.asm_formats.specs.Header.{Header}
 use Rattle.asm_formats.specs.Regions.{most_units}
 use Rattle.asm_images.specs.Kept.{header_in}
@@ -54,4 +54,4 @@ IsUnusable path disk p other = ⊥
 
 -- It says this, or want of memory.
 abbrev pub SaysRefusal : r.Refusal → Refusal → Type 0
-SaysRefusal wanted given = (said (λ any. []) given ≡ wanted) ⊎ (said (λ any. []) given ≡ r.NoMemory)
+SaysRefusal wanted given = (meaning_of (λ any. []) given ≡ wanted) ⊎ (meaning_of (λ any. []) given ≡ r.NoMemory)

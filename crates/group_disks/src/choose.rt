@@ -3,7 +3,7 @@ ghost use Rattle.std.specs.Prelude.{◌≡◌, ◌==◌, ◌≤◌, ◌<◌, ◌
 ghost use Rattle.std.specs.List.{list_any};
 ghost use Rattle.bay.specs.Counts.{last_count};
 ghost use Rattle.asm_group.specs.Names.{is_name};
-ghost use Rattle.asm_base.specs.Refusals.{said};
+ghost use Rattle.asm_base.specs.Refusals.{meaning_of};
 ghost use Rattle.asm_group.specs.Refusal.{NoDisk, DiskTaken, TooSmall, WriteFault};
 ghost use Rattle.group_disks.specs.Probes.{IsUsableProbe, IsUnusable, SaysRefusal, size_shown};
 
@@ -20,7 +20,7 @@ const LEAST_UNITS: u32 = 25;
 /// The units of the disk that a look has shown, where it can be given to a new group.
 pub fn usable_units(alloc: Global, path: &[u8], disk: &Name, probe: Probe) -> Result<u32, Refusal>
     ensures ok { IfOk result (λ units. IsUsableProbe probe units) }
-    ensures cause { IfErr result (λ refusal. IsUnusable path.now disk.now probe (said (λ _. []) refusal)) }
+    ensures cause { IfErr result (λ refusal. IsUnusable path.now disk.now probe (meaning_of (λ _. []) refusal)) }
 {
     match probe {
         Probe::Absent => Err(no_disk(alloc, path)),

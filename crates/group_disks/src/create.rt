@@ -2,7 +2,7 @@
 ghost use Rattle.std.specs.Prelude.{◌≡◌, ◌≤◌, ◌<◌, [], IsTrue, map, length, IfErr, IfOk};
 ghost use Rattle.asm_group.specs.Names.{is_name};
 ghost use Rattle.std.specs.String.{string_bytes};
-ghost use Rattle.asm_base.specs.Refusals.{said};
+ghost use Rattle.asm_base.specs.Refusals.{meaning_of};
 ghost use Rattle.asm_group.specs.Refusal.{NoMemory};
 ghost use Rattle.asm_formats.specs.Regions.{most_units};
 ghost use Rattle.group_disks.specs.Gives.{FormsGroup};
@@ -131,7 +131,7 @@ fn make_ready(
     requires least { 25 ≤ units }
     requires most { units ≤ most_units }
     ensures ready { IfOk result (λ ready. IsMadeReady place name.now units id ready) }
-    ensures err { IfErr result (λ refusal. said (λ _. []) refusal ≡ NoMemory) }
+    ensures err { IfErr result (λ refusal. meaning_of (λ _. []) refusal ≡ NoMemory) }
 {
     let Ok(name) = name.copy() else {
         return Err(Refusal::NoMemory);

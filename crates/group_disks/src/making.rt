@@ -1,7 +1,7 @@
 //! An image is made anew, of zeros.
 ghost use Rattle.std.specs.Prelude.{◌≤◌, [], IfErr, OnOk, length, map};
 ghost use Rattle.std.specs.String.{string_bytes};
-ghost use Rattle.asm_base.specs.Refusals.{said};
+ghost use Rattle.asm_base.specs.Refusals.{meaning_of};
 ghost use Rattle.asm_group.specs.Refusal.{ReadFault};
 ghost use Rattle.group_disks.specs.FirstParts.{SparesAllBut};
 ghost use Rattle.group_disks.specs.Found.{counts_of};
@@ -31,7 +31,7 @@ fn read_fault(alloc: Global, path: &[u8]) -> Refusal
 /// Whether the image that was looked at may be made anew: it is absent, or has no open header.
 fn check_free(alloc: Global, path: &[u8], looked: Looked) -> Result<(), Refusal>
     ensures free { OnOk result (IsLookFree looked) }
-    ensures cause { IfErr result (λ refusal. IsNotFree path.now looked (said (λ _. []) refusal)) }
+    ensures cause { IfErr result (λ refusal. IsNotFree path.now looked (meaning_of (λ _. []) refusal)) }
 {
     match looked {
         Looked::Absent => Ok(()),
@@ -57,7 +57,7 @@ pub fn create_disk<B: Bay>(
     held: &[u32],
 ) -> Result<(), Refusal>
     requires few { length paths.now ≤ 512 }
-    ensures cause { IfErr result (λ refusal. MakeCause (map string_bytes paths.now) path.now held.now (said (λ _. []) refusal) (counts_of (B.state bay.old)) (counts_of (B.state bay.new))) }
+    ensures cause { IfErr result (λ refusal. MakeCause (map string_bytes paths.now) path.now held.now (meaning_of (λ _. []) refusal) (counts_of (B.state bay.old)) (counts_of (B.state bay.new))) }
     ensures made { OnOk result (IsImageMade (map string_bytes paths.now) path.now held.now size (B.state bay.old) (B.state bay.new)) }
     ensures attached { StaysBut (map string_bytes paths.now) path.now held.now (B.state bay.old) (B.state bay.new) }
     // No disk changes but that of the path, and none in a slot that is held.

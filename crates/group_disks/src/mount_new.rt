@@ -1,6 +1,6 @@
 // A new group is mounted as it was created: its parts are what was written.
 ghost use Rattle.std.specs.Prelude.{◌≡◌, [], Some, IfErr, IfOk};
-ghost use Rattle.asm_base.specs.Refusals.{said};
+ghost use Rattle.asm_base.specs.Refusals.{meaning_of};
 ghost use Rattle.asm_group.specs.Refusal.{NoMemory as WithoutMemory};
 ghost use Rattle.group_mount.specs.catalog_tables.Faults.{IsCatalogOf};
 ghost use Rattle.group_mount.specs.directory_store.Stores.{AreFirst};
@@ -70,7 +70,7 @@ pub fn mount_new<B: Bay>(
     requires attached { (B.state bay.now).attached disk.slot ≡ Some disk.size }
     requires store { IsFirstStore disk.slot group store (B.state bay.now) }
     ensures mounted { IfOk result (λ m. IsMountedOnSlot disk.slot group m (B.state bay.now)) }
-    ensures err { IfErr result (λ refusal. said (λ _. []) refusal ≡ WithoutMemory) }
+    ensures err { IfErr result (λ refusal. meaning_of (λ _. []) refusal ≡ WithoutMemory) }
 {
     let status = first_status(&group);
     let Ok(catalog) = first_catalog(alloc, &store, &group, &status) else {

@@ -50,7 +50,7 @@ use Rattle.directory_store.specs.Copying.{IsReadable, MayBringUp, MayTakeRecords
 use Rattle.directory_store.proofs.Joining.{still_keeps}
 use Rattle.directory_store.proofs.Renewing.{sized_now}
 use Rattle.status_register.specs.Elsewhere.{LeavesRegister}
-use Rattle.status_register.specs.Holders.{numbered}
+use Rattle.status_register.specs.Holders.{with_next_number}
 use Rattle.status_register.specs.SurveyLaws.{IsMemberOn}
 use Rattle.status_register.specs.Surveys.{disk_in}
 use Rattle.status_register.proofs.Elsewhere as register_proofs
@@ -400,7 +400,7 @@ module _ (n : ℕ) (m : MountedGroup) (s : BayState) (sound : IsSound s) (g : Gr
       → MayGet n m (record the_record { directories = more }) t g kept
   may_name has more with turns =
       let next : Status = record the_record { directories = more } in
-      let later : Status = numbered m.register next in
+      let later : Status = with_next_number m.register next in
       record {
         mounts = copied_mounts;
         may = record {

@@ -20,7 +20,7 @@ use Rattle.directory_store.specs.Contents.{HasCopyRecords}
 use Rattle.directory_store.specs.Copies.{RegionsOf}
 use Rattle.directory_store.specs.Stores.{Stored, HaveRecords, HaveEitherRecords}
 use Rattle.directory_store.proofs.Storing.{kept_have_records}
-use Rattle.status_register.specs.Holders.{numbered}
+use Rattle.status_register.specs.Holders.{with_next_number}
 use Rattle.group_engine.specs.Becoming.{HoldsIn, LeadsToGroup}
 use Rattle.group_engine.specs.CommitSteps.{content_of_items}
 use Rattle.group_engine.specs.Mounts.{MountedGroup, Mounts}
@@ -104,7 +104,7 @@ module _ (n : ℕ) (m : MountedGroup) (s : BayState) (g : Group) (kept : Kept) (
         (left_are : (c : DirCopy) → IsAmong m.store.copies c → IsAmong (elements fewer) c.number → IsAmong new.copies c)
         (some : (c : DirCopy) × IsAmong m.store.copies c × IsAmong (elements fewer) c.number) where
       abbrev without : Status
-      without = numbered m.register (record r { directories = fewer })
+      without = with_next_number m.register (record r { directories = fewer })
 
       abbrev first : Kept
       first = record { completed = r; begun = []; slots = kept.slots }

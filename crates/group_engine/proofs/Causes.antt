@@ -20,7 +20,7 @@ use Rattle.asm_formats.specs.Among.{IsAmong}
 use Rattle.rebalance.proofs.catalog_tables.TableItems.{from_map}
 use Rattle.directory_store.specs.change_directory.declared.copy.DirCopy.{DirCopy}
 use Rattle.directory_store.specs.Copies.{IsSlotOfCopy, RegionsOf}
-use Rattle.status_register.specs.Holders.{SlotsDiffer, attached_to, numbered}
+use Rattle.status_register.specs.Holders.{SlotsDiffer, attached_to, with_next_number}
 use Rattle.status_register.specs.Registered.{Registered}
 use Rattle.status_register.specs.Rows.{PutsRow, no_put, one_put}
 use Rattle.status_register.specs.Slots.{status_gate}
@@ -185,8 +185,8 @@ module _ (m : MountedGroup) (whole : IsWhole m) where
 
   pub written_own : {s t u : BayState} (next : Status) (answer : Result ℕ Dead) (reg : Registered) → Runs (IsOwn m) (OnOwnDisks m) s t → HasWritten m.register next answer reg t u → Runs (IsOwn m) (OnOwnDisks m) s u
   written_own {s} {t} {u} next answer reg before written = run_on (own_joins m) before
-      (run_less (own_member next) (row_own next (status_spelling (numbered m.register next)))
-      (row_runs (status_gate m.register.id) (attached_to m.register.members next) (status_spelling (numbered m.register next)) t u written.calls.runs))
+      (run_less (own_member next) (row_own next (status_spelling (with_next_number m.register next)))
+      (row_runs (status_gate m.register.id) (attached_to m.register.members next) (status_spelling (with_next_number m.register next)) t u written.calls.runs))
 
   -- ---- causes
 
@@ -223,10 +223,10 @@ module _ (m : MountedGroup) (whole : IsWhole m) where
       }
 
   pub dead_lost : (r : Status) (s t u : BayState) (next : Status) (answer : Result ℕ Dead) (dead : Dead) (number : ℕ) → ((k : ℕ) → s.faults k ≤ t.faults k) → answer ≡ Err dead
-      → IsWriteAnswer (attached_to m.register.members next) (numbered m.register next) answer t u
+      → IsWriteAnswer (attached_to m.register.members next) (with_next_number m.register next) answer t u
       → ((k : ℕ) → k < 64 → slot_at m.disks k ≡ Some dead.slot → slot_at m.disks number ≡ Some dead.slot) → IsLostIn m r number s u
   dead_lost r s t u next answer dead number before is answered found =
-      let a = subst (λ (x : Result ℕ Dead). IsWriteAnswer (attached_to m.register.members next) (numbered m.register next) x t u) is answered in
+      let a = subst (λ (x : Result ℕ Dead). IsWriteAnswer (attached_to m.register.members next) (with_next_number m.register next) x t u) is answered in
       let lost = a.3 in
       let k = lost.0 in
       let f = among_below m.register.members next 64 k lost.1.lost.attached in

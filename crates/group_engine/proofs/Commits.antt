@@ -22,7 +22,7 @@ use Rattle.directory_store.specs.Stores.{Stored, others}
 use Rattle.directory_store.specs.Stores as stores
 use Rattle.directory_store.specs.declared.error.StoreError.{StoreError}
 use Rattle.directory_store.proofs.Storing.{keeps_elsewhere}
-use Rattle.status_register.specs.Holders.{attached_to, next_turn, numbered}
+use Rattle.status_register.specs.Holders.{attached_to, next_turn, with_next_number}
 use Rattle.status_register.specs.Keeping as registers
 use Rattle.status_register.specs.Reaching.{Reaches}
 use Rattle.status_register.specs.Registered.{Registered}
@@ -91,7 +91,7 @@ module _ (m : MountedGroup) (whole : IsWhole m) (put : List DirectoryRecord) (go
       → IsWhole (record m { catalog = cat; store = new; register = reg })
   fewer_whole w answer reg writes taken ok =
       let next : Status = record m.register.value { directories = writes.fewer } in
-      let later : Registered = record m.register { value = numbered m.register next; turn = next_turn m.register.turn; is_fresh = false } in
+      let later : Registered = record m.register { value = with_next_number m.register next; turn = next_turn m.register.turn; is_fresh = false } in
       let is : reg ≡ later = writes.written.register ∙ ap (λ (a : Result ℕ Dead). after_write m.register next a) ok in
       let reaches : Reaches reg.members reg.value = subst (λ (a : Result ℕ Dead). OnOk a (Reaches reg.members reg.value)) ok writes.written.reaches in
       subst (λ (x : Registered). IsWhole (record m { catalog = cat; store = new; register = x })) (sym is)
@@ -102,7 +102,7 @@ module _ (m : MountedGroup) (whole : IsWhole m) (put : List DirectoryRecord) (go
 pub keeps_over_row : (m : MountedGroup) (new : Stored) (next : Status) (t w : BayState) (answer : Result ℕ Dead) (reg : Registered) → HasWritten m.register next answer reg t w → stores.Keeps new t → stores.Keeps new w
 keeps_over_row m new next t w answer reg written keeps =
     let ms = attached_to m.register.members next in
-    let body = status_spelling (numbered m.register next) in
+    let body = status_spelling (with_next_number m.register next) in
     keeps_elsewhere new (λ x y c among row. row_region m.register.id ms body x y c row) written.calls.attached (row_runs (status_gate m.register.id) ms body t w written.calls.runs) keeps
 
 -- ---- what each image is held for
@@ -173,7 +173,7 @@ module _ (m : MountedGroup) (put : List DirectoryRecord) (gone : List Key) (n : 
     one_left : (d : DirCopy) × IsAmong m.store.copies d × IsAmong (elements fewer) d.number
     one_left = some_left m mounts.whole cat new the_tried applies.shape the_units failed fewer writes.small writes.without copies first.0 first.1
 
-    abbrev allowed : IsTrue (is_status (numbered m.register next))
+    abbrev allowed : IsTrue (is_status (with_next_number m.register next))
     allowed = writes.written.allowed
 
     both_are : NowOnly t (IsHeld n id (g ∷ h ∷ []) (record { completed = r; begun = []; slots = kept.slots }))
@@ -188,8 +188,8 @@ module _ (m : MountedGroup) (put : List DirectoryRecord) (gone : List Key) (n : 
           (have_slots t m.register.members next (still_ready m (record m { store = new }) s t refl refl commits.kept commits.attached mounts.ready).register.slots k among) image left;
     }
 
-    run : Runs (tallies.IsSlotOf ms) (PutsRow (status_gate id) ms (status_spelling (numbered m.register next))) t w
-    run = row_runs (status_gate id) ms (status_spelling (numbered m.register next)) t w writes.written.calls.runs
+    run : Runs (tallies.IsSlotOf ms) (PutsRow (status_gate id) ms (status_spelling (with_next_number m.register next))) t w
+    run = row_runs (status_gate id) ms (status_spelling (with_next_number m.register next)) t w writes.written.calls.runs
 
     the_moments : LeavesOnly t w (StandsIn n id (g ∷ h ∷ []) (record { completed = r; begun = []; slots = kept.slots }))
     the_moments = record_moments n (g ∷ h ∷ []) kept.slots m.register reg next answer_2 t w sound to.turns allowed register_keeps both_are long run writes.written.history
@@ -201,11 +201,11 @@ module _ (m : MountedGroup) (put : List DirectoryRecord) (gone : List Key) (n : 
     pub dropped_done : (taken : ℕ) → answer_2 ≡ Ok taken → IsWhole (record m { catalog = cat; store = new; register = reg })
         → (k : Kept) × (k.slots ≡ kept.slots) × Mounts n (record m { catalog = cat; store = new; register = reg }) w h k
     dropped_done taken ok whole =
-        let later : Registered = record m.register { value = numbered m.register next; turn = next_turn m.register.turn; is_fresh = false } in
+        let later : Registered = record m.register { value = with_next_number m.register next; turn = next_turn m.register.turn; is_fresh = false } in
         let is : reg ≡ later = writes.written.register ∙ ap (λ (a : Result ℕ Dead). after_write m.register next a) ok in
         let kept_later : Kept = record { completed = later.value; begun = []; slots = kept.slots } in
         let after_it : registers.FitsRegister n reg (Some reg.value) [] w = subst
-        (λ (a : Result ℕ Dead). MatchResult a (λ f. registers.FitsRegister n reg (Some reg.value) [] w) (λ dead. registers.FitsRegister n reg (Some r) ([] ++ numbered m.register next ∷ []) w)) ok
+        (λ (a : Result ℕ Dead). MatchResult a (λ f. registers.FitsRegister n reg (Some reg.value) [] w) (λ dead. registers.FitsRegister n reg (Some r) ([] ++ with_next_number m.register next ∷ []) w)) ok
         (history_wide n (g ∷ h ∷ []) kept.slots m.register reg next answer_2 t w sound to.turns allowed register_keeps both_are long run writes.written.history n (omega arith)).after in
         let done = record_done n (g ∷ h ∷ []) kept.slots m.register reg next answer_2 t w sound to.turns allowed register_keeps both_are long run writes.written.history
         taken ok (ap (λ (x : Registered). x.value) is) (ap (λ (x : Registered). x.id) is) (h ∷ [])

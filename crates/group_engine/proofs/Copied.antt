@@ -31,7 +31,7 @@ use Rattle.directory_store.specs.Stores.{Stored}
 use Rattle.directory_store.specs.Stores as stores
 use Rattle.directory_store.proofs.Storing.{kept_have_records}
 use Rattle.directory_store.specs.page_map.Tables.{PageTable}
-use Rattle.status_register.specs.Holders.{is_of, next_turn, numbered}
+use Rattle.status_register.specs.Holders.{is_of, next_turn, with_next_number}
 use Rattle.status_register.specs.Reaching.{Reaches}
 use Rattle.status_register.specs.Registered.{Registered, is_same_birth}
 use Rattle.status_register.specs.Writes.{after_write}
@@ -163,19 +163,19 @@ module _ (m : MountedGroup) (whole : IsWhole m) (s : BayState) (ready : IsReady 
         next = record m.register.value { directories = writes.more }
 
         abbrev later : Registered
-        later = record m.register { value = numbered m.register next; turn = next_turn m.register.turn; is_fresh = false }
+        later = record m.register { value = with_next_number m.register next; turn = next_turn m.register.turn; is_fresh = false }
 
         abbrev now : MountedGroup
         now = record m { store = new; register = reg }
 
-        more_copies : AreCopiesOf (numbered m.register next) m.register.members m.catalog.shape new.copies
+        more_copies : AreCopiesOf (with_next_number m.register next) m.register.members m.catalog.shape new.copies
         more_copies = record {
           each = λ k among. ⊎_elim
               (λ was.
               let is = whole.copies.each k was in
               shaped_copy refl refl (with_element writes.more m.register.value.directories d writes.with k.number is.named) is)
               (λ put. ⊎_elim
-              (λ (same : k ≡ c). subst (λ (x : DirCopy). IsCopyOf (numbered m.register next) m.register.members m.catalog.shape x) (sym same) own_copy)
+              (λ (same : k ≡ c). subst (λ (x : DirCopy). IsCopyOf (with_next_number m.register next) m.register.members m.catalog.shape x) (sym same) own_copy)
               (λ none. absurd none)
               put)
               (among_split m.store.copies (c ∷ []) k (subst (λ (l : List DirCopy). IsAmong l k) copies among));
@@ -187,7 +187,7 @@ module _ (m : MountedGroup) (whole : IsWhole m) (s : BayState) (ready : IsReady 
               (which writes.more m.register.value.directories d writes.with k h);
         }
           where
-            own_copy : IsCopyOf (numbered m.register next) m.register.members m.catalog.shape c
+            own_copy : IsCopyOf (with_next_number m.register next) m.register.members m.catalog.shape c
             own_copy = record {
               named = subst (λ (k : ℕ). IsAmong (elements writes.more) k) (sym one.number) (element_of writes.more d one.small (own_bit writes.more m.register.value.directories d writes.with one.small));
               member = one.member;

@@ -23,7 +23,7 @@ use Rattle.directory_store.specs.Stores.{Stored, others}
 use Rattle.directory_store.specs.Stores as stores
 use Rattle.directory_store.proofs.Storing.{left_is}
 use Rattle.status_register.specs.Elsewhere.{LeavesRegister}
-use Rattle.status_register.specs.Holders.{HoldSlots, SlotsDiffer, is_of, next_turn, numbered}
+use Rattle.status_register.specs.Holders.{HoldSlots, SlotsDiffer, is_of, next_turn, with_next_number}
 use Rattle.status_register.specs.Keeping as registers
 use Rattle.status_register.specs.Reaching.{Reaches}
 use Rattle.status_register.specs.Registered.{Registered}
@@ -112,13 +112,13 @@ module _ (m : MountedGroup) (whole : IsWhole m) (cat : Catalogued) (new : Stored
     next = record r { directories = fewer }
 
     abbrev pub later : Registered
-    later = record m.register { value = numbered m.register next; turn = next_turn m.register.turn; is_fresh = false }
+    later = record m.register { value = with_next_number m.register next; turn = next_turn m.register.turn; is_fresh = false }
 
     less : (d : ℕ) → IsAmong (elements fewer) d → IsAmong (elements r.directories) d
     less d in_fewer = bit_element fewer r.directories d in_fewer (is_less fewer r.directories failed without d in_fewer).0
 
     -- the copies that are left are those that the record names
-    pub left_copies : AreCopiesOf (numbered m.register next) m.register.members cat.shape new.copies
+    pub left_copies : AreCopiesOf (with_next_number m.register next) m.register.members cat.shape new.copies
     left_copies = record {
       each = λ c among.
           let was = left_is failed m.store.copies c (subst (λ (l : List DirCopy). IsAmong l c) copies among) in
@@ -139,7 +139,7 @@ module _ (m : MountedGroup) (whole : IsWhole m) (cat : Catalogued) (new : Stored
     pub some_left : (c : DirCopy) → IsAmong new.copies c → (d : DirCopy) × IsAmong m.store.copies d × IsAmong (elements fewer) d.number
     some_left c among = (c, (left_is failed m.store.copies c (subst (λ (l : List DirCopy). IsAmong l c) copies among)).0, (left_copies.each c among).named)
 
-    pub whole_fewer : IsTrue (is_status (numbered m.register next)) → Reaches later.members later.value → IsWhole (record m { catalog = cat; store = new; register = later })
+    pub whole_fewer : IsTrue (is_status (with_next_number m.register next)) → Reaches later.members later.value → IsWhole (record m { catalog = cat; store = new; register = later })
     whole_fewer allowed reached = record {
       are_tables = tried.are;
       tables = tried.tables;

@@ -23,7 +23,7 @@ use Rattle.asm_images.proofs.Membership.{among_within}
 use Rattle.asm_images.proofs.Slots.{fewer_slots_are_sound}
 use Rattle.asm_images.proofs.Replacing.{replaced, replaced_keeps, members_replaced, within_map}
 use Rattle.status_register.specs.History.{FitsHistory}
-use Rattle.status_register.specs.Holders.{attached_to, numbered}
+use Rattle.status_register.specs.Holders.{attached_to, with_next_number}
 use Rattle.status_register.specs.Keeping.{EpochStands, KeepsOn, KeepsWritten}
 use Rattle.status_register.specs.Keeping as registers
 use Rattle.status_register.specs.Registered.{Registered}
@@ -196,11 +196,11 @@ wider_stands : (n b id epoch : ℕ) (g : Status) (image : bay.Image) → n ≤ b
 wider_stands n b id epoch g image le stands = record { on = stands.on; members = λ m h. wider_member n b id image m le (stands.members m h); shown = stands.shown; enough = stands.enough }
 
 module _ (n : ℕ) (groups : List Group) (slots_of : ℕ → Bool) (register later : Registered) (next : Status) (answer : Result ℕ Dead) (s t : BayState) (sound : IsSound s)
-    (room : register.turn + 1 < 2 ^ 64) (allowed : IsTrue (is_status (numbered register next)))
+    (room : register.turn + 1 < 2 ^ 64) (allowed : IsTrue (is_status (with_next_number register next)))
     (keeps : registers.FitsRegister n register (Some register.value) [] s)
     (now : NowOnly s (IsHeld n register.id groups (record { completed = register.value; begun = []; slots = slots_of })))
     (long : NowOnly s (AreLong (attached_to register.members next))) {on : ℕ → Type 0}
-    (run : Runs on (PutsRow (status_gate register.id) (attached_to register.members next) (status_spelling (numbered register next))) s t)
+    (run : Runs on (PutsRow (status_gate register.id) (attached_to register.members next) (status_spelling (with_next_number register next))) s t)
     (history : KeepsWritten register next answer later s t) where
   abbrev id : ℕ
   id = register.id
@@ -209,7 +209,7 @@ module _ (n : ℕ) (groups : List Group) (slots_of : ℕ → Bool) (register lat
   v = register.value
 
   abbrev r : Status
-  r = numbered register next
+  r = with_next_number register next
 
   -- the register keeps the history in any wide view
   keeps_wide : (b : ℕ) → n ≤ b → registers.FitsRegister b register (Some v) [] s

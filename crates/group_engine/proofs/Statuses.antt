@@ -20,7 +20,7 @@ use Rattle.directory_store.specs.Stores as stores
 use Rattle.directory_store.specs.page_map.Tables.{PageTable}
 use Rattle.asm_base.specs.Records.{record_at}
 use Rattle.asm_formats.specs.Among.{IsAmong}
-use Rattle.status_register.specs.Holders.{attached_to, next_turn, numbered}
+use Rattle.status_register.specs.Holders.{attached_to, next_turn, with_next_number}
 use Rattle.status_register.specs.Keeping as registers
 use Rattle.status_register.specs.Reaching.{Reaches}
 use Rattle.status_register.specs.Registered.{Registered}
@@ -79,7 +79,7 @@ pub status_whole : (m : MountedGroup) (whole : IsWhole m) (next : Status) (is_ne
     (written : HasWritten m.register next answer reg s t) (taken : ℕ) → answer ≡ Ok taken → (cat : Catalogued) → cat.tables ≡ m.catalog.tables → cat.shape ≡ m.catalog.shape
     → HasUnits cat.shape next.entries cat.tables cat.units → (new : Stored) → KeepsNamed m.store new m.disks next.directories 64 → IsWhole (record m { catalog = cat; store = new; register = reg })
 status_whole m w next is_next s t ready answer reg written taken is_ok cat tables shape units new left =
-    let later : Registered = record m.register { value = numbered m.register next; turn = next_turn m.register.turn; is_fresh = false } in
+    let later : Registered = record m.register { value = with_next_number m.register next; turn = next_turn m.register.turn; is_fresh = false } in
     let is : reg ≡ later = written.register ∙ ap (λ (a : Result ℕ Dead). after_write m.register next a) is_ok in
     let reaches : Reaches reg.members reg.value = subst (λ (a : Result ℕ Dead). OnOk a (Reaches reg.members reg.value)) is_ok written.reaches in
     let copies = left_copies m s w ready next is_next.copies new left in
@@ -121,14 +121,14 @@ module _ (n : ℕ) (m : MountedGroup) (next : Status) (s t : BayState) (sound : 
   stand : NowOnly s (IsHeld n id (g ∷ []) first)
   stand = record { now = λ y left. subst (λ (k : Kept). IsHeld n id (g ∷ []) k y) (sym (kept_is n m s g kept mounts)) (mounts.now.now y left) }
 
-  may : NowOnly s (MayBeWritten n id (g ∷ []) first (numbered m.register next))
-  may = record { now = λ y left. subst (λ (k : Kept). MayBeWritten n id (g ∷ []) k (numbered m.register next) y) (sym (kept_is n m s g kept mounts)) (gets.may.now y left) }
+  may : NowOnly s (MayBeWritten n id (g ∷ []) first (with_next_number m.register next))
+  may = record { now = λ y left. subst (λ (k : Kept). MayBeWritten n id (g ∷ []) k (with_next_number m.register next) y) (sym (kept_is n m s g kept mounts)) (gets.may.now y left) }
 
   long : NowOnly s (AreLong ms)
   long = record { now = λ image left k among. slots_long k.slot k.sector sound (have_slots s m.register.members next mounts.ready.register.slots k among) image left }
 
-  run : Runs (tallies.IsSlotOf ms) (PutsRow (status_gate id) ms (status_spelling (numbered m.register next))) s t
-  run = row_runs (status_gate id) ms (status_spelling (numbered m.register next)) s t written.calls.runs
+  run : Runs (tallies.IsSlotOf ms) (PutsRow (status_gate id) ms (status_spelling (with_next_number m.register next))) s t
+  run = row_runs (status_gate id) ms (status_spelling (with_next_number m.register next)) s t written.calls.runs
 
   -- While the record is put, each image is held for the group.
   pub status_moments : LeavesOnly s t (StandsIn n id (g ∷ []) kept)
@@ -140,11 +140,11 @@ module _ (n : ℕ) (m : MountedGroup) (next : Status) (s t : BayState) (sound : 
       → (new : Stored) → stores.Keeps new t → IsWhole (record m { catalog = cat; store = new; register = reg })
       → (k : Kept) × (k.slots ≡ kept.slots) × Mounts n (record m { catalog = cat; store = new; register = reg }) t g k
   status_done taken is_ok cat tables shape new keeps whole =
-      let later : Registered = record m.register { value = numbered m.register next; turn = next_turn m.register.turn; is_fresh = false } in
+      let later : Registered = record m.register { value = with_next_number m.register next; turn = next_turn m.register.turn; is_fresh = false } in
       let is : reg ≡ later = written.register ∙ ap (λ (a : Result ℕ Dead). after_write m.register next a) is_ok in
       let kept_later : Kept = record { completed = later.value; begun = []; slots = kept.slots } in
       let after : registers.FitsRegister n reg (Some reg.value) [] t = subst
-      (λ (a : Result ℕ Dead). MatchResult a (λ f. registers.FitsRegister n reg (Some reg.value) [] t) (λ dead. registers.FitsRegister n reg (Some r) ([] ++ numbered m.register next ∷ []) t)) is_ok
+      (λ (a : Result ℕ Dead). MatchResult a (λ f. registers.FitsRegister n reg (Some reg.value) [] t) (λ dead. registers.FitsRegister n reg (Some r) ([] ++ with_next_number m.register next ∷ []) t)) is_ok
       (history_wide n (g ∷ []) kept.slots m.register reg next answer s t sound gets.turns written.allowed mounts.register stand long run written.history n (omega arith)).after in
       let done = record_done n (g ∷ []) kept.slots m.register reg next answer s t sound gets.turns written.allowed mounts.register stand long run written.history
       taken is_ok (ap (λ (x : Registered). x.value) is) (ap (λ (x : Registered). x.id) is) (g ∷ []) may in
@@ -157,7 +157,7 @@ module _ (n : ℕ) (m : MountedGroup) (next : Status) (s t : BayState) (sound : 
           represents = record {
             name = mounts.represents.name;
             shape = mounts.represents.shape ∙ sym shape;
-            describes = λ items are. entries_describe next (numbered m.register next) items g refl (gets.describes items (subst (λ (u : Tables). AreItemsOf u items) tables are));
+            describes = λ items are. entries_describe next (with_next_number m.register next) items g refl (gets.describes items (subst (λ (u : Tables). AreItemsOf u items) tables are));
           };
           own = mounts.own;
           completed = refl;

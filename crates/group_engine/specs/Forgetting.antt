@@ -3,7 +3,7 @@ use Rattle.std.specs.Prelude.{◌≡◌, ℕ, ◌<◌, ◌≤◌, Bool, true, fa
 use Rattle.asm_formats.specs.Sets.{has_bit}
 use Rattle.asm_formats.specs.Among.{IsAmong}
 use Rattle.directory_store.specs.change_directory.declared.copy.DirCopy.{DirCopy}
-use Rattle.directory_store.specs.Stores.{Stored, without}
+use Rattle.directory_store.specs.Stores.{Stored, without_copies}
 use Rattle.group_engine.specs.Mounts.{slot_at}
 use Rattle.group_engine.specs.declared.attached.Attached.{Attached}
 
@@ -11,7 +11,7 @@ use Rattle.group_engine.specs.declared.attached.Attached.{Attached}
 abbrev pub Forgets : Bool → Option Attached → Stored → Stored → Type 0
 Forgets true place old new = new ≡ old
 Forgets false None old new = new ≡ old
-Forgets false (Some attached) old new = new ≡ without attached.slot old
+Forgets false (Some attached) old new = new ≡ without_copies attached.slot old
 
 -- the copy is on one of the first disks that aren't in the set
 abbrev pub IsUnnamed : List (Option Attached) → ℕ → ℕ → DirCopy → Type 0

@@ -13,8 +13,8 @@ use Rattle.group_engine.specs.declared.access.Access.TheVariants.{Mounted, Dismo
 use Rattle.group_engine.specs.declared.attached.Attached.{Attached}
 
 -- a group that takes calls, of these parts
-abbrev pub made : Bytes → Catalogued → Stored → Registered → List (Option Attached) → MountedGroup
-made name catalog store register disks = record {
+abbrev pub group_of_parts : Bytes → Catalogued → Stored → Registered → List (Option Attached) → MountedGroup
+group_of_parts name catalog store register disks = record {
   name = name;
   catalog = catalog;
   store = store;

@@ -16,7 +16,7 @@ use Rattle.asm_images.specs.Members.{Member, all_members, within}
 use Rattle.asm_images.specs.Register.{is_enough}
 use Rattle.asm_images.specs.Sound.{IsCovered}
 use Rattle.rebalance.specs.catalog_tables.Items.{AreItemsOf}
-use Rattle.status_register.specs.Holders.{numbered}
+use Rattle.status_register.specs.Holders.{with_next_number}
 use Rattle.group_engine.specs.Mounts.{MountedGroup, Mounts}
 
 -- these members are enough for the record, it isn't gone, and one of its copies there has a content
@@ -37,7 +37,7 @@ pub record MayBeWritten (n id : ℕ) (groups : List Group) (kept : Kept) (next :
 -- A mounted group may get another status record, with which it stays what it is.
 pub record MayGet (n : ℕ) (m : MountedGroup) (next : Status) (s : BayState) (g : Group) (kept : Kept) : Type 0 where
   pub mounts : Mounts n m s g kept
-  pub may : NowOnly s (MayBeWritten n m.register.id (g ∷ []) kept (numbered m.register next))
+  pub may : NowOnly s (MayBeWritten n m.register.id (g ∷ []) kept (with_next_number m.register next))
   pub describes : (items : List Item) → AreItemsOf m.catalog.tables items → DescribesGroup next items g
   -- turns don't run out
   pub turns : m.register.turn + 1 < 2 ^ 64

@@ -12,7 +12,7 @@ use Rattle.directory_store.specs.change_directory.declared.copy.DirCopy.{DirCopy
 use Rattle.asm_group.specs.Group.{Group}
 use Rattle.asm_images.specs.Kept.{Kept}
 use Rattle.rebalance.specs.catalog_tables.Placing.{HasUnits, HaveSameUnits}
-use Rattle.status_register.specs.Holders.{numbered}
+use Rattle.status_register.specs.Holders.{with_next_number}
 use Rattle.status_register.specs.Reaching.{Reaches}
 use Rattle.group_engine.specs.Commits.{StandsIn, StatusCause, turns_at_most}
 use Rattle.group_engine.specs.Mounts.{HaveBirths, IsCopyOf, IsMounted, MountedGroup, Mounts}
@@ -45,7 +45,7 @@ pub record WritesStatus (old : MountedGroup) (next : Status) (answer : Result (U
   pub tables : new.catalog.tables ≡ old.catalog.tables
   pub units : HaveSameUnits old.register.value.entries next.entries → new.catalog.units ≡ old.catalog.units
   pub mounted : OnOk answer (IsMounted new)
-  pub recorded : OnOk answer (new.register.value ≡ numbered old.register next)
+  pub recorded : OnOk answer (new.register.value ≡ with_next_number old.register next)
   pub cause : IfErr answer (StatusCause old new s t)
   pub moments : (n : ℕ) (g : Group) (kept : Kept) → MayGet n old next s g kept → LeavesOnly s t (StandsIn n old.register.id (g ∷ []) kept)
   pub done : OnOk answer ((n : ℕ) (g : Group) (kept : Kept) → MayGet n old next s g kept

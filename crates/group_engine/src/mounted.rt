@@ -4,7 +4,7 @@ ghost use Rattle.std.specs.Bool.{OnFalse, OnTrue};
 ghost use Rattle.std.specs.Option.{option_map};
 ghost use Rattle.rebalance.specs.catalog_tables.Rules.{AreOnRegular};
 ghost use Rattle.group_engine.specs.declared.attached.Attached.{Attached as AttachedDisk};
-ghost use Rattle.group_engine.specs.Making.{IsShut, access_after_closing, dismounted_by, made};
+ghost use Rattle.group_engine.specs.Making.{IsShut, access_after_closing, dismounted_by, group_of_parts};
 ghost use Rattle.group_engine.specs.Mounts.{IsMounted, IsWhole, slot_at};
 ghost use Rattle.group_engine.specs.Searches.{IsNextMove};
 
@@ -55,8 +55,8 @@ impl Mounted {
         register: Register,
         disks: [Option<Attached>; 64],
     ) -> Mounted
-        requires { IsWhole (made name catalog store register disks) }
-        ensures { result ≡ made name catalog store register disks }
+        requires { IsWhole (group_of_parts name catalog store register disks) }
+        ensures { result ≡ group_of_parts name catalog store register disks }
     {
         Mounted {
             name,

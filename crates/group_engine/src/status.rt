@@ -4,7 +4,7 @@ ghost use Rattle.bay.specs.Moments.{LeavesOnly};
 ghost use Rattle.asm_group.specs.Group.{Group};
 ghost use Rattle.asm_images.specs.Kept.{Kept};
 ghost use Rattle.rebalance.specs.catalog_tables.Placing.{HaveSameUnits};
-ghost use Rattle.status_register.specs.Holders.{numbered};
+ghost use Rattle.status_register.specs.Holders.{with_next_number};
 ghost use Rattle.group_engine.specs.Commits.{StandsIn, StatusCause, turns_at_most};
 ghost use Rattle.group_engine.specs.Mounts.{IsMounted, IsReady, IsWhole, Mounts};
 ghost use Rattle.group_engine.specs.Own.{KeepsGroup};
@@ -44,7 +44,7 @@ impl Mounted {
         ensures units { HaveSameUnits self.old.register.value.entries next.now.entries → self.new.catalog.units ≡ self.old.catalog.units }
         // Once it is done, the group takes calls still, and the record holds under the next number.
         ensures mounted { OnOk result (IsMounted self.new) }
-        ensures recorded { OnOk result (self.new.register.value ≡ numbered self.old.register next.now) }
+        ensures recorded { OnOk result (self.new.register.value ≡ with_next_number self.old.register next.now) }
         ensures cause { IfErr result (StatusCause self.old self.new (B.state bay.old) (B.state bay.new)) }
         // Each image of each moment is held for the group.
         ensures moments { IsMounted self.old → (n : ℕ) (g : Group) (kept : Kept) → MayGet n self.old next.now (B.state bay.old) g kept

@@ -16,7 +16,7 @@ use Rattle.status_table.specs.Rules.{number_of_entry}
 use Rattle.status_table.proofs.Allowed.{entry_fits, entry_is, parts_of, parts_are}
 use Rattle.status_table.proofs.Kept.{kept_more}
 use Rattle.group_mount.specs.Missing.{has_disk_of_entry, is_missing}
-use Rattle.group_mount.specs.NextRecord.{entry_after_mount, moded}
+use Rattle.group_mount.specs.NextRecord.{entry_after_mount, entry_when_mounted}
 use Rattle.group_mount.specs.declared.quorum.Quorate.{Quorate}
 use Rattle.asm_images.proofs.Bare.{same_entry}
 
@@ -52,20 +52,20 @@ module _ (q : Quorate) (marked now : ℕ) where
   abbrev repair : ℕ
   repair = q.catalog.tables.templates.settings.attributes.repair
 
-  pub moded_bare : (e : Entry) → bare (moded q marked now e) ≡ bare e
+  pub moded_bare : (e : Entry) → bare (entry_when_mounted q marked now e) ≡ bare e
   moded_bare e = after_has (λ (x : Entry). bare x ≡ bare e) (is_missing q.id q.headed.items e) (has_bit marked e.number) now repair e refl refl refl
 
-  pub moded_forced : (e : Entry) → is_forced e.mode ≡ true → is_forced (moded q marked now e).mode ≡ true
+  pub moded_forced : (e : Entry) → is_forced e.mode ≡ true → is_forced (entry_when_mounted q marked now e).mode ≡ true
   moded_forced e is =
       let no = forced_serves e.mode is in
       (λ i. is_forced (cond (no.0 i && not (has_disk_of_entry q.id q.headed.items e)) (record e { mode = Offline; since = now; repair = repair })
       (cond (no.1 i && has_bit marked e.number) (record e { mode = Syncing }) e)).mode) ∙ is
 
   -- the loop over the entries
-  pub more_moded : (xs ys : List Entry) (i : ℕ) (x y : Entry) → i < length xs → i < length ys → take i ys ≡ map (moded q marked now) (take i xs)
-      → x ≡ get_or xs i x → y ≡ moded q marked now x → take (i + 1) (set ys i y) ≡ map (moded q marked now) (take (i + 1) xs)
+  pub more_moded : (xs ys : List Entry) (i : ℕ) (x y : Entry) → i < length xs → i < length ys → take i ys ≡ map (entry_when_mounted q marked now) (take i xs)
+      → x ≡ get_or xs i x → y ≡ entry_when_mounted q marked now x → take (i + 1) (set ys i y) ≡ map (entry_when_mounted q marked now) (take (i + 1) xs)
   more_moded xs ys i x y within room so_far read is =
-      take_more_set ys i y room ∙ rw (so_far, is, map_more (moded q marked now) xs i x within, ← read) refl
+      take_more_set ys i y room ∙ rw (so_far, is, map_more (entry_when_mounted q marked now) xs i x within, ← read) refl
 
 pub more_kept : (xs ys : List Entry) (i : ℕ) (x y : Entry) → i < length xs → i < length ys → x ≡ get_or xs i x → (is_entry x ≡ true → is_entry y ≡ true)
     → (list_all is_entry xs ≡ true → list_all is_entry (take i ys) ≡ true) → list_all is_entry xs ≡ true → list_all is_entry (take (i + 1) (set ys i y)) ≡ true
@@ -115,7 +115,7 @@ with_entries_kept r es same all ok =
       of_directories = all_have es r.entries (elements r.directories) same ∙ p.of_directories;
     })
 
-pub moded_all : (q : Quorate) (marked now : ℕ) (es : List Entry) → map bare (map (moded q marked now) es) ≡ map bare es
+pub moded_all : (q : Quorate) (marked now : ℕ) (es : List Entry) → map bare (map (entry_when_mounted q marked now) es) ≡ map bare es
 moded_all q marked now [] = refl
 moded_all q marked now (e ∷ es) = λ i. moded_bare q marked now e i ∷ moded_all q marked now es i
 
@@ -125,7 +125,7 @@ partners_all all (e ∷ es) = ap (λ (l : List Bare). bare e ∷ l) (partners_al
 
 -- the record with the entries that the loop gives
 pub moded_kept : (q : Quorate) (marked now : ℕ) (r : Status) (es made : List Entry) (after : Status) → es ≡ r.entries
-    → take (length es) made ≡ map (moded q marked now) es → (list_all is_entry es ≡ true → list_all is_entry (take (length es) made) ≡ true)
+    → take (length es) made ≡ map (entry_when_mounted q marked now) es → (list_all is_entry es ≡ true → list_all is_entry (take (length es) made) ≡ true)
     → after ≡ record r { entries = take (length es) made } → is_status r ≡ true → is_status after ≡ true
 moded_kept q marked now r es made after same is kept whole ok =
     subst (λ (x : Status). is_status x ≡ true) (sym whole)

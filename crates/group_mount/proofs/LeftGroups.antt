@@ -30,9 +30,9 @@ use Rattle.asm_images.proofs.Membership.{among_filtered}
 use Rattle.directory_store.specs.change_directory.declared.copy.DirCopy.{DirCopy}
 use Rattle.directory_store.specs.change_directory.Changes.{content_in}
 use Rattle.directory_store.proofs.Present.{disk_has, has_of_disk}
-use Rattle.status_register.specs.Holders.{is_of, numbered}
+use Rattle.status_register.specs.Holders.{is_of, with_next_number}
 use Rattle.status_register.specs.Keeping as registers
-use Rattle.status_register.specs.Registered.{Registered, registered}
+use Rattle.status_register.specs.Registered.{Registered, register_of}
 use Rattle.status_register.specs.SurveyLaws.{IsMemberOn, slots_of}
 use Rattle.status_register.specs.Surveys.{disk_in, missing}
 use Rattle.status_register.specs.Tallies.{IsSlotOf}
@@ -178,7 +178,7 @@ module _ (q : Quorate) (s : BayState) (quorum : IsQuorum q s) where
 
   module _ (now : ℕ) (next : Status) (made : IsNextRecord q now next) (ok : IsTrue (is_status next)) (groups : List Group) (may : StoodFor q groups s) where
     abbrev v : Status
-    v = numbered (registered q.survey) next
+    v = with_next_number (register_of q.survey) next
 
     abbrev mount : MountReading
     mount = mount_of q.survey next taken
@@ -393,14 +393,14 @@ module _ (q : Quorate) (s : BayState) (quorum : IsQuorum q s) where
   -- ---- all of it
 
   pub leaves_one : (now : ℕ) (a : Anew) → IsAnew q now a → (groups : List Group) → StoodFor q groups s → (register : Registered)
-      → register ≡ first_register (numbered (registered q.survey) a.next) (own_members q.id a.next.entries q.headed.items) → (t : BayState) → KeepsAttached s t
+      → register ≡ first_register (with_next_number (register_of q.survey) a.next) (own_members q.id a.next.entries q.headed.items) → (t : BayState) → KeepsAttached s t
       → Runs (IsSlotOf q.survey.members) (ChangesOnly (FrontOf q.survey.members)) s t
       → ((content : Content) → HoldsOneGroup (mount_of q.survey a.next content) s t) → ((content : Content) → KeepsAnyRegister (mount_of q.survey a.next content) register s t)
       → LeavesOneGroup q groups (record { name = a.name; id = q.id; shape = q.shape; catalog = q.catalog; store = q.store; register = register; disks = a.disks }) s t
   leaves_one now a is groups may register same t attached run one kept =
       let own = own_members q.id a.next.entries q.headed.items in
       let enough : missing own (Some a.next) ≡ None = subst (λ (l : List Member). missing l (Some a.next) ≡ None) is.members is.enough in
-      let value : register.value ≡ numbered (registered q.survey) a.next = ap (λ (x : Registered). x.value) same in
+      let value : register.value ≡ with_next_number (register_of q.survey) a.next = ap (λ (x : Registered). x.value) same in
       let slots : is_own_slot a.disks.items ≡ slots_of own =
       λ i slot. (ap (λ (l : List (Member × ℕ)). is_own_slot l slot) is.disks ∙ same_slots q.id a.next.entries q.headed.items slot) i in
       record {

@@ -53,7 +53,7 @@ use Rattle.status_register.proofs.Seeing.{shows_record}
 use Rattle.group_mount.specs.Bringing.{MayTake}
 use Rattle.group_mount.specs.Histories.{IsSoundBelow}
 use Rattle.group_mount.specs.Leaving.{LeavesUsers}
-use Rattle.group_mount.specs.Mounting.{MountReading, mount_claim, NamesCopy, IsMount, HasTakenContent, IsMountRead, HasClaimed, HasRecorded, BringsUp, BringsAll, none_brought_up, one_more_copy, own, IsCopying, MayMount, claiming, recording, copying, HasMounted, IsSource, Allows, MountingKeeps, DescribesIn, MountedIsHeld, ReadMeansOne, OneGroupIsMeant, IsRegisterOf, RecordedHasHistory, RecordedIsMounted}
+use Rattle.group_mount.specs.Mounting.{MountReading, mount_claim, NamesCopy, IsMount, HasTakenContent, IsMountRead, HasClaimed, HasRecorded, BringsUp, BringsAll, none_brought_up, one_more_copy, members_with_entry, IsCopying, MayMount, claiming, recording, copying, HasMounted, IsSource, Allows, MountingKeeps, DescribesIn, MountedIsHeld, ReadMeansOne, OneGroupIsMeant, IsRegisterOf, RecordedHasHistory, RecordedIsMounted}
 use Rattle.group_mount.specs.Narrowing.{HasCopy}
 use Rattle.group_mount.specs.Renewing.{Renews}
 use Rattle.asm_images.proofs.Bare.{births_in, has_bare}
@@ -402,7 +402,7 @@ module _ (n : ℕ) (mount : MountReading) (source : Member) (groups : List Group
           (left_users_are_kept slots id old y lasts.leaves) lasts.sound_now alive has_copy have
 
       abbrev owned : List Member
-      owned = own next.entries mount.members
+      owned = members_with_entry next.entries mount.members
 
       owned_among : (m : Member) → IsAmong owned m → IsAmong mount.members m
       owned_among m h = among_filter (is_of next.entries) mount.members m h

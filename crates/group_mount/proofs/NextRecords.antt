@@ -21,7 +21,7 @@ use Rattle.status_register.specs.Registered.{is_same_birth}
 use Rattle.status_register.specs.declared.member.Member.{Member}
 use Rattle.status_table.proofs.Allowed.{entry_fits, parts_of}
 use Rattle.group_mount.specs.Loads.{copies_read}
-use Rattle.group_mount.specs.NextRecord.{IsNextRecord, MakesRecord, has_entry_of_disk, moded}
+use Rattle.group_mount.specs.NextRecord.{IsNextRecord, MakesRecord, has_entry_of_disk, entry_when_mounted}
 use Rattle.group_mount.specs.Quorum.{IsQuorum}
 use Rattle.group_mount.specs.Renewing.{Renews}
 use Rattle.group_mount.specs.Verdicts.{member_of}
@@ -110,19 +110,19 @@ module _ (q : Quorate) (state : BayState) (quorum : IsQuorum q state) where
 
 -- the disks with copies have entries, also in other modes
 pub named_have : (q : Quorate) (marked now dirs : ℕ) → MakesRecord q → ((d : ℕ) → d < 64 → has_bit dirs d ≡ has_copy_of_disk d q.store.copies)
-    → have_entries (map (moded q marked now) q.survey.value.entries) dirs ≡ true
-named_have q marked now dirs makes copies = all_from (has_entry (map (moded q marked now) q.survey.value.entries)) (elements dirs) (λ d h.
+    → have_entries (map (entry_when_mounted q marked now) q.survey.value.entries) dirs ≡ true
+named_have q marked now dirs makes copies = all_from (has_entry (map (entry_when_mounted q marked now) q.survey.value.entries)) (elements dirs) (λ d h.
     let is : has_copy_of_disk d q.store.copies ≡ true = sym (copies d (element_small dirs d h)) ∙ element_bit dirs d h in
     let c = has_of_disk d q.store.copies is in
-    same_has (map (moded q marked now) q.survey.value.entries) q.survey.value.entries d (moded_all q marked now q.survey.value.entries)
+    same_has (map (entry_when_mounted q marked now) q.survey.value.entries) q.survey.value.entries d (moded_all q marked now q.survey.value.entries)
     ∙ number_has q.survey.value.entries d (ap (has_entry_of_disk q.survey.value.entries) (sym c.2) ∙ makes.entries c.0 c.1))
 
 -- the same of the record as the code has it
 pub record_has : (q : Quorate) (marked now dirs : ℕ) (status after : Status) (copies : List DirCopy) → MakesRecord q → status ≡ q.survey.value
-    → after ≡ record status { entries = map (moded q marked now) status.entries } → copies ≡ q.store.copies
+    → after ≡ record status { entries = map (entry_when_mounted q marked now) status.entries } → copies ≡ q.store.copies
     → ((d : ℕ) → d < 64 → has_bit dirs d ≡ has_copy_of_disk d copies) → have_entries after.entries dirs ≡ true
 record_has q marked now dirs status after copies makes same is all bits =
-    ap (λ (x : Status). have_entries x.entries dirs) is ∙ ap (λ (x : Status). have_entries (map (moded q marked now) x.entries) dirs) same
+    ap (λ (x : Status). have_entries x.entries dirs) is ∙ ap (λ (x : Status). have_entries (map (entry_when_mounted q marked now) x.entries) dirs) same
     ∙ named_have q marked now dirs makes (λ d lt. bits d lt ∙ ap (has_copy_of_disk d) all)
 
 -- ---- the disks of copies
@@ -155,7 +155,7 @@ module _ (q : Quorate) (state : BayState) (quorum : IsQuorum q state) (now : ℕ
   old = q.survey.value
 
   abbrev f : Entry → Entry
-  f = moded q is.marked now
+  f = entry_when_mounted q is.marked now
 
   abbrev moved : List Entry
   moved = map f old.entries

@@ -17,8 +17,8 @@ use Rattle.directory_store.specs.change_directory.declared.copy.DirCopy.{DirCopy
 use Rattle.directory_store.specs.Stores.{Keeps}
 use Rattle.directory_store.proofs.Present.{disk_has, has_of_disk}
 use Rattle.directory_store.proofs.Storing.{keeps_elsewhere}
-use Rattle.status_register.specs.Holders.{is_of, numbered}
-use Rattle.status_register.specs.Registered.{AreNumbered, Registered, all_placed, registered}
+use Rattle.status_register.specs.Holders.{is_of, with_next_number}
+use Rattle.status_register.specs.Registered.{AreNumbered, Registered, all_placed, register_of}
 use Rattle.status_register.specs.Surveys.{missing, shortfall}
 use Rattle.status_register.specs.Tallies.{HaveSlots, IsSlotOf}
 use Rattle.status_register.specs.Writes.{first_register}
@@ -170,7 +170,7 @@ module _ (q : Quorate) (s : BayState) (quorum : IsQuorum q s) where
 
   module _ (now : ℕ) (next : Status) (made : IsNextRecord q now next) where
     abbrev v : Status
-    v = numbered (registered q.survey) next
+    v = with_next_number (register_of q.survey) next
 
     abbrev places : List (Option Member)
     places = all_placed next.entries (replicate 64 None) (own next)
@@ -275,7 +275,7 @@ module _ (q : Quorate) (s : BayState) (quorum : IsQuorum q s) where
 
   -- ---- all of it
 
-  pub parts_are : (now : ℕ) (a : Anew) → IsAnew q now a → (register : Registered) → register ≡ first_register (numbered (registered q.survey) a.next) (own a.next) → (t : BayState)
+  pub parts_are : (now : ℕ) (a : Anew) → IsAnew q now a → (register : Registered) → register ≡ first_register (with_next_number (register_of q.survey) a.next) (own a.next) → (t : BayState)
       → StandsAnew register t → KeepsAttached s t → Runs (IsSlotOf q.survey.members) (ChangesOnly (FrontOf q.survey.members)) s t
       → ArePartsOf q now (record { name = a.name; id = q.id; shape = q.shape; catalog = q.catalog; store = q.store; register = register; disks = a.disks }) t
   parts_are now a is register same t stands attached run = record {
@@ -292,7 +292,7 @@ module _ (q : Quorate) (s : BayState) (quorum : IsQuorum q s) where
     catalog = subst (λ (x : Registered). IsCatalogIn q.store x.value q.shape q.catalog) (sym same) (catalog_is now a.next is.next);
     copies = subst (λ (x : Registered). AreAttachedCopies x q.shape q.store.copies) (sym same) (copies_are now a.next is.next);
     disks = subst (λ (x : Registered). AreDisksOf x a.disks.items t) (sym same)
-        (subst (λ (l : List (Member × ℕ)). AreDisksOf (first_register (numbered (registered q.survey) a.next) (own a.next)) l t) (sym is.disks) (disks_are now a.next is.next t attached));
+        (subst (λ (l : List (Member × ℕ)). AreDisksOf (first_register (with_next_number (register_of q.survey) a.next) (own a.next)) l t) (sym is.disks) (disks_are now a.next is.next t attached));
     attached = is.disks ∙ ap (λ (x : Registered). disks_with q.id x.value.entries hs) (sym same);
     keeps = keeps now a.next is.next t attached run;
   }

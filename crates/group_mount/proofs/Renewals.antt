@@ -10,9 +10,9 @@ use Rattle.asm_formats.specs.Following.{sets}
 use Rattle.asm_formats.specs.Status.{Status, status_spelling}
 use Rattle.asm_formats.specs.Among.{IsAmong}
 use Rattle.status_register.specs.Answers.{Surveyed}
-use Rattle.status_register.specs.Holders.{attached_to, next_turn, numbered}
+use Rattle.status_register.specs.Holders.{attached_to, next_turn, with_next_number}
 use Rattle.status_register.proofs.Placing.{placed_is}
-use Rattle.status_register.specs.Registered.{Registered, AreNumbered, IsClaimAnswer, claim_of, registered}
+use Rattle.status_register.specs.Registered.{Registered, AreNumbered, IsClaimAnswer, claim_of, register_of}
 use Rattle.status_register.specs.History.{FitsHistory}
 use Rattle.status_register.specs.Keeping.{EpochStands, KeepsStanding}
 use Rattle.status_register.specs.SurveyLaws.{IsMemberOn}
@@ -55,7 +55,7 @@ module _ (s m : BayState) (survey : Surveyed) (next : Status) (renews : Renews s
     took_among : (k : Member) → IsAmong took k → IsAmong survey.members k
     took_among = kept_among (RoseAt s m) survey.members answer.0 answer.1
 
-    register_is : register ≡ registered survey
+    register_is : register ≡ register_of survey
     register_is = answer.3.1
 
     pub sets_same : sets next ≡ sets register.value
@@ -75,21 +75,21 @@ module _ (s m : BayState) (survey : Surveyed) (next : Status) (renews : Renews s
     }
 
     module _ (t : BayState)
-        (write_run : Runs (IsSlotOf (attached_to register.members next)) (PutsRow (status_gate register.id) (attached_to register.members next) (status_spelling (numbered register next))) m t) where
+        (write_run : Runs (IsSlotOf (attached_to register.members next)) (PutsRow (status_gate register.id) (attached_to register.members next) (status_spelling (with_next_number register next))) m t) where
       among : (k : Member) → IsAmong (attached_to register.members next) k → IsAmong survey.members k
       among k h = attached_among survey.value next survey.members small k (subst (λ (r : Registered). IsAmong (attached_to r.members next) k) register_is h)
 
       abbrev PutsRecord : Image → Image → Type 0
-      PutsRecord = PutsRow (status_gate survey.id) survey.members (status_spelling (numbered (registered survey) next))
+      PutsRecord = PutsRow (status_gate survey.id) survey.members (status_spelling (with_next_number (register_of survey) next))
 
       record_run : Runs (IsSlotOf survey.members) PutsRecord m t
       record_run = on_more (λ slot of. (of.0, among of.0 of.1, of.2))
-          (widened (λ x y row. row_wider (status_gate survey.id) (attached_to register.members next) survey.members (status_spelling (numbered (registered survey) next)) among x y
-          (subst (λ (r : Registered). PutsRow (status_gate r.id) (attached_to register.members next) (status_spelling (numbered r next)) x y) register_is row)) write_run)
+          (widened (λ x y row. row_wider (status_gate survey.id) (attached_to register.members next) survey.members (status_spelling (with_next_number (register_of survey) next)) among x y
+          (subst (λ (r : Registered). PutsRow (status_gate r.id) (attached_to register.members next) (status_spelling (with_next_number r next)) x y) register_is row)) write_run)
 
       -- nothing changes but the claim and status slots
       pub renewing_front : Runs (IsSlotOf survey.members) (ChangesOnly (FrontOf survey.members)) s t
-      renewing_front = record_changes register.id survey.members (attached_to register.members next) (status_spelling (numbered register next)) s m t among
+      renewing_front = record_changes register.id survey.members (attached_to register.members next) (status_spelling (with_next_number register next)) s m t among
           (claims_change survey.id survey.members (claim_spelling (claim_of survey)) s m run) write_run
 
       pub renewing_runs : (content : Content) (source : Member) → Runs (IsSlotOf survey.members) (MayMount (mount_of survey next content) source) s t
@@ -99,7 +99,7 @@ module _ (s m : BayState) (survey : Surveyed) (next : Status) (renews : Renews s
       pub renewed_done : (answer_2 : Result Renewed RenewError) → WritesAnew register next answer_2 m t → OnOk answer_2 ((content : Content) → Ends (HasRecorded (mount_of survey next content)) s t)
       renewed_done (Err e) written = tt
       renewed_done (Ok renewed) (on, on_among, shown, enough, is) = λ content.
-          both_done {first = HasClaimed (mount_of survey next content)} {second = λ x y. PutsRecord x y × HaveStatus (status_spelling (numbered (registered survey) next)) on x y}
+          both_done {first = HasClaimed (mount_of survey next content)} {second = λ x y. PutsRecord x y × HaveStatus (status_spelling (with_next_number (register_of survey) next)) on x y}
           (λ x y z claimed records. record {
             between = y;
             claimed = claimed;
@@ -107,16 +107,16 @@ module _ (s m : BayState) (survey : Surveyed) (next : Status) (renews : Renews s
             took = on;
             among = λ k h. among k (on_among k h);
             shown = records.1;
-            enough = subst (λ (r : Registered). missing on (Some (numbered r next)) ≡ None) register_is enough;
+            enough = subst (λ (r : Registered). missing on (Some (with_next_number r next)) ≡ None) register_is enough;
           }) (claimed_done content)
           (record {
             held = λ image holds. let r = record_run.held image holds in let d = shown.held image holds in (r.0, r.1, (r.2, body image d.2));
             now = λ image left. let r = (stops record_run).now image left in let d = shown.now image left in (r.0, r.1, (r.2, body image d.2));
           })
         where
-          body : (image : Image) → ((k : Member) → IsAmong on k → HasStatus (status_spelling (numbered register next)) k.slot image)
-              → (k : Member) → IsAmong on k → HasStatus (status_spelling (numbered (registered survey) next)) k.slot image
-          body image has k h = subst (λ (r : Registered). HasStatus (status_spelling (numbered r next)) k.slot image) register_is (has k h)
+          body : (image : Image) → ((k : Member) → IsAmong on k → HasStatus (status_spelling (with_next_number register next)) k.slot image)
+              → (k : Member) → IsAmong on k → HasStatus (status_spelling (with_next_number (register_of survey) next)) k.slot image
+          body image has k h = subst (λ (r : Registered). HasStatus (status_spelling (with_next_number r next)) k.slot image) register_is (has k h)
 
       pub renew_cause : (answer_2 : Result Renewed RenewError) → WritesAnew register next answer_2 m t → IfErr answer_2 (λ e. RenewCause survey next e s t)
       renew_cause (Ok renewed) written = tt
@@ -164,7 +164,7 @@ module _ (mount : MountReading) (s t : BayState) where
 
 module _ (s m t : BayState) (survey : Surveyed) (next : Status) (renews : Renews survey.value next) (small : AreNumbered survey.members)
     (run : Runs (IsSlotOf survey.members) (PutsRow (claim_gate survey.id) survey.members (claim_spelling (claim_of survey))) s m) (register : Registered) (answer : IsClaimAnswer survey (Ok register) s m)
-    (write_run : Runs (IsSlotOf (attached_to register.members next)) (PutsRow (status_gate register.id) (attached_to register.members next) (status_spelling (numbered register next))) m t)
+    (write_run : Runs (IsSlotOf (attached_to register.members next)) (PutsRow (status_gate register.id) (attached_to register.members next) (status_spelling (with_next_number register next))) m t)
     (answer_2 : Result Renewed RenewError) (written : WritesAnew register next answer_2 m t) where
   all_done : OnOk answer_2 ((content : Content) → Ends (HasRecorded (mount_of survey next content)) s t)
   all_done = renewed_done s m survey next renews small run register answer t write_run answer_2 written
@@ -186,9 +186,9 @@ module _ (s m t : BayState) (survey : Surveyed) (next : Status) (renews : Renews
           → IfOk a (λ renewed. (content : Content) → KeepsRegister (mount_of survey next content) renewed.register s t)
       go (Err e) wrote done = tt
       go (Ok renewed) wrote done = λ content.
-          let first : register ≡ registered survey = answer.3.1 in
-          let is : renewed.register ≡ record (registered survey) { value = numbered (registered survey) next; turn = next_turn 0; is_fresh = false } =
-          wrote.4 ∙ (λ i. record (first i) { value = numbered (first i) next; turn = next_turn (first i).turn; is_fresh = false }) in
+          let first : register ≡ register_of survey = answer.3.1 in
+          let is : renewed.register ≡ record (register_of survey) { value = with_next_number (register_of survey) next; turn = next_turn 0; is_fresh = false } =
+          wrote.4 ∙ (λ i. record (first i) { value = with_next_number (first i) next; turn = next_turn (first i).turn; is_fresh = false }) in
           register_kept (mount_of survey next content) s t (done content) renewed.register
           (ap (λ (r : Registered). r.id) is) (ap (λ (r : Registered). r.value) is) (ap (λ (r : Registered). r.epoch) is) (ap (λ (r : Registered). r.turn) is)
           (λ i k there. (placed_is survey.value.entries survey.members i k small (sym (ap (λ (r : Registered). get_or r.members i None) is) ∙ there)).0)
@@ -197,10 +197,10 @@ module _ (s m t : BayState) (survey : Surveyed) (next : Status) (renews : Renews
 
 -- The register that stands for the record with other members keeps the history too, where each is a member on each image.
 pub any_register : (s t : BayState) (survey : Surveyed) (next : Status) (ms : List Member) → ((content : Content) → KeepsRegister (mount_of survey next content) (renewed_register survey next) s t)
-    → KeepsStanding (first_register (numbered (registered survey) next) ms) t
-    → (content : Content) → KeepsAnyRegister (mount_of survey next content) (first_register (numbered (registered survey) next) ms) s t
+    → KeepsStanding (first_register (with_next_number (register_of survey) next) ms) t
+    → (content : Content) → KeepsAnyRegister (mount_of survey next content) (first_register (with_next_number (register_of survey) next) ms) s t
 any_register s t survey next ms kept standing content n slots source groups is now many on =
-    let v : Status = numbered (registered survey) next in
+    let v : Status = with_next_number (register_of survey) next in
     let before = kept content n slots source groups is now many in
     standing slots (record {
       now = λ image left.

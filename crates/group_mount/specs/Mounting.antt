@@ -129,12 +129,12 @@ pub record IsSource (mount : MountReading) (m : Member) (image : Image) : Type 0
   pub taken : HasTakenContent mount m image
 
 -- the disks of these entries, by number and birth: a member without such an entry is none of the group
-abbrev pub own : List Entry → List Member → List Member
-own entries ms = filter (is_of entries) ms
+abbrev pub members_with_entry : List Entry → List Member → List Member
+members_with_entry entries ms = filter (is_of entries) ms
 
 -- What is kept of the mounted group: the record is complete, none was begun after it, and these are the slots of its attached disks.
 abbrev pub kept_of : MountReading → Kept
-kept_of mount = record { completed = mount.next; begun = []; slots = slots_of (own mount.next.entries mount.members) }
+kept_of mount = record { completed = mount.next; begun = []; slots = slots_of (members_with_entry mount.next.entries mount.members) }
 
 -- ---- the laws
 

@@ -41,8 +41,8 @@ entry_after_mount missing marked now repair e =
     else if is_online e.mode && marked then record e { mode = Syncing } else e
 
 -- the entry of a disk of the group, with these marked ones
-abbrev pub moded : Quorate → ℕ → ℕ → Entry → Entry
-moded q marked now e =
+abbrev pub entry_when_mounted : Quorate → ℕ → ℕ → Entry → Entry
+entry_when_mounted q marked now e =
     entry_after_mount (is_missing q.id q.headed.items e) (has_bit marked e.number) now q.catalog.tables.templates.settings.attributes.repair e
 
 -- The record of the mount is the one that was read with other modes and their partners, and names the store's copies alone.
@@ -53,6 +53,6 @@ pub record IsNextRecord (q : Quorate) (now : ℕ) (next : Status) : Type 0 where
   pub small : named < 2 ^ 64
   pub copies : (d : ℕ) → d < 64 → has_bit named d ≡ has_copy_of_disk d q.store.copies
   pub next_is : next ≡ record q.survey.value {
-    entries = with_partners (map (moded q marked now) q.survey.value.entries);
+    entries = with_partners (map (entry_when_mounted q marked now) q.survey.value.entries);
     directories = named;
   }

@@ -10,10 +10,10 @@ use Rattle.asm_formats.specs.Among.{IsAmong}
 use Rattle.directory_store.specs.change_directory.declared.copy.DirCopy.{DirCopy}
 use Rattle.directory_store.specs.Stores.{Keeps}
 use Rattle.status_register.specs.Answers.{Surveyed}
-use Rattle.status_register.specs.Holders.{is_of, numbered}
+use Rattle.status_register.specs.Holders.{is_of, with_next_number}
 use Rattle.status_register.specs.Keeping.{IsRegisterReady}
 use Rattle.status_register.specs.Reaching.{Reaches}
-use Rattle.status_register.specs.Registered.{AreNumbered, Registered, registered}
+use Rattle.status_register.specs.Registered.{AreNumbered, Registered, register_of}
 use Rattle.status_register.specs.Rows.{HaveOwnSlots}
 use Rattle.status_register.specs.Surveys.{AreRead, missing}
 use Rattle.status_register.specs.Tallies.{HaveSlots}
@@ -117,7 +117,7 @@ pub record AreDisksOf (register : Registered) (disks : List (Member × ℕ)) (st
 
 -- The register has the record anew, on all attached disks of its entries: it was written, and takes the next write.
 pub record IsRegisterAnew (q : Quorate) (next : Status) (register : Registered) (state : BayState) : Type 0 where
-  pub value : register.value ≡ numbered (registered q.survey) next
+  pub value : register.value ≡ with_next_number (register_of q.survey) next
   pub renews : Renews q.survey.value register.value
   pub status : IsTrue (is_status register.value)
   pub alive : register.value.gone ≡ false

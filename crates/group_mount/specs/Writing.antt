@@ -11,8 +11,8 @@ use Rattle.asm_formats.specs.Content.{Content}
 use Rattle.asm_formats.specs.Regions.{region_start}
 use Rattle.asm_formats.specs.Status.{Status, status_spelling}
 use Rattle.status_register.specs.Answers.{Surveyed}
-use Rattle.status_register.specs.Holders.{attached_to, next_turn, numbered}
-use Rattle.status_register.specs.Registered.{Registered, registered}
+use Rattle.status_register.specs.Holders.{attached_to, next_turn, with_next_number}
+use Rattle.status_register.specs.Registered.{Registered, register_of}
 use Rattle.status_register.specs.Rows.{HaveStatus, PutsRow}
 use Rattle.status_register.specs.Slots.{status_gate}
 use Rattle.status_register.specs.SurveyLaws.{IsMemberOn}
@@ -33,7 +33,7 @@ mount_of survey next content = record {
   members = survey.members;
   seen = survey.read;
   read = survey.value;
-  next = numbered (registered survey) next;
+  next = with_next_number (register_of survey) next;
   content = content;
 }
 
@@ -55,13 +55,13 @@ HasRenewed mount s t = Ends (HasRecorded mount) s t
 
 -- the register of the record anew
 abbrev pub renewed_register : Surveyed → Status → Registered
-renewed_register survey next = record (registered survey) { value = numbered (registered survey) next; turn = 1; is_fresh = false }
+renewed_register survey next = record (register_of survey) { value = with_next_number (register_of survey) next; turn = 1; is_fresh = false }
 
 -- the calls put the record on the attached disks of its sets
 abbrev pub RunsAsRecord : Registered → Status → BayState → BayState → Type 0
 RunsAsRecord register next s t =
     let ms = attached_to register.members next in
-    Runs (IsSlotOf ms) (PutsRow (status_gate register.id) ms (status_spelling (numbered register next))) s t
+    Runs (IsSlotOf ms) (PutsRow (status_gate register.id) ms (status_spelling (with_next_number register next))) s t
 
 -- so few members took the claim, or a member's slot failed while the record was written
 abbrev pub RenewCause : Surveyed → Status → RenewError → BayState → BayState → Type 0
@@ -73,8 +73,8 @@ RenewCause survey next (Dead slot) s t = IsSlotOf survey.members slot × Rose (s
 abbrev pub WritesAnew : Registered → Status → Result Renewed RenewError → BayState → BayState → Type 0
 WritesAnew register next answer s t = MatchResult answer
     (λ renewed. (took : List Member) × ((m : Member) → IsAmong took m → IsAmong (attached_to register.members next) m)
-    × Ends (HaveStatus (status_spelling (numbered register next)) took) s t × (missing took (Some (numbered register next)) ≡ None)
-    × (renewed.register ≡ record register { value = numbered register next; turn = next_turn register.turn; is_fresh = false }))
+    × Ends (HaveStatus (status_spelling (with_next_number register next)) took) s t × (missing took (Some (with_next_number register next)) ≡ None)
+    × (renewed.register ≡ record register { value = with_next_number register next; turn = next_turn register.turn; is_fresh = false }))
     (λ error. (slot : ℕ) × (error ≡ Dead slot) × IsSlotOf (attached_to register.members next) slot × Rose (s.faults slot) (t.faults slot))
 
 -- ---- what is kept over it

@@ -4,7 +4,7 @@ ghost use Rattle.std.specs.Prelude.{◌≡◌, ◌≤◌, ◌<◌, ◌+◌, ◌*
 ghost use Rattle.bay.specs.Image.{Same};
 ghost use Rattle.bay.specs.Moments.{Runs};
 ghost use Rattle.group_mount.specs.Finding.{AreThere, AttachedStays};
-ghost use Rattle.group_mount.specs.Founds.{FindCause, IsFound, is_held, not_held, short_refusal, id_of_choice, undamaged};
+ghost use Rattle.group_mount.specs.Founds.{FindCause, IsFound, is_held, not_held, short_refusal, id_of_choice, id_unless_damaged};
 ghost use Rattle.group_mount.specs.Recovering.{is_named, name_in};
 
 use crate::choosing::{Choice, ShortId, WholeId, choose, ids_named};
@@ -77,7 +77,7 @@ fn short_refusal(short: Option<ShortId>) -> MountError
 
 /// The id that is whole, where all bodies that were read decode.
 fn undamaged(whole: WholeId) -> Result<u64, MountError>
-    ensures { result ≡ undamaged whole }
+    ensures { result ≡ id_unless_damaged whole }
 {
     match whole.damage {
         Some((slot, block)) => Err(MountError::Damaged { slot, block }),

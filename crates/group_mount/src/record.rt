@@ -6,7 +6,7 @@ ghost use Rattle.asm_formats.specs.Status.{have_entries, is_entry, is_status};
 ghost use Rattle.asm_formats.specs.Among.{IsAmong};
 ghost use Rattle.directory_store.specs.change_directory.declared.copy.DirCopy.{DirCopy as Copy};
 ghost use Rattle.directory_store.specs.Stores.{has_copy_of_disk};
-ghost use Rattle.group_mount.specs.NextRecord.{HasStaleDisks, IsMarkOf, IsNextRecord, MakesRecord, entry_after_mount, has_entry_of_disk, moded};
+ghost use Rattle.group_mount.specs.NextRecord.{HasStaleDisks, IsMarkOf, IsNextRecord, MakesRecord, entry_after_mount, has_entry_of_disk, entry_when_mounted};
 
 use crate::missing::is_missing;
 use crate::quorum::Quorate;
@@ -88,7 +88,7 @@ fn entry_after(entry: PstEntry, missing: bool, marked: bool, now: u64, repair: u
 
 /// The entry of a disk of the group after the mount.
 fn moded(quorate: &Quorate, entry: PstEntry, marked: DiskSet, now: u64) -> PstEntry
-    ensures value { result ≡ moded quorate.now marked now entry }
+    ensures value { result ≡ entry_when_mounted quorate.now marked now entry }
     ensures kept { is_entry entry ≡ true → is_entry result ≡ true }
 {
     let missing = is_missing(quorate.id, &quorate.headed, entry);
@@ -99,7 +99,7 @@ fn moded(quorate: &Quorate, entry: PstEntry, marked: DiskSet, now: u64) -> PstEn
 /// The entries after the mount.
 fn all_moded(quorate: &Quorate, entries: &[PstEntry], marked: DiskSet, now: u64) -> [PstEntry; 64]
     requires few { length entries.now ≤ 64 }
-    ensures value { take (length entries.now) result ≡ map (moded quorate.now marked now) entries.now }
+    ensures value { take (length entries.now) result ≡ map (entry_when_mounted quorate.now marked now) entries.now }
     ensures kept { list_all is_entry entries.now ≡ true → list_all is_entry (take (length entries.now) result) ≡ true }
 {
     let mut after = [PstEntry::blank(); 64];
@@ -111,7 +111,7 @@ fn all_moded(quorate: &Quorate, entries: &[PstEntry], marked: DiskSet, now: u64)
 
 /// The record with the modes that a mount leaves. A record of the format stays one.
 fn with_modes(quorate: &Quorate, status: &PstRecord, marked: DiskSet, now: u64) -> PstRecord
-    ensures value { result ≡ record status.now { entries = map (moded quorate.now marked now) status.now.entries } }
+    ensures value { result ≡ record status.now { entries = map (entry_when_mounted quorate.now marked now) status.now.entries } }
     ensures kept { IsTrue (is_status status.now) → IsTrue (is_status result) }
 {
     let entries = status.entries();

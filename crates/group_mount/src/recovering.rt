@@ -6,8 +6,8 @@ ghost use Rattle.bay.specs.State.{KeepsAttached};
 ghost use Rattle.bay.specs.Moments.{Runs};
 ghost use Rattle.asm_formats.specs.Status.{Status};
 ghost use Rattle.asm_group.specs.Group.{Group};
-ghost use Rattle.status_register.specs.Holders.{numbered};
-ghost use Rattle.status_register.specs.Registered.{registered};
+ghost use Rattle.status_register.specs.Holders.{with_next_number};
+ghost use Rattle.status_register.specs.Registered.{register_of};
 ghost use Rattle.status_register.specs.Surveys.{missing};
 ghost use Rattle.status_register.specs.Tallies.{IsSlotOf};
 ghost use Rattle.status_register.specs.Writes.{first_register};
@@ -210,7 +210,7 @@ fn write_register<B: Bay>(
     members: &[Member],
 ) -> Result<Register, RenewError>
     requires { MayRenewRecord survey next.now members.now (B.state bay.old) }
-    ensures register { IfOk result (λ register. register ≡ first_register (numbered (registered survey) next.now) members.now) }
+    ensures register { IfOk result (λ register. register ≡ first_register (with_next_number (register_of survey) next.now) members.now) }
     ensures stands { IfOk result (λ register. StandsAnew register (B.state bay.new)) }
     ensures cause { IfErr result (λ error. RenewCause survey next.now error (B.state bay.old) (B.state bay.new)) }
     ensures attached { KeepsAttached (B.state bay.old) (B.state bay.new) }

@@ -24,7 +24,7 @@ use Rattle.catalog_laws.specs.file_directory.Files.{head_at, with_head}
 use Rattle.catalog_laws.specs.alias_tree.Nodes.{Numbered, number_of}
 use Rattle.catalog_laws.specs.alias_tree.Trees.{tree_of}
 use Rattle.catalog_laws.specs.catalog_tables.Tables.{Tables}
-use Rattle.catalog_laws.specs.catalog.TreePlans.{aliased, aliased_head, files_after, head_with_alias}
+use Rattle.catalog_laws.specs.catalog.TreePlans.{files_with_alias, aliased_head, files_after, head_with_alias}
 use Rattle.catalog_laws.proofs.catalog_tables.NumberedLists.{number_is, put_at}
 use Rattle.group_of.specs.Groups.{files_by_number, group_of}
 use Rattle.group_of.specs.Edits.{AttributeIsWorlds, TemplateEditIsWorlds, TreeEditIsWorlds, TreeEditKeepsCells}
@@ -71,7 +71,7 @@ aliased_as cells fs f n k head e = ap (files.file_at cells k) (put_at f (head_wi
   by true here = ap (files.file_at cells k) (sym (ap (head_at fs) (sym (number_is f k here)) ∙ e))
   by false other = refl
 
-same_aliased : (cells : ℕ → List Cell) (fs : List heads.NumberedFile) (f n : Option ℕ) (k : ℕ) → files.file_at cells k (head_at (aliased fs f n) k) ≡ files.file_at cells k (head_at fs k)
+same_aliased : (cells : ℕ → List Cell) (fs : List heads.NumberedFile) (f n : Option ℕ) (k : ℕ) → files.file_at cells k (head_at (files_with_alias fs f n) k) ≡ files.file_at cells k (head_at fs k)
 same_aliased cells fs None n k = refl
 same_aliased cells fs (Some f) None k = refl
 same_aliased cells fs (Some f) (Some n) k = by (head_at fs f) refl where
@@ -111,7 +111,7 @@ abbrev pub size_of : Option FileHead → ℕ
 size_of None = 0
 size_of (Some h) = h.size
 
-old_aliased : (fs : List heads.NumberedFile) (g n : Option ℕ) (f : ℕ) (head : FileHead) → head_at (aliased fs g n) f ≡ Some head → Old fs f head
+old_aliased : (fs : List heads.NumberedFile) (g n : Option ℕ) (f : ℕ) (head : FileHead) → head_at (files_with_alias fs g n) f ≡ Some head → Old fs f head
 old_aliased fs None n f head e = (head, e, refl)
 old_aliased fs (Some g) None f head e = (head, e, refl)
 old_aliased fs (Some g) (Some n) f head e = by (head_at fs g) refl e where

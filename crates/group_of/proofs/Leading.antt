@@ -14,9 +14,9 @@ use Rattle.asm_world.specs.Edits as world
 use Rattle.asm_world.specs.Files as bytes
 use Rattle.asm_world.specs.Settings as settings
 use Rattle.catalog_laws.specs.allocator.UnitMaps.{UnitMap}
-use Rattle.catalog_laws.specs.catalog.FilePlans.{with_removal_pending, sized, with_size}
+use Rattle.catalog_laws.specs.catalog.FilePlans.{with_removal_pending, tables_with_size, with_size}
 use Rattle.catalog_laws.specs.catalog_tables.Items.{AreItemsOf}
-use Rattle.catalog_laws.specs.catalog.NamePlans.{made_file, named}
+use Rattle.catalog_laws.specs.catalog.NamePlans.{made_file, tables_with_name}
 use Rattle.catalog_laws.specs.catalog_tables.Placing.{HasUnits}
 use Rattle.catalog_laws.specs.catalog.Plans.{IsPlan}
 use Rattle.catalog_laws.specs.catalog_tables.Rules.{KeepsRules}
@@ -122,11 +122,11 @@ removal_leads_on s c g f put gone d rules p owned =
 pub size_leads_on : SizeLeadsOn
 size_leads_on s c g f size put gone file cells d p owned at long =
     let new = cells_with (cells_of g) f cells in
-    let u = sized c.tables f p.head size p.pending in
+    let u = tables_with_size c.tables f p.head size p.pending in
     let there = at_file (cells_of g) f cells in
     let others = but_for (cells_of g) f cells in
-    let has = put_has_cells c.tables (sized c.tables f p.head size p.pending) f (with_size p.head size) (cells_of g) (cells_with (cells_of g) f cells) refl others (ap length there ∙ long) (has_cells s c g d) in
-    have_planned s c g d put gone (sized c.tables f p.head size p.pending) (p.plan owned) refl refl (cells_with (cells_of g) f cells) has (bytes.with_file_cells g f file cells)
+    let has = put_has_cells c.tables (tables_with_size c.tables f p.head size p.pending) f (with_size p.head size) (cells_of g) (cells_with (cells_of g) f cells) refl others (ap length there ∙ long) (has_cells s c g d) in
+    have_planned s c g d put gone (tables_with_size c.tables f p.head size p.pending) (p.plan owned) refl refl (cells_with (cells_of g) f cells) has (bytes.with_file_cells g f file cells)
     (size_is_worlds g.name c.shape c.tables f size p.head p.pending (cells_of g) (cells_with (cells_of g) f cells) p.file others
     ∙ ap (λ (h : Group). bytes.with_file_cells h f (file_of_head p.head (cells_of g f)) (cells_with (cells_of g) f cells f)) (sym (of_catalog s c g d))
     ∙ ap (λ (xs : List Cell). bytes.with_file_cells g f (file_of_head p.head (cells_of g f)) xs) there
@@ -142,7 +142,7 @@ new_name_leads_on s c g path size copies stripe put gone cells d p long =
     let there = at_file (cells_of g) (made_file c.tables) cells in
     let others = but_for (cells_of g) (made_file c.tables) cells in
     let new = cells_with (cells_of g) (made_file c.tables) cells in
-    let u = named c.tables (made_file c.tables) (head_planned p) p.made in
+    let u = tables_with_name c.tables (made_file c.tables) (head_planned p) p.made in
     let has = put_has_cells c.tables u (made_file c.tables) (head_planned p) (cells_of g) new refl others (ap length there ∙ long) (has_cells s c g d) in
     have_planned s c g d put gone u p.plan refl refl new has (bytes.group_with_file g p.name (made_file c.tables) (file_of_head (head_planned p) cells))
     (new_name_is_worlds g.name c path size copies stripe put gone (cells_of g) new p others

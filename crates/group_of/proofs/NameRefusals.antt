@@ -5,7 +5,7 @@ use Rattle.asm_group.specs.Causes.{Causes, first_cause, unless_refused}
 use Rattle.asm_group.specs.Names.{Bytes}
 use Rattle.asm_group.specs.Refusal as r
 use Rattle.asm_group.specs.Group.{Group}
-use Rattle.asm_base.specs.Refusals.{said}
+use Rattle.asm_base.specs.Refusals.{meaning_of}
 use Rattle.asm_world.specs.Files as bytes
 use Rattle.asm_world.specs.Files.{NewName}
 use Rattle.catalog_laws.specs.alias_edits.Filing.{file_causes, with_file}
@@ -45,24 +45,24 @@ pub check_is_worlds : CheckIsWorlds
 unfolding group_of
 check_is_worlds name c path size template refusal cells rests there (inl memory) = no_memory memory
 check_is_worlds name c path size template refusal cells rests there (inr (file, next, is)) = by (name_at path) there is where
-  by : (o : Option NewName) → HasTemplate (group_of name c.shape c.tables cells) o template → first_cause (check_causes c.shape c.tables o size file) ≡ Some (said (λ n. []) refusal)
+  by : (o : Option NewName) → HasTemplate (group_of name c.shape c.tables cells) o template → first_cause (check_causes c.shape c.tables o size file) ≡ Some (meaning_of (λ n. []) refusal)
       → IsWorldsRefusal (new_file_answer (group_of name c.shape c.tables cells) o size template) refusal
-  by None there is = same_refusal (answered _ (said (λ n. []) refusal) is)
+  by None there is = same_refusal (answered _ (meaning_of (λ n. []) refusal) is)
   by (Some new) there is =
-      same_refusal (answered _ (said (λ n. []) refusal) (causes_are (group_of name c.shape c.tables cells) new size file template (next_number_is name c.shape c.tables file cells rests next) there ∙ is))
+      same_refusal (answered _ (meaning_of (λ n. []) refusal) (causes_are (group_of name c.shape c.tables cells) new size file template (next_number_is name c.shape c.tables file cells rests next) there ∙ is))
 
 pub name_refusal_is_worlds : NameRefusalIsWorlds
 unfolding group_of
 name_refusal_is_worlds name c path size template refusal cells number there sectors (inl memory) = worlds (no_memory memory)
 name_refusal_is_worlds name c path size template refusal cells number there sectors (inr (inl is)) = by (name_at path) there is where
-  by : (o : Option NewName) → HasTemplate (group_of name c.shape c.tables cells) o template → filed_as c.tables o ≡ Err (said (λ n. []) refusal)
+  by : (o : Option NewName) → HasTemplate (group_of name c.shape c.tables cells) o template → filed_as c.tables o ≡ Err (meaning_of (λ n. []) refusal)
       → IsRefusedBeside (new_file_answer (group_of name c.shape c.tables cells) o size template) refusal
-  by None there is = worlds (same_refusal (refuses_too (Some r.NoTemplate) (tree_of c.tables.nodes) tt (said (λ n. []) refusal) is))
+  by None there is = worlds (same_refusal (refuses_too (Some r.NoTemplate) (tree_of c.tables.nodes) tt (meaning_of (λ n. []) refusal) is))
   by (Some new) there is =
       let causes = causes_are (group_of name c.shape c.tables cells) new size (made_file c.tables) template number there
       ∙ passed (not (bytes.is_sectors (group_of name c.shape c.tables cells) size)) r.NotSectors (file_causes (tree_of c.tables.nodes) (system_path c.tables new)) (ap not sectors) in
       worlds (same_refusal (ap answer causes
-      ∙ refuses_too (first_cause (file_causes (tree_of c.tables.nodes) (system_path c.tables new))) (with_file (tree_of c.tables.nodes) (system_path c.tables new) (made_file c.tables)) tt (said (λ n. []) refusal) is))
+      ∙ refuses_too (first_cause (file_causes (tree_of c.tables.nodes) (system_path c.tables new))) (with_file (tree_of c.tables.nodes) (system_path c.tables new) (made_file c.tables)) tt (meaning_of (λ n. []) refusal) is))
 name_refusal_is_worlds name c path size template refusal cells number there sectors (inr (inr (need, free, is, lacks))) = by (name_at path) lacks.name_is there where
   by : (o : Option NewName) → o ≡ Some lacks.name → HasTemplate (group_of name c.shape c.tables cells) o template → IsRefusedBeside (new_file_answer (group_of name c.shape c.tables cells) o size template) refusal
   by None same there = absurd cc

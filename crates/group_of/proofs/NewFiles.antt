@@ -20,7 +20,7 @@ use Rattle.catalog_laws.specs.file_directory.Files.{head_at, with_head}
 use Rattle.catalog_laws.specs.alias_tree.Trees.{tree_of}
 use Rattle.catalog_laws.specs.alias_edits.Filing as of_tree
 use Rattle.catalog_laws.specs.catalog.FilePlans.{with_size}
-use Rattle.catalog_laws.specs.catalog.NamePlans.{made_file, named}
+use Rattle.catalog_laws.specs.catalog.NamePlans.{made_file, tables_with_name}
 use Rattle.catalog_laws.proofs.catalog.NumberedEntries.{number_other}
 use Rattle.catalog_laws.proofs.catalog_tables.NumberedLists.{either, number_is, number_itself, put_at}
 use Rattle.group_of.specs.Groups.{AreCellsButFor, file_of_head, files_by_number, group_of}
@@ -92,7 +92,7 @@ new_name_is_worlds name c path size copies stripe put gone cells new p others =
     let d = done (first_cause (of_tree.file_causes (tree_of c.tables.nodes) at)) (of_tree.with_file (tree_of c.tables.nodes) at (made_file c.tables)) (tree_of (of_tree.with_nodes c.tables.nodes p.made)) p.filed in
     let names = sym d.1 in
     let filled = put_file t.files f (head_planned p) cells new others in
-    let same : group_of name c.shape (named t f (head_planned p) p.made) new
+    let same : group_of name c.shape (tables_with_name t f (head_planned p) p.made) new
     ≡ record g { tree = of_tree.with_file (tree_of t.nodes) at f; files = maps.insert (files_by_number cells t.files) f (file_of_head (head_planned p) (new f)); next = bytes.next_incarnation g.next } =
     λ i. record g { tree = names i; files = filled i; next = bytes.next_incarnation g.next } in
     same ∙ sym (world_file g p.name f (file_of_head (head_planned p) (new f)))

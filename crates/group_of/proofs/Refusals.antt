@@ -11,7 +11,7 @@ use Rattle.asm_group.specs.Group.{Attributes}
 use Rattle.asm_group.specs.TemplateEdits as templates
 use Rattle.asm_group.specs.TreeEdits as tree
 use Rattle.asm_formats.specs.Items.{Settings}
-use Rattle.asm_base.specs.Refusals.{said}
+use Rattle.asm_base.specs.Refusals.{meaning_of}
 use Rattle.asm_base.specs.declared.refusal.Refusal.{Refusal}
 use Rattle.asm_base.specs.declared.refusal.Refusal.TheVariants as cause
 use Rattle.asm_world.specs.Edits as world
@@ -38,7 +38,7 @@ pub tree_refusals : TreeRefusalIsWorlds
 unfolding group_of
 tree_refusals name c edit refusal cells (inl memory) = worlds (no_memory memory)
 tree_refusals name c edit refusal cells (inr (inl same)) =
-    worlds (same_refusal (refuses_too (first_cause (tree.edit_causes (tree_of c.tables.nodes) edit)) (tree.changed (tree_of c.tables.nodes) edit) (world.changed_group (group_of name c.shape c.tables cells) edit) (said (λ n. []) refusal) same))
+    worlds (same_refusal (refuses_too (first_cause (tree.edit_causes (tree_of c.tables.nodes) edit)) (tree.changed (tree_of c.tables.nodes) edit) (world.changed_group (group_of name c.shape c.tables cells) edit) (meaning_of (λ n. []) refusal) same))
 tree_refusals name c edit refusal cells (inr (inr (is, lacks))) =
     full 1 0 (world.changed_group (group_of name c.shape c.tables cells) edit) is (omega arith)
     (leaves_too (first_cause (tree.edit_causes (tree_of c.tables.nodes) edit)) (tree.changed (tree_of c.tables.nodes) edit) lacks.done.0 (world.changed_group (group_of name c.shape c.tables cells) edit) lacks.done.1)
@@ -48,15 +48,15 @@ unfolding group_of
 template_refusals name c edit refusal cells (inl memory) = no_memory memory
 template_refusals name c edit refusal cells (inr same) =
     same_refusal (refuses_too (first_cause (templates.template_causes c.shape.kind (templates_by_name c.tables.templates.templates) edit))
-    (templates.with_template_edit c.shape.kind (templates_by_name c.tables.templates.templates) edit) (settings.group_with_template_edit (group_of name c.shape c.tables cells) edit) (said (λ n. []) refusal) same)
+    (templates.with_template_edit c.shape.kind (templates_by_name c.tables.templates.templates) edit) (settings.group_with_template_edit (group_of name c.shape c.tables cells) edit) (meaning_of (λ n. []) refusal) same)
 
-memory_said : (refusal : Refusal) → refusal ≡ cause.NoMemory → said (λ n. []) refusal ≡ r.NoMemory
-unfolding said
-memory_said refusal is = ap (λ (e : Refusal). said (λ n. []) e) is
+memory_said : (refusal : Refusal) → refusal ≡ cause.NoMemory → meaning_of (λ n. []) refusal ≡ r.NoMemory
+unfolding meaning_of
+memory_said refusal is = ap (λ (e : Refusal). meaning_of (λ n. []) e) is
 
-attribute_said : (refusal : Refusal) (name : Bytes) → refusal ≡ cause.BadAttribute name → r.BadAttribute name ≡ said (λ n. []) refusal
-unfolding said
-attribute_said refusal name is = sym (ap (λ (e : Refusal). said (λ n. []) e) is)
+attribute_said : (refusal : Refusal) (name : Bytes) → refusal ≡ cause.BadAttribute name → r.BadAttribute name ≡ meaning_of (λ n. []) refusal
+unfolding meaning_of
+attribute_said refusal name is = sym (ap (λ (e : Refusal). meaning_of (λ n. []) e) is)
 
 no_attributes : (s : Settings) (o : Option Attributes) → option_map (λ (a : Attributes). record s { attributes = a }) o ≡ None → o ≡ None
 no_attributes s None is = refl

@@ -11,7 +11,7 @@ use Rattle.asm_group.specs.TreeEdits.{TreeEdit}
 use Rattle.asm_formats.specs.Items.{Key, Settings}
 use Rattle.asm_formats.specs.Status.{Status}
 use Rattle.asm_base.specs.Records.{DirectoryRecord}
-use Rattle.asm_base.specs.Refusals.{said}
+use Rattle.asm_base.specs.Refusals.{meaning_of}
 use Rattle.asm_base.specs.declared.refusal.Refusal.{Refusal}
 use Rattle.asm_base.specs.declared.refusal.Refusal.TheVariants as cause
 use Rattle.asm_world.specs.Edits as world
@@ -96,9 +96,9 @@ AttributeLeadsOn =
 -- Why a plan is refused, beside the world's answer to what was planned.
 pub data IsWorldsRefusal {A : Type 0} (answer : Result A r.Refusal) (refusal : Refusal) : Type 0 where
   -- want of memory, which may come at any time
-  no_memory : said (λ n. []) refusal ≡ r.NoMemory → IsWorldsRefusal answer refusal
+  no_memory : meaning_of (λ n. []) refusal ≡ r.NoMemory → IsWorldsRefusal answer refusal
   -- the world refuses it by the same
-  same_refusal : answer ≡ Err (said (λ n. []) refusal) → IsWorldsRefusal answer refusal
+  same_refusal : answer ≡ Err (meaning_of (λ n. []) refusal) → IsWorldsRefusal answer refusal
 
 -- The same of a plan that may make records.
 pub data IsRefusedBeside {A : Type 0} (answer : Result A r.Refusal) (refusal : Refusal) : Type 0 where

@@ -15,9 +15,9 @@ use Rattle.asm_base.specs.declared.refusal.Refusal.{Refusal}
 use Rattle.asm_world.specs.Edits as world
 use Rattle.asm_world.specs.Files as bytes
 use Rattle.catalog_laws.specs.file_directory.Files.{head_at, with_head}
-use Rattle.catalog_laws.specs.catalog.FilePlans.{IsRemovalPlan, IsSizePlan, with_removal_pending, sized}
+use Rattle.catalog_laws.specs.catalog.FilePlans.{IsRemovalPlan, IsSizePlan, with_removal_pending, tables_with_size}
 use Rattle.catalog_laws.specs.catalog.NameChecks.{IsCheckRefusal}
-use Rattle.catalog_laws.specs.catalog.NamePlans.{IsNamePlan, IsNameRefusal, made_file, name_at, named, new_head}
+use Rattle.catalog_laws.specs.catalog.NamePlans.{IsNamePlan, IsNameRefusal, made_file, name_at, tables_with_name, new_head}
 use Rattle.catalog_laws.specs.catalog.Numbers.{IsNextFile}
 use Rattle.catalog_laws.specs.catalog.Plans.{AreOwned}
 use Rattle.catalog_laws.specs.catalog_tables.Rules.{KeepsRules}
@@ -32,7 +32,7 @@ use Rattle.group_of.specs.Edits.{IsRefusedBeside, IsWorldsRefusal}
 abbrev pub SizeIsWorlds : Type 0
 SizeIsWorlds =
     (name : Bytes) (s : Shape) (t : Tables) (f size : ℕ) (head : FileHead) (pending : Option Pending) (cells new : ℕ → List Cell) → head_at t.files f ≡ Some head → AreCellsButFor f cells new
-    → group_of name s (sized t f head size pending) new ≡ bytes.with_file_cells (group_of name s t cells) f (file_of_head head (cells f)) (new f)
+    → group_of name s (tables_with_size t f head size pending) new ≡ bytes.with_file_cells (group_of name s t cells) f (file_of_head head (cells f)) (new f)
 
 -- The world's file of a path, cut or grown by zeros, has these other cells.
 abbrev pub ResizedHasCells : Type 0
@@ -55,7 +55,7 @@ abbrev pub NewNameIsWorlds : Type 0
 NewNameIsWorlds =
     (name : Bytes) (c : Catalogued) (path : Path) (size copies : ℕ) (stripe : Stripe) (put : List DirectoryRecord) (gone : List Key) (cells new : ℕ → List Cell)
     (p : IsNamePlan c path size copies stripe put gone) → AreCellsButFor (made_file c.tables) cells new
-    → group_of name c.shape (named c.tables (made_file c.tables) (head_planned p) p.made) new
+    → group_of name c.shape (tables_with_name c.tables (made_file c.tables) (head_planned p) p.made) new
     ≡ bytes.group_with_file (group_of name c.shape c.tables cells) p.name (made_file c.tables) (file_of_head (head_planned p) (new (made_file c.tables)))
 
 -- It is the file that the world makes by a template, where it has the template's stripe and as many copies as the world gives it.
@@ -137,12 +137,12 @@ RemovalLeadsOn =
 abbrev pub SizeLeadsOn : Type 0
 SizeLeadsOn =
     (r : Status) (c : Catalogued) (g : Group) (f size : ℕ) (put : List DirectoryRecord) (gone : List Key) (file : File) (cells : List Cell) → IsDescribed r c g → (p : IsSizePlan c f size put gone)
-    → AreOwned (sized c.tables f p.head size p.pending) → maps.get g.files f ≡ Some file → length cells ≡ size
-    → HaveGroup r (sized c.tables f p.head size p.pending) (bytes.with_file_cells g f file cells)
+    → AreOwned (tables_with_size c.tables f p.head size p.pending) → maps.get g.files f ≡ Some file → length cells ≡ size
+    → HaveGroup r (tables_with_size c.tables f p.head size p.pending) (bytes.with_file_cells g f file cells)
 
 -- Those with a new file describe the group with the file, of as many cells.
 abbrev pub NewNameLeadsOn : Type 0
 NewNameLeadsOn =
     (r : Status) (c : Catalogued) (g : Group) (path : Path) (size copies : ℕ) (stripe : Stripe) (put : List DirectoryRecord) (gone : List Key) (cells : List Cell) → IsDescribed r c g
     → (p : IsNamePlan c path size copies stripe put gone) → length cells ≡ size
-    → HaveGroup r (named c.tables (made_file c.tables) (head_planned p) p.made) (bytes.group_with_file g p.name (made_file c.tables) (file_of_head (head_planned p) cells))
+    → HaveGroup r (tables_with_name c.tables (made_file c.tables) (head_planned p) p.made) (bytes.group_with_file g p.name (made_file c.tables) (file_of_head (head_planned p) cells))

@@ -11,7 +11,7 @@ use Rattle.asm_formats.specs.Status.{Entry, Status, entry_of}
 use Rattle.asm_placement.specs.Modes.{mode_is, serves}
 use Rattle.asm_placement.specs.Partners.{partner_set, with_partners}
 use Rattle.asm_placement.proofs.Chosen.{entry_among}
-use Rattle.record_laws.specs.status_register.Holders.{numbered}
+use Rattle.record_laws.specs.status_register.Holders.{with_next_number}
 use Rattle.record_laws.specs.status_table.Changes.{entries_with_partners, status_with_partners}
 use Rattle.record_laws.specs.group_engine.Commits.{turns_at_most}
 use Rattle.record_laws.specs.group_engine.Mounts.{MountedGroup}
@@ -107,7 +107,7 @@ nothing_costs m failed serving = omega arith
 
 -- the record was written
 pub offline_costs : (m : MountedGroup) (failed : ℕ) (next : Status) (new : MountedGroup) (answer : Result (Unit {0}) Refusal) → failed ≢ 0 → failed < 2 ^ 64 → FewerServe m.register.value failed next
-    → OnOk answer (new.register.value ≡ numbered m.register next) → turns_at_most new ≤ turns_at_most m + 1 → OnOk answer (CostsFaults m failed new)
+    → OnOk answer (new.register.value ≡ with_next_number m.register next) → turns_at_most new ≤ turns_at_most m + 1 → OnOk answer (CostsFaults m failed new)
 offline_costs m failed next new answer some small less recorded turns = on_ok answer
     (λ is serving.
     let k = one_disk failed some small in

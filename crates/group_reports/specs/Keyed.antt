@@ -4,5 +4,5 @@ use Rattle.std.specs.declared.alloc.Global.{Global}
 use Rattle.asm_group.specs.Names.{Bytes}
 use Rattle.asm_base.specs.declared.path.Path.{Path}
 
-abbrev pub keyed : List (Vec ℕ Global × Path) → List (Bytes × Path)
-keyed entries = map (λ (e : Vec ℕ Global × Path). (e.0.items, e.1)) entries
+abbrev pub keyed_paths : List (Vec ℕ Global × Path) → List (Bytes × Path)
+keyed_paths entries = map (λ (e : Vec ℕ Global × Path). (e.0.items, e.1)) entries

@@ -6,7 +6,7 @@ ghost use Rattle.asm_group.specs.Names.{folded};
 ghost use Rattle.asm_base.specs.Names.{path_text_in_group};
 ghost use Rattle.file_directory.specs.declared.head.FileHead as declared;
 ghost use Rattle.group_reports.specs.Files.{folded_text, matching_node_path, found_of_file, found_of_files, paths_in_order, paths_found, placed_among};
-ghost use Rattle.group_reports.specs.Keyed.{keyed};
+ghost use Rattle.group_reports.specs.Keyed.{keyed_paths};
 
 use crate::files::next_file;
 use crate::places::path_below;
@@ -116,7 +116,7 @@ fn in_order(alloc: Global, paths: Vec<Path>) -> Result<Vec<Path>, NoMemory>
 /// Each path under its text without case.
 #[tactic(auto, using(crate::proofs::Keyed::place_more, crate::proofs::Keyed::place_end))]
 fn placed(alloc: Global, mut paths: Vec<Path>) -> Result<BTreeMap<Vec<u8>, Path>, NoMemory>
-    ensures { IfOk result (λ places. keyed places.entries ≡ placed_among [] paths.items) }
+    ensures { IfOk result (λ places. keyed_paths places.entries ≡ placed_among [] paths.items) }
 {
     let mut places = BTreeMap::new(alloc);
     while let Some(path) = paths.pop() {
@@ -131,7 +131,7 @@ fn placed(alloc: Global, mut paths: Vec<Path>) -> Result<BTreeMap<Vec<u8>, Path>
 /// The paths in the order of their keys.
 #[tactic(auto, using(crate::proofs::Keyed::values_same))]
 fn values_of(alloc: Global, places: BTreeMap<Vec<u8>, Path>) -> Result<Vec<Path>, NoMemory>
-    ensures { IfOk result (λ paths. paths.items ≡ map (λ e. e.1) (keyed places.entries)) }
+    ensures { IfOk result (λ paths. paths.items ≡ map (λ e. e.1) (keyed_paths places.entries)) }
 {
     places.into_values().collect(alloc).map_err(|_| NoMemory)
 }

@@ -9,7 +9,7 @@ use Rattle.asm_group.specs.Names.{Bytes}
 use Rattle.asm_world.specs.Grammar as g
 use Rattle.asm_world.specs.Meaning.{attributes_of, behind, clause_of, drop_of, failgroups_of, is_said, online_of, redundancy_of, rename_of, resize_of, statement_of, stripe_of, words_of}
 use Rattle.asm_world.specs.Statement as s
-use Rattle.group_sql.specs.Choices.{choice, missed, added_at, attributes_at, groups_and_attributes_at, groups_at, in_group_at, kind_at, new_disk_at, new_group_at, rebalance_at, redundancy_at, resized_at, size_at, stripe_at, words_at, check_at, clause_at, created_at, drop_disks_at, drop_failgroup_at, drop_group_at, dropped_at, forced_at, last_clause_at, later_clause_at, modified_at, offline_at, online_at, options_at, other_added_at, paths_at, renamed_at, resize_at, set_at, statement_at, template_with_words_at}
+use Rattle.group_sql.specs.Choices.{choice, rest_at_missing, added_at, attributes_at, groups_and_attributes_at, groups_at, in_group_at, kind_at, new_disk_at, new_group_at, rebalance_at, redundancy_at, resized_at, size_at, stripe_at, words_at, check_at, clause_at, created_at, drop_disks_at, drop_failgroup_at, drop_group_at, dropped_at, forced_at, last_clause_at, later_clause_at, modified_at, offline_at, online_at, options_at, other_added_at, paths_at, renamed_at, resize_at, set_at, statement_at, template_with_words_at}
 use Rattle.group_sql.specs.Rows as rows
 use Rattle.group_sql.proofs.Parts.{this, other}
 
@@ -27,10 +27,10 @@ same f h e (Failed l) = refl
 
 tie : {C : Type 0} (k : List ℕ) (a b : SyntaxRule) (s : Value (Either (Then (One (Keyword k)) a) b) → C) (f x : List ℕ → ℕ → Outcome C)
     → ((r : List ℕ) (l : ℕ) → mapped (λ v. s (inl (tt, v))) (parse a r l) ≡ f r l) → ((t : List ℕ) (l : ℕ) → mapped (λ w. s (inr w)) (parse b t l) ≡ x t l)
-    → (text : List ℕ) (left : ℕ) → mapped s (parse (Either (Then (One (Keyword k)) a) b) text left) ≡ choice (fit (Keyword k) text) (λ r. f r left) (x text (missed k text left))
+    → (text : List ℕ) (left : ℕ) → mapped s (parse (Either (Then (One (Keyword k)) a) b) text left) ≡ choice (fit (Keyword k) text) (λ r. f r left) (x text (rest_at_missing k text left))
 tie k a b s f x h j text left = elim (found_or_not (fit (Keyword k) text)) [
-  | inl e ↦ other k a b s text left e ∙ (j text (missed k text left) ∙ sym (ap (λ o. choice o (λ r. f r left) (x text (missed k text left))) e))
-  | inr q ↦ this k a b s text left q.0 q.1 ∙ (h q.0 left ∙ sym (ap (λ o. choice o (λ r. f r left) (x text (missed k text left))) q.1))
+  | inl e ↦ other k a b s text left e ∙ (j text (rest_at_missing k text left) ∙ sym (ap (λ o. choice o (λ r. f r left) (x text (rest_at_missing k text left))) e))
+  | inr q ↦ this k a b s text left q.0 q.1 ∙ (h q.0 left ∙ sym (ap (λ o. choice o (λ r. f r left) (x text (rest_at_missing k text left))) q.1))
 ]
 
 left_first : {V W C : Type 0} (s : ((Unit {0} ⊎ Unit {0}) × V) ⊎ W → C) (o : Outcome V) → mapped s (mapped (λ v. inl v) (mapped (λ v. (inl tt, v)) o)) ≡ mapped (λ v. s (inl (inl tt, v))) o
@@ -50,12 +50,12 @@ tie_two : {C : Type 0} (k k' : List ℕ) (a b : SyntaxRule) (s : Value (Either (
     → ((r : List ℕ) (l : ℕ) → mapped (λ v. s (inl (inl tt, v))) (parse a r l) ≡ f r l) → ((r : List ℕ) (l : ℕ) → mapped (λ v. s (inl (inr tt, v))) (parse a r l) ≡ f r l)
     → ((t : List ℕ) (l : ℕ) → mapped (λ w. s (inr w)) (parse b t l) ≡ x t l)
     → (text : List ℕ) (left : ℕ) → mapped s (parse (Either (Then (Either (One (Keyword k)) (One (Keyword k'))) a) b) text left)
-    ≡ choice (fit (Keyword k) text) (λ r. f r left) (choice (fit (Keyword k') text) (λ r. f r (missed k text left)) (x text (missed k' text (missed k text left))))
+    ≡ choice (fit (Keyword k) text) (λ r. f r left) (choice (fit (Keyword k') text) (λ r. f r (rest_at_missing k text left)) (x text (rest_at_missing k' text (rest_at_missing k text left))))
 tie_two k k' a b s f x h h' j text left = elim (found_or_not (fit (Keyword k) text)) [
   | inr q ↦ rw q.1 (left_first s (parse a q.0 left) ∙ h q.0 left)
   | inl e ↦ elim (found_or_not (fit (Keyword k') text)) [
-    | inr q ↦ rw (e, q.1) (left_second s (parse a q.0 (missed k text left)) ∙ h' q.0 (missed k text left))
-    | inl e' ↦ rw (e, e') (right_of s (parse b text (missed k' text (missed k text left))) ∙ j text (missed k' text (missed k text left)))
+    | inr q ↦ rw (e, q.1) (left_second s (parse a q.0 (rest_at_missing k text left)) ∙ h' q.0 (rest_at_missing k text left))
+    | inl e' ↦ rw (e, e') (right_of s (parse b text (rest_at_missing k' text (rest_at_missing k text left))) ∙ j text (rest_at_missing k' text (rest_at_missing k text left)))
   ]
 ]
 
@@ -143,12 +143,12 @@ unfolding words_at stripe_at redundancy_at
 words_is text left = elim (found_or_not (fit (Keyword (codes "UNPROTECTED")) text)) [
   | inr q ↦ rw q.1 (redundancy_first (inl tt) (parse (Maybe g.stripe) q.0 left))
   | inl a ↦ elim (found_or_not (fit (Keyword (codes "MIRROR")) text)) [
-    | inr q ↦ rw (a, q.1) (redundancy_first (inr (inl tt)) (parse (Maybe g.stripe) q.0 (missed (codes "UNPROTECTED") text left)))
+    | inr q ↦ rw (a, q.1) (redundancy_first (inr (inl tt)) (parse (Maybe g.stripe) q.0 (rest_at_missing (codes "UNPROTECTED") text left)))
     | inl b ↦ elim (found_or_not (fit (Keyword (codes "HIGH")) text)) [
-      | inr q ↦ rw (a, b, q.1) (redundancy_first (inr (inr tt)) (parse (Maybe g.stripe) q.0 (missed (codes "MIRROR") text (missed (codes "UNPROTECTED") text left))))
+      | inr q ↦ rw (a, b, q.1) (redundancy_first (inr (inr tt)) (parse (Maybe g.stripe) q.0 (rest_at_missing (codes "MIRROR") text (rest_at_missing (codes "UNPROTECTED") text left))))
       | inl c ↦ elim (found_or_not (fit (Keyword (codes "COARSE")) text)) [
-        | inr q ↦ rw (a, b, c, q.1) (stripe_first (inl tt) (parse (Maybe g.redundancy) q.0 (missed (codes "HIGH") text (missed (codes "MIRROR") text (missed (codes "UNPROTECTED") text left)))))
-        | inl d ↦ rw (a, b, c, d) (fine_first (parse (g.key (codes "FINE")) text (missed (codes "COARSE") text (missed (codes "HIGH") text (missed (codes "MIRROR") text (missed (codes "UNPROTECTED") text left))))))
+        | inr q ↦ rw (a, b, c, q.1) (stripe_first (inl tt) (parse (Maybe g.redundancy) q.0 (rest_at_missing (codes "HIGH") text (rest_at_missing (codes "MIRROR") text (rest_at_missing (codes "UNPROTECTED") text left)))))
+        | inl d ↦ rw (a, b, c, d) (fine_first (parse (g.key (codes "FINE")) text (rest_at_missing (codes "COARSE") text (rest_at_missing (codes "HIGH") text (rest_at_missing (codes "MIRROR") text (rest_at_missing (codes "UNPROTECTED") text left))))))
       ]
     ]
   ]
@@ -210,7 +210,7 @@ resize_is : (text : List ℕ) (left : ℕ) → mapped rows.resize_rest_of (parse
 unfolding resize_at
 resize_is text left = elim (found_or_not (fit (Keyword (codes "ALL")) text)) [
   | inr q ↦ rw q.1 (all_first (parse rows.size_with_rebalance q.0 left) ∙ ap (λ z. mapped (λ p. s.ResizeAll p.0 p.1) z) (resized_is q.0 left))
-  | inl e ↦ rw e (disk_behind (parse (g.key (codes "DISK")) text (missed (codes "ALL") text left)))
+  | inl e ↦ rw e (disk_behind (parse (g.key (codes "DISK")) text (rest_at_missing (codes "ALL") text left)))
 ]
 
 -- NEW GROUPS
@@ -244,23 +244,23 @@ named (Failed l) = refl
 
 pub other_added_is : (text : List ℕ) (left : ℕ) → mapped rows.other_added_of (parse rows.other_added text left) ≡ other_added_at text left
 unfolding other_added_at paths_at
-other_added_is = (tie (codes "TEMPLATE") rows.template_rest (Either (Then (One (Keyword (codes "DIRECTORY"))) g.path) (Then (One (Keyword (codes "ALIAS"))) (rows.two_paths (codes "FOR")))) (λ v. rows.other_added_of v) (λ r0 l0. mapped (λ p. s.AddTemplate p.0 p.1) (template_with_words_at r0 l0)) (λ t0 l0. (choice (fit (Keyword (codes "DIRECTORY")) t0) (λ r10. mapped (λ p. s.AddDirectory p) (parse g.path r10 l0)) (parse (One (Keyword (codes "ALIAS"))) t0 (missed (codes "DIRECTORY") t0 l0) >>= λ u rest n. mapped (λ p. s.AddAlias p.0 p.1) (paths_at (codes "FOR") rest n)))) (λ r0 l0. (sym (fused (λ (p : Bytes × s.TemplateWords). s.AddTemplate p.0 p.1) rows.template_of (parse rows.template_rest r0 l0)) ∙ ap (λ z. mapped (λ (p : Bytes × s.TemplateWords). s.AddTemplate p.0 p.1) z) (template_is r0 l0))) (tie (codes "DIRECTORY") g.path (Then (One (Keyword (codes "ALIAS"))) (rows.two_paths (codes "FOR"))) (λ v. rows.other_added_of (inr v)) (λ r1 l1. mapped (λ p. s.AddDirectory p) (parse g.path r1 l1)) (λ t1 l1. (parse (One (Keyword (codes "ALIAS"))) t1 l1 >>= λ u rest n. mapped (λ p. s.AddAlias p.0 p.1) (paths_at (codes "FOR") rest n))) (λ r1 l1. refl) (last_tie (codes "ALIAS") (rows.two_paths (codes "FOR")) (λ v. rows.other_added_of (inr (inr v))) (λ r l. mapped (λ p. s.AddAlias p.0 p.1) (paths_at (codes "FOR") r l)) (λ r l. sym (fused (λ (p : Bytes × Bytes). s.AddAlias p.0 p.1) (rows.two_paths_of (codes "FOR")) (parse (rows.two_paths (codes "FOR")) r l))))))
+other_added_is = (tie (codes "TEMPLATE") rows.template_rest (Either (Then (One (Keyword (codes "DIRECTORY"))) g.path) (Then (One (Keyword (codes "ALIAS"))) (rows.two_paths (codes "FOR")))) (λ v. rows.other_added_of v) (λ r0 l0. mapped (λ p. s.AddTemplate p.0 p.1) (template_with_words_at r0 l0)) (λ t0 l0. (choice (fit (Keyword (codes "DIRECTORY")) t0) (λ r10. mapped (λ p. s.AddDirectory p) (parse g.path r10 l0)) (parse (One (Keyword (codes "ALIAS"))) t0 (rest_at_missing (codes "DIRECTORY") t0 l0) >>= λ u rest n. mapped (λ p. s.AddAlias p.0 p.1) (paths_at (codes "FOR") rest n)))) (λ r0 l0. (sym (fused (λ (p : Bytes × s.TemplateWords). s.AddTemplate p.0 p.1) rows.template_of (parse rows.template_rest r0 l0)) ∙ ap (λ z. mapped (λ (p : Bytes × s.TemplateWords). s.AddTemplate p.0 p.1) z) (template_is r0 l0))) (tie (codes "DIRECTORY") g.path (Then (One (Keyword (codes "ALIAS"))) (rows.two_paths (codes "FOR"))) (λ v. rows.other_added_of (inr v)) (λ r1 l1. mapped (λ p. s.AddDirectory p) (parse g.path r1 l1)) (λ t1 l1. (parse (One (Keyword (codes "ALIAS"))) t1 l1 >>= λ u rest n. mapped (λ p. s.AddAlias p.0 p.1) (paths_at (codes "FOR") rest n))) (λ r1 l1. refl) (last_tie (codes "ALIAS") (rows.two_paths (codes "FOR")) (λ v. rows.other_added_of (inr (inr v))) (λ r l. mapped (λ p. s.AddAlias p.0 p.1) (paths_at (codes "FOR") r l)) (λ r l. sym (fused (λ (p : Bytes × Bytes). s.AddAlias p.0 p.1) (rows.two_paths_of (codes "FOR")) (parse (rows.two_paths (codes "FOR")) r l))))))
 
 pub dropped_is : (text : List ℕ) (left : ℕ) → mapped drop_of (parse g.dropped text left) ≡ dropped_at text left
 unfolding dropped_at drop_disks_at
-dropped_is = (tie (codes "DISK") rows.drop_disks (Either (Then (One (Keyword (codes "DISKS"))) rows.drop_failgroup) (Either (Then (One (Keyword (codes "TEMPLATE"))) g.name) (Either (Then (One (Keyword (codes "DIRECTORY"))) g.path) (Either (Then (One (Keyword (codes "ALIAS"))) g.path) (Then (One (Keyword (codes "FILE"))) g.path))))) (λ v. drop_of v) (λ r0 l0. drop_disks_at r0 l0) (λ t0 l0. (choice (fit (Keyword (codes "DISKS")) t0) (λ r10. drop_failgroup_at r10 l0) (choice (fit (Keyword (codes "TEMPLATE")) t0) (λ r11. mapped (λ p. s.DropTemplate p) (parse g.name r11 (missed (codes "DISKS") t0 l0))) (choice (fit (Keyword (codes "DIRECTORY")) t0) (λ r12. mapped (λ p. s.DropDirectory p) (parse g.path r12 (missed (codes "TEMPLATE") t0 (missed (codes "DISKS") t0 l0)))) (choice (fit (Keyword (codes "ALIAS")) t0) (λ r13. mapped (λ p. s.DropAlias p) (parse g.path r13 (missed (codes "DIRECTORY") t0 (missed (codes "TEMPLATE") t0 (missed (codes "DISKS") t0 l0))))) (parse (One (Keyword (codes "FILE"))) t0 (missed (codes "ALIAS") t0 (missed (codes "DIRECTORY") t0 (missed (codes "TEMPLATE") t0 (missed (codes "DISKS") t0 l0)))) >>= λ u rest n. mapped (λ p. s.DropFile p) (parse g.path rest n))))))) (λ r0 l0. refl) (tie (codes "DISKS") rows.drop_failgroup (Either (Then (One (Keyword (codes "TEMPLATE"))) g.name) (Either (Then (One (Keyword (codes "DIRECTORY"))) g.path) (Either (Then (One (Keyword (codes "ALIAS"))) g.path) (Then (One (Keyword (codes "FILE"))) g.path)))) (λ v. drop_of (inr v)) (λ r1 l1. drop_failgroup_at r1 l1) (λ t1 l1. (choice (fit (Keyword (codes "TEMPLATE")) t1) (λ r10. mapped (λ p. s.DropTemplate p) (parse g.name r10 l1)) (choice (fit (Keyword (codes "DIRECTORY")) t1) (λ r11. mapped (λ p. s.DropDirectory p) (parse g.path r11 (missed (codes "TEMPLATE") t1 l1))) (choice (fit (Keyword (codes "ALIAS")) t1) (λ r12. mapped (λ p. s.DropAlias p) (parse g.path r12 (missed (codes "DIRECTORY") t1 (missed (codes "TEMPLATE") t1 l1)))) (parse (One (Keyword (codes "FILE"))) t1 (missed (codes "ALIAS") t1 (missed (codes "DIRECTORY") t1 (missed (codes "TEMPLATE") t1 l1))) >>= λ u rest n. mapped (λ p. s.DropFile p) (parse g.path rest n)))))) (λ r1 l1. drop_failgroup_is r1 l1) (tie (codes "TEMPLATE") g.name (Either (Then (One (Keyword (codes "DIRECTORY"))) g.path) (Either (Then (One (Keyword (codes "ALIAS"))) g.path) (Then (One (Keyword (codes "FILE"))) g.path))) (λ v. drop_of (inr (inr v))) (λ r2 l2. mapped (λ p. s.DropTemplate p) (parse g.name r2 l2)) (λ t2 l2. (choice (fit (Keyword (codes "DIRECTORY")) t2) (λ r10. mapped (λ p. s.DropDirectory p) (parse g.path r10 l2)) (choice (fit (Keyword (codes "ALIAS")) t2) (λ r11. mapped (λ p. s.DropAlias p) (parse g.path r11 (missed (codes "DIRECTORY") t2 l2))) (parse (One (Keyword (codes "FILE"))) t2 (missed (codes "ALIAS") t2 (missed (codes "DIRECTORY") t2 l2)) >>= λ u rest n. mapped (λ p. s.DropFile p) (parse g.path rest n))))) (λ r2 l2. refl) (tie (codes "DIRECTORY") g.path (Either (Then (One (Keyword (codes "ALIAS"))) g.path) (Then (One (Keyword (codes "FILE"))) g.path)) (λ v. drop_of (inr (inr (inr v)))) (λ r3 l3. mapped (λ p. s.DropDirectory p) (parse g.path r3 l3)) (λ t3 l3. (choice (fit (Keyword (codes "ALIAS")) t3) (λ r10. mapped (λ p. s.DropAlias p) (parse g.path r10 l3)) (parse (One (Keyword (codes "FILE"))) t3 (missed (codes "ALIAS") t3 l3) >>= λ u rest n. mapped (λ p. s.DropFile p) (parse g.path rest n)))) (λ r3 l3. refl) (tie (codes "ALIAS") g.path (Then (One (Keyword (codes "FILE"))) g.path) (λ v. drop_of (inr (inr (inr (inr v))))) (λ r4 l4. mapped (λ p. s.DropAlias p) (parse g.path r4 l4)) (λ t4 l4. (parse (One (Keyword (codes "FILE"))) t4 l4 >>= λ u rest n. mapped (λ p. s.DropFile p) (parse g.path rest n))) (λ r4 l4. refl) (last_tie (codes "FILE") g.path (λ v. drop_of (inr (inr (inr (inr (inr v)))))) (λ r l. mapped (λ p. s.DropFile p) (parse g.path r l)) (λ r l. refl)))))))
+dropped_is = (tie (codes "DISK") rows.drop_disks (Either (Then (One (Keyword (codes "DISKS"))) rows.drop_failgroup) (Either (Then (One (Keyword (codes "TEMPLATE"))) g.name) (Either (Then (One (Keyword (codes "DIRECTORY"))) g.path) (Either (Then (One (Keyword (codes "ALIAS"))) g.path) (Then (One (Keyword (codes "FILE"))) g.path))))) (λ v. drop_of v) (λ r0 l0. drop_disks_at r0 l0) (λ t0 l0. (choice (fit (Keyword (codes "DISKS")) t0) (λ r10. drop_failgroup_at r10 l0) (choice (fit (Keyword (codes "TEMPLATE")) t0) (λ r11. mapped (λ p. s.DropTemplate p) (parse g.name r11 (rest_at_missing (codes "DISKS") t0 l0))) (choice (fit (Keyword (codes "DIRECTORY")) t0) (λ r12. mapped (λ p. s.DropDirectory p) (parse g.path r12 (rest_at_missing (codes "TEMPLATE") t0 (rest_at_missing (codes "DISKS") t0 l0)))) (choice (fit (Keyword (codes "ALIAS")) t0) (λ r13. mapped (λ p. s.DropAlias p) (parse g.path r13 (rest_at_missing (codes "DIRECTORY") t0 (rest_at_missing (codes "TEMPLATE") t0 (rest_at_missing (codes "DISKS") t0 l0))))) (parse (One (Keyword (codes "FILE"))) t0 (rest_at_missing (codes "ALIAS") t0 (rest_at_missing (codes "DIRECTORY") t0 (rest_at_missing (codes "TEMPLATE") t0 (rest_at_missing (codes "DISKS") t0 l0)))) >>= λ u rest n. mapped (λ p. s.DropFile p) (parse g.path rest n))))))) (λ r0 l0. refl) (tie (codes "DISKS") rows.drop_failgroup (Either (Then (One (Keyword (codes "TEMPLATE"))) g.name) (Either (Then (One (Keyword (codes "DIRECTORY"))) g.path) (Either (Then (One (Keyword (codes "ALIAS"))) g.path) (Then (One (Keyword (codes "FILE"))) g.path)))) (λ v. drop_of (inr v)) (λ r1 l1. drop_failgroup_at r1 l1) (λ t1 l1. (choice (fit (Keyword (codes "TEMPLATE")) t1) (λ r10. mapped (λ p. s.DropTemplate p) (parse g.name r10 l1)) (choice (fit (Keyword (codes "DIRECTORY")) t1) (λ r11. mapped (λ p. s.DropDirectory p) (parse g.path r11 (rest_at_missing (codes "TEMPLATE") t1 l1))) (choice (fit (Keyword (codes "ALIAS")) t1) (λ r12. mapped (λ p. s.DropAlias p) (parse g.path r12 (rest_at_missing (codes "DIRECTORY") t1 (rest_at_missing (codes "TEMPLATE") t1 l1)))) (parse (One (Keyword (codes "FILE"))) t1 (rest_at_missing (codes "ALIAS") t1 (rest_at_missing (codes "DIRECTORY") t1 (rest_at_missing (codes "TEMPLATE") t1 l1))) >>= λ u rest n. mapped (λ p. s.DropFile p) (parse g.path rest n)))))) (λ r1 l1. drop_failgroup_is r1 l1) (tie (codes "TEMPLATE") g.name (Either (Then (One (Keyword (codes "DIRECTORY"))) g.path) (Either (Then (One (Keyword (codes "ALIAS"))) g.path) (Then (One (Keyword (codes "FILE"))) g.path))) (λ v. drop_of (inr (inr v))) (λ r2 l2. mapped (λ p. s.DropTemplate p) (parse g.name r2 l2)) (λ t2 l2. (choice (fit (Keyword (codes "DIRECTORY")) t2) (λ r10. mapped (λ p. s.DropDirectory p) (parse g.path r10 l2)) (choice (fit (Keyword (codes "ALIAS")) t2) (λ r11. mapped (λ p. s.DropAlias p) (parse g.path r11 (rest_at_missing (codes "DIRECTORY") t2 l2))) (parse (One (Keyword (codes "FILE"))) t2 (rest_at_missing (codes "ALIAS") t2 (rest_at_missing (codes "DIRECTORY") t2 l2)) >>= λ u rest n. mapped (λ p. s.DropFile p) (parse g.path rest n))))) (λ r2 l2. refl) (tie (codes "DIRECTORY") g.path (Either (Then (One (Keyword (codes "ALIAS"))) g.path) (Then (One (Keyword (codes "FILE"))) g.path)) (λ v. drop_of (inr (inr (inr v)))) (λ r3 l3. mapped (λ p. s.DropDirectory p) (parse g.path r3 l3)) (λ t3 l3. (choice (fit (Keyword (codes "ALIAS")) t3) (λ r10. mapped (λ p. s.DropAlias p) (parse g.path r10 l3)) (parse (One (Keyword (codes "FILE"))) t3 (rest_at_missing (codes "ALIAS") t3 l3) >>= λ u rest n. mapped (λ p. s.DropFile p) (parse g.path rest n)))) (λ r3 l3. refl) (tie (codes "ALIAS") g.path (Then (One (Keyword (codes "FILE"))) g.path) (λ v. drop_of (inr (inr (inr (inr v))))) (λ r4 l4. mapped (λ p. s.DropAlias p) (parse g.path r4 l4)) (λ t4 l4. (parse (One (Keyword (codes "FILE"))) t4 l4 >>= λ u rest n. mapped (λ p. s.DropFile p) (parse g.path rest n))) (λ r4 l4. refl) (last_tie (codes "FILE") g.path (λ v. drop_of (inr (inr (inr (inr (inr v)))))) (λ r l. mapped (λ p. s.DropFile p) (parse g.path r l)) (λ r l. refl)))))))
 
 last_clause_is : (text : List ℕ) (left : ℕ) → mapped (λ w. clause_of (inr (inr (inr (inr (inr (inr (inr (inr (inr w)))))))))) (parse (Either (Then (One (Keyword (codes "OFFLINE"))) rows.offline_rest) (Either (Then (Either (One (Keyword (codes "MODIFY"))) (One (Keyword (codes "ALTER")))) g.template) (Either (Then (One (Keyword (codes "RENAME"))) rows.rename_rest) (Then (One (Keyword (codes "SET"))) rows.attribute_rest)))) text left) ≡ last_clause_at text left
 unfolding last_clause_at offline_at renamed_at set_at
-last_clause_is = (tie (codes "OFFLINE") rows.offline_rest (Either (Then (Either (One (Keyword (codes "MODIFY"))) (One (Keyword (codes "ALTER")))) g.template) (Either (Then (One (Keyword (codes "RENAME"))) rows.rename_rest) (Then (One (Keyword (codes "SET"))) rows.attribute_rest))) (λ v. clause_of (inr (inr (inr (inr (inr (inr (inr (inr (inr v)))))))))) (λ r0 l0. offline_at r0 l0) (λ t0 l0. (choice (fit (Keyword (codes "MODIFY")) t0) (λ r10. modified_at r10 l0) (choice (fit (Keyword (codes "ALTER")) t0) (λ r10. modified_at r10 (missed (codes "MODIFY") t0 l0)) (choice (fit (Keyword (codes "RENAME")) t0) (λ r11. renamed_at r11 (missed (codes "ALTER") t0 (missed (codes "MODIFY") t0 l0))) (parse (One (Keyword (codes "SET"))) t0 (missed (codes "RENAME") t0 (missed (codes "ALTER") t0 (missed (codes "MODIFY") t0 l0))) >>= λ u rest n. set_at rest n))))) (λ r0 l0. refl) (tie_two (codes "MODIFY") (codes "ALTER") g.template (Either (Then (One (Keyword (codes "RENAME"))) rows.rename_rest) (Then (One (Keyword (codes "SET"))) rows.attribute_rest)) (λ v. clause_of (inr (inr (inr (inr (inr (inr (inr (inr (inr (inr v))))))))))) (λ r1 l1. modified_at r1 l1) (λ t1 l1. (choice (fit (Keyword (codes "RENAME")) t1) (λ r10. renamed_at r10 l1) (parse (One (Keyword (codes "SET"))) t1 (missed (codes "RENAME") t1 l1) >>= λ u rest n. set_at rest n))) (λ r1 l1. modified_is r1 l1) (λ r1 l1. modified_is r1 l1) (tie (codes "RENAME") rows.rename_rest (Then (One (Keyword (codes "SET"))) rows.attribute_rest) (λ v. clause_of (inr (inr (inr (inr (inr (inr (inr (inr (inr (inr (inr v)))))))))))) (λ r2 l2. renamed_at r2 l2) (λ t2 l2. (parse (One (Keyword (codes "SET"))) t2 l2 >>= λ u rest n. set_at rest n)) (λ r2 l2. same _ rows.rename_rest_of rename_same (parse rows.rename_rest r2 l2)) (last_tie (codes "SET") rows.attribute_rest (λ v. clause_of (inr (inr (inr (inr (inr (inr (inr (inr (inr (inr (inr (inr v))))))))))))) (λ r l. set_at r l) (λ r l. refl)))))
+last_clause_is = (tie (codes "OFFLINE") rows.offline_rest (Either (Then (Either (One (Keyword (codes "MODIFY"))) (One (Keyword (codes "ALTER")))) g.template) (Either (Then (One (Keyword (codes "RENAME"))) rows.rename_rest) (Then (One (Keyword (codes "SET"))) rows.attribute_rest))) (λ v. clause_of (inr (inr (inr (inr (inr (inr (inr (inr (inr v)))))))))) (λ r0 l0. offline_at r0 l0) (λ t0 l0. (choice (fit (Keyword (codes "MODIFY")) t0) (λ r10. modified_at r10 l0) (choice (fit (Keyword (codes "ALTER")) t0) (λ r10. modified_at r10 (rest_at_missing (codes "MODIFY") t0 l0)) (choice (fit (Keyword (codes "RENAME")) t0) (λ r11. renamed_at r11 (rest_at_missing (codes "ALTER") t0 (rest_at_missing (codes "MODIFY") t0 l0))) (parse (One (Keyword (codes "SET"))) t0 (rest_at_missing (codes "RENAME") t0 (rest_at_missing (codes "ALTER") t0 (rest_at_missing (codes "MODIFY") t0 l0))) >>= λ u rest n. set_at rest n))))) (λ r0 l0. refl) (tie_two (codes "MODIFY") (codes "ALTER") g.template (Either (Then (One (Keyword (codes "RENAME"))) rows.rename_rest) (Then (One (Keyword (codes "SET"))) rows.attribute_rest)) (λ v. clause_of (inr (inr (inr (inr (inr (inr (inr (inr (inr (inr v))))))))))) (λ r1 l1. modified_at r1 l1) (λ t1 l1. (choice (fit (Keyword (codes "RENAME")) t1) (λ r10. renamed_at r10 l1) (parse (One (Keyword (codes "SET"))) t1 (rest_at_missing (codes "RENAME") t1 l1) >>= λ u rest n. set_at rest n))) (λ r1 l1. modified_is r1 l1) (λ r1 l1. modified_is r1 l1) (tie (codes "RENAME") rows.rename_rest (Then (One (Keyword (codes "SET"))) rows.attribute_rest) (λ v. clause_of (inr (inr (inr (inr (inr (inr (inr (inr (inr (inr (inr v)))))))))))) (λ r2 l2. renamed_at r2 l2) (λ t2 l2. (parse (One (Keyword (codes "SET"))) t2 l2 >>= λ u rest n. set_at rest n)) (λ r2 l2. same _ rows.rename_rest_of rename_same (parse rows.rename_rest r2 l2)) (last_tie (codes "SET") rows.attribute_rest (λ v. clause_of (inr (inr (inr (inr (inr (inr (inr (inr (inr (inr (inr (inr v))))))))))))) (λ r l. set_at r l) (λ r l. refl)))))
 
 later_clause_is : (text : List ℕ) (left : ℕ) → mapped (λ w. clause_of (inr (inr (inr (inr (inr w)))))) (parse (Either (Then (One (Keyword (codes "CHECK"))) rows.check_rest) (Either (Then (One (Keyword (codes "MOUNT"))) g.forced) (Either (Then (One (Keyword (codes "DISMOUNT"))) g.forced) (Either (Then (One (Keyword (codes "ONLINE"))) rows.online_rest) (Either (Then (One (Keyword (codes "OFFLINE"))) rows.offline_rest) (Either (Then (Either (One (Keyword (codes "MODIFY"))) (One (Keyword (codes "ALTER")))) g.template) (Either (Then (One (Keyword (codes "RENAME"))) rows.rename_rest) (Then (One (Keyword (codes "SET"))) rows.attribute_rest)))))))) text left) ≡ later_clause_at text left
 unfolding later_clause_at check_at forced_at online_at
-later_clause_is = (tie (codes "CHECK") rows.check_rest (Either (Then (One (Keyword (codes "MOUNT"))) g.forced) (Either (Then (One (Keyword (codes "DISMOUNT"))) g.forced) (Either (Then (One (Keyword (codes "ONLINE"))) rows.online_rest) (Either (Then (One (Keyword (codes "OFFLINE"))) rows.offline_rest) (Either (Then (Either (One (Keyword (codes "MODIFY"))) (One (Keyword (codes "ALTER")))) g.template) (Either (Then (One (Keyword (codes "RENAME"))) rows.rename_rest) (Then (One (Keyword (codes "SET"))) rows.attribute_rest))))))) (λ v. clause_of (inr (inr (inr (inr (inr v)))))) (λ r0 l0. check_at r0 l0) (λ t0 l0. (choice (fit (Keyword (codes "MOUNT")) t0) (λ r10. mapped (λ f. s.Mount f) (forced_at r10 l0)) (choice (fit (Keyword (codes "DISMOUNT")) t0) (λ r11. mapped (λ f. s.Dismount f) (forced_at r11 (missed (codes "MOUNT") t0 l0))) (choice (fit (Keyword (codes "ONLINE")) t0) (λ r12. online_at r12 (missed (codes "DISMOUNT") t0 (missed (codes "MOUNT") t0 l0))) (last_clause_at t0 (missed (codes "ONLINE") t0 (missed (codes "DISMOUNT") t0 (missed (codes "MOUNT") t0 l0)))))))) (λ r0 l0. refl) (tie (codes "MOUNT") g.forced (Either (Then (One (Keyword (codes "DISMOUNT"))) g.forced) (Either (Then (One (Keyword (codes "ONLINE"))) rows.online_rest) (Either (Then (One (Keyword (codes "OFFLINE"))) rows.offline_rest) (Either (Then (Either (One (Keyword (codes "MODIFY"))) (One (Keyword (codes "ALTER")))) g.template) (Either (Then (One (Keyword (codes "RENAME"))) rows.rename_rest) (Then (One (Keyword (codes "SET"))) rows.attribute_rest)))))) (λ v. clause_of (inr (inr (inr (inr (inr (inr v))))))) (λ r1 l1. mapped (λ f. s.Mount f) (forced_at r1 l1)) (λ t1 l1. (choice (fit (Keyword (codes "DISMOUNT")) t1) (λ r10. mapped (λ f. s.Dismount f) (forced_at r10 l1)) (choice (fit (Keyword (codes "ONLINE")) t1) (λ r11. online_at r11 (missed (codes "DISMOUNT") t1 l1)) (last_clause_at t1 (missed (codes "ONLINE") t1 (missed (codes "DISMOUNT") t1 l1)))))) (λ r1 l1. sym (fused (λ f. s.Mount f) is_said (parse g.forced r1 l1))) (tie (codes "DISMOUNT") g.forced (Either (Then (One (Keyword (codes "ONLINE"))) rows.online_rest) (Either (Then (One (Keyword (codes "OFFLINE"))) rows.offline_rest) (Either (Then (Either (One (Keyword (codes "MODIFY"))) (One (Keyword (codes "ALTER")))) g.template) (Either (Then (One (Keyword (codes "RENAME"))) rows.rename_rest) (Then (One (Keyword (codes "SET"))) rows.attribute_rest))))) (λ v. clause_of (inr (inr (inr (inr (inr (inr (inr v)))))))) (λ r2 l2. mapped (λ f. s.Dismount f) (forced_at r2 l2)) (λ t2 l2. (choice (fit (Keyword (codes "ONLINE")) t2) (λ r10. online_at r10 l2) (last_clause_at t2 (missed (codes "ONLINE") t2 l2)))) (λ r2 l2. sym (fused (λ f. s.Dismount f) is_said (parse g.forced r2 l2))) (tie (codes "ONLINE") rows.online_rest (Either (Then (One (Keyword (codes "OFFLINE"))) rows.offline_rest) (Either (Then (Either (One (Keyword (codes "MODIFY"))) (One (Keyword (codes "ALTER")))) g.template) (Either (Then (One (Keyword (codes "RENAME"))) rows.rename_rest) (Then (One (Keyword (codes "SET"))) rows.attribute_rest)))) (λ v. clause_of (inr (inr (inr (inr (inr (inr (inr (inr v))))))))) (λ r3 l3. online_at r3 l3) (λ t3 l3. (last_clause_at t3 l3)) (λ r3 l3. same _ rows.online_rest_of online_same (parse rows.online_rest r3 l3)) last_clause_is))))
+later_clause_is = (tie (codes "CHECK") rows.check_rest (Either (Then (One (Keyword (codes "MOUNT"))) g.forced) (Either (Then (One (Keyword (codes "DISMOUNT"))) g.forced) (Either (Then (One (Keyword (codes "ONLINE"))) rows.online_rest) (Either (Then (One (Keyword (codes "OFFLINE"))) rows.offline_rest) (Either (Then (Either (One (Keyword (codes "MODIFY"))) (One (Keyword (codes "ALTER")))) g.template) (Either (Then (One (Keyword (codes "RENAME"))) rows.rename_rest) (Then (One (Keyword (codes "SET"))) rows.attribute_rest))))))) (λ v. clause_of (inr (inr (inr (inr (inr v)))))) (λ r0 l0. check_at r0 l0) (λ t0 l0. (choice (fit (Keyword (codes "MOUNT")) t0) (λ r10. mapped (λ f. s.Mount f) (forced_at r10 l0)) (choice (fit (Keyword (codes "DISMOUNT")) t0) (λ r11. mapped (λ f. s.Dismount f) (forced_at r11 (rest_at_missing (codes "MOUNT") t0 l0))) (choice (fit (Keyword (codes "ONLINE")) t0) (λ r12. online_at r12 (rest_at_missing (codes "DISMOUNT") t0 (rest_at_missing (codes "MOUNT") t0 l0))) (last_clause_at t0 (rest_at_missing (codes "ONLINE") t0 (rest_at_missing (codes "DISMOUNT") t0 (rest_at_missing (codes "MOUNT") t0 l0)))))))) (λ r0 l0. refl) (tie (codes "MOUNT") g.forced (Either (Then (One (Keyword (codes "DISMOUNT"))) g.forced) (Either (Then (One (Keyword (codes "ONLINE"))) rows.online_rest) (Either (Then (One (Keyword (codes "OFFLINE"))) rows.offline_rest) (Either (Then (Either (One (Keyword (codes "MODIFY"))) (One (Keyword (codes "ALTER")))) g.template) (Either (Then (One (Keyword (codes "RENAME"))) rows.rename_rest) (Then (One (Keyword (codes "SET"))) rows.attribute_rest)))))) (λ v. clause_of (inr (inr (inr (inr (inr (inr v))))))) (λ r1 l1. mapped (λ f. s.Mount f) (forced_at r1 l1)) (λ t1 l1. (choice (fit (Keyword (codes "DISMOUNT")) t1) (λ r10. mapped (λ f. s.Dismount f) (forced_at r10 l1)) (choice (fit (Keyword (codes "ONLINE")) t1) (λ r11. online_at r11 (rest_at_missing (codes "DISMOUNT") t1 l1)) (last_clause_at t1 (rest_at_missing (codes "ONLINE") t1 (rest_at_missing (codes "DISMOUNT") t1 l1)))))) (λ r1 l1. sym (fused (λ f. s.Mount f) is_said (parse g.forced r1 l1))) (tie (codes "DISMOUNT") g.forced (Either (Then (One (Keyword (codes "ONLINE"))) rows.online_rest) (Either (Then (One (Keyword (codes "OFFLINE"))) rows.offline_rest) (Either (Then (Either (One (Keyword (codes "MODIFY"))) (One (Keyword (codes "ALTER")))) g.template) (Either (Then (One (Keyword (codes "RENAME"))) rows.rename_rest) (Then (One (Keyword (codes "SET"))) rows.attribute_rest))))) (λ v. clause_of (inr (inr (inr (inr (inr (inr (inr v)))))))) (λ r2 l2. mapped (λ f. s.Dismount f) (forced_at r2 l2)) (λ t2 l2. (choice (fit (Keyword (codes "ONLINE")) t2) (λ r10. online_at r10 l2) (last_clause_at t2 (rest_at_missing (codes "ONLINE") t2 l2)))) (λ r2 l2. sym (fused (λ f. s.Dismount f) is_said (parse g.forced r2 l2))) (tie (codes "ONLINE") rows.online_rest (Either (Then (One (Keyword (codes "OFFLINE"))) rows.offline_rest) (Either (Then (Either (One (Keyword (codes "MODIFY"))) (One (Keyword (codes "ALTER")))) g.template) (Either (Then (One (Keyword (codes "RENAME"))) rows.rename_rest) (Then (One (Keyword (codes "SET"))) rows.attribute_rest)))) (λ v. clause_of (inr (inr (inr (inr (inr (inr (inr (inr v))))))))) (λ r3 l3. online_at r3 l3) (λ t3 l3. (last_clause_at t3 l3)) (λ r3 l3. same _ rows.online_rest_of online_same (parse rows.online_rest r3 l3)) last_clause_is))))
 
 pub clause_is : (text : List ℕ) (left : ℕ) → mapped clause_of (parse g.clause text left) ≡ clause_at text left
 unfolding clause_at added_at options_at
-clause_is = (tie (codes "ADD") g.added (Either (Then (One (Keyword (codes "DROP"))) g.dropped) (Either (Then (One (Keyword (codes "UNDROP"))) (g.key (codes "DISKS"))) (Either (Then (One (Keyword (codes "RESIZE"))) rows.resize_rest) (Either (Then (One (Keyword (codes "REBALANCE"))) rows.rebalance_options) (Either (Then (One (Keyword (codes "CHECK"))) rows.check_rest) (Either (Then (One (Keyword (codes "MOUNT"))) g.forced) (Either (Then (One (Keyword (codes "DISMOUNT"))) g.forced) (Either (Then (One (Keyword (codes "ONLINE"))) rows.online_rest) (Either (Then (One (Keyword (codes "OFFLINE"))) rows.offline_rest) (Either (Then (Either (One (Keyword (codes "MODIFY"))) (One (Keyword (codes "ALTER")))) g.template) (Either (Then (One (Keyword (codes "RENAME"))) rows.rename_rest) (Then (One (Keyword (codes "SET"))) rows.attribute_rest)))))))))))) (λ v. clause_of v) (λ r0 l0. added_at r0 l0) (λ t0 l0. (choice (fit (Keyword (codes "DROP")) t0) (λ r10. dropped_at r10 l0) (choice (fit (Keyword (codes "UNDROP")) t0) (λ r11. mapped (λ u. s.UndropDisks) (parse (g.key (codes "DISKS")) r11 (missed (codes "DROP") t0 l0))) (choice (fit (Keyword (codes "RESIZE")) t0) (λ r12. resize_at r12 (missed (codes "UNDROP") t0 (missed (codes "DROP") t0 l0))) (choice (fit (Keyword (codes "REBALANCE")) t0) (λ r13. mapped (λ r. s.Rebalancing r) (options_at r13 (missed (codes "RESIZE") t0 (missed (codes "UNDROP") t0 (missed (codes "DROP") t0 l0))))) (later_clause_at t0 (missed (codes "REBALANCE") t0 (missed (codes "RESIZE") t0 (missed (codes "UNDROP") t0 (missed (codes "DROP") t0 l0)))))))))) (λ r0 l0. refl) (tie (codes "DROP") g.dropped (Either (Then (One (Keyword (codes "UNDROP"))) (g.key (codes "DISKS"))) (Either (Then (One (Keyword (codes "RESIZE"))) rows.resize_rest) (Either (Then (One (Keyword (codes "REBALANCE"))) rows.rebalance_options) (Either (Then (One (Keyword (codes "CHECK"))) rows.check_rest) (Either (Then (One (Keyword (codes "MOUNT"))) g.forced) (Either (Then (One (Keyword (codes "DISMOUNT"))) g.forced) (Either (Then (One (Keyword (codes "ONLINE"))) rows.online_rest) (Either (Then (One (Keyword (codes "OFFLINE"))) rows.offline_rest) (Either (Then (Either (One (Keyword (codes "MODIFY"))) (One (Keyword (codes "ALTER")))) g.template) (Either (Then (One (Keyword (codes "RENAME"))) rows.rename_rest) (Then (One (Keyword (codes "SET"))) rows.attribute_rest))))))))))) (λ v. clause_of (inr v)) (λ r1 l1. dropped_at r1 l1) (λ t1 l1. (choice (fit (Keyword (codes "UNDROP")) t1) (λ r10. mapped (λ u. s.UndropDisks) (parse (g.key (codes "DISKS")) r10 l1)) (choice (fit (Keyword (codes "RESIZE")) t1) (λ r11. resize_at r11 (missed (codes "UNDROP") t1 l1)) (choice (fit (Keyword (codes "REBALANCE")) t1) (λ r12. mapped (λ r. s.Rebalancing r) (options_at r12 (missed (codes "RESIZE") t1 (missed (codes "UNDROP") t1 l1)))) (later_clause_at t1 (missed (codes "REBALANCE") t1 (missed (codes "RESIZE") t1 (missed (codes "UNDROP") t1 l1)))))))) (λ r1 l1. dropped_is r1 l1) (tie (codes "UNDROP") (g.key (codes "DISKS")) (Either (Then (One (Keyword (codes "RESIZE"))) rows.resize_rest) (Either (Then (One (Keyword (codes "REBALANCE"))) rows.rebalance_options) (Either (Then (One (Keyword (codes "CHECK"))) rows.check_rest) (Either (Then (One (Keyword (codes "MOUNT"))) g.forced) (Either (Then (One (Keyword (codes "DISMOUNT"))) g.forced) (Either (Then (One (Keyword (codes "ONLINE"))) rows.online_rest) (Either (Then (One (Keyword (codes "OFFLINE"))) rows.offline_rest) (Either (Then (Either (One (Keyword (codes "MODIFY"))) (One (Keyword (codes "ALTER")))) g.template) (Either (Then (One (Keyword (codes "RENAME"))) rows.rename_rest) (Then (One (Keyword (codes "SET"))) rows.attribute_rest)))))))))) (λ v. clause_of (inr (inr v))) (λ r2 l2. mapped (λ u. s.UndropDisks) (parse (g.key (codes "DISKS")) r2 l2)) (λ t2 l2. (choice (fit (Keyword (codes "RESIZE")) t2) (λ r10. resize_at r10 l2) (choice (fit (Keyword (codes "REBALANCE")) t2) (λ r11. mapped (λ r. s.Rebalancing r) (options_at r11 (missed (codes "RESIZE") t2 l2))) (later_clause_at t2 (missed (codes "REBALANCE") t2 (missed (codes "RESIZE") t2 l2)))))) (λ r2 l2. refl) (tie (codes "RESIZE") rows.resize_rest (Either (Then (One (Keyword (codes "REBALANCE"))) rows.rebalance_options) (Either (Then (One (Keyword (codes "CHECK"))) rows.check_rest) (Either (Then (One (Keyword (codes "MOUNT"))) g.forced) (Either (Then (One (Keyword (codes "DISMOUNT"))) g.forced) (Either (Then (One (Keyword (codes "ONLINE"))) rows.online_rest) (Either (Then (One (Keyword (codes "OFFLINE"))) rows.offline_rest) (Either (Then (Either (One (Keyword (codes "MODIFY"))) (One (Keyword (codes "ALTER")))) g.template) (Either (Then (One (Keyword (codes "RENAME"))) rows.rename_rest) (Then (One (Keyword (codes "SET"))) rows.attribute_rest))))))))) (λ v. clause_of (inr (inr (inr v)))) (λ r3 l3. resize_at r3 l3) (λ t3 l3. (choice (fit (Keyword (codes "REBALANCE")) t3) (λ r10. mapped (λ r. s.Rebalancing r) (options_at r10 l3)) (later_clause_at t3 (missed (codes "REBALANCE") t3 l3)))) (λ r3 l3. (same _ rows.resize_rest_of resize_same (parse rows.resize_rest r3 l3) ∙ resize_is r3 l3)) (tie (codes "REBALANCE") rows.rebalance_options (Either (Then (One (Keyword (codes "CHECK"))) rows.check_rest) (Either (Then (One (Keyword (codes "MOUNT"))) g.forced) (Either (Then (One (Keyword (codes "DISMOUNT"))) g.forced) (Either (Then (One (Keyword (codes "ONLINE"))) rows.online_rest) (Either (Then (One (Keyword (codes "OFFLINE"))) rows.offline_rest) (Either (Then (Either (One (Keyword (codes "MODIFY"))) (One (Keyword (codes "ALTER")))) g.template) (Either (Then (One (Keyword (codes "RENAME"))) rows.rename_rest) (Then (One (Keyword (codes "SET"))) rows.attribute_rest)))))))) (λ v. clause_of (inr (inr (inr (inr v))))) (λ r4 l4. mapped (λ r. s.Rebalancing r) (options_at r4 l4)) (λ t4 l4. (later_clause_at t4 l4)) (λ r4 l4. sym (fused (λ r. s.Rebalancing r) rows.options_of (parse rows.rebalance_options r4 l4))) later_clause_is)))))
+clause_is = (tie (codes "ADD") g.added (Either (Then (One (Keyword (codes "DROP"))) g.dropped) (Either (Then (One (Keyword (codes "UNDROP"))) (g.key (codes "DISKS"))) (Either (Then (One (Keyword (codes "RESIZE"))) rows.resize_rest) (Either (Then (One (Keyword (codes "REBALANCE"))) rows.rebalance_options) (Either (Then (One (Keyword (codes "CHECK"))) rows.check_rest) (Either (Then (One (Keyword (codes "MOUNT"))) g.forced) (Either (Then (One (Keyword (codes "DISMOUNT"))) g.forced) (Either (Then (One (Keyword (codes "ONLINE"))) rows.online_rest) (Either (Then (One (Keyword (codes "OFFLINE"))) rows.offline_rest) (Either (Then (Either (One (Keyword (codes "MODIFY"))) (One (Keyword (codes "ALTER")))) g.template) (Either (Then (One (Keyword (codes "RENAME"))) rows.rename_rest) (Then (One (Keyword (codes "SET"))) rows.attribute_rest)))))))))))) (λ v. clause_of v) (λ r0 l0. added_at r0 l0) (λ t0 l0. (choice (fit (Keyword (codes "DROP")) t0) (λ r10. dropped_at r10 l0) (choice (fit (Keyword (codes "UNDROP")) t0) (λ r11. mapped (λ u. s.UndropDisks) (parse (g.key (codes "DISKS")) r11 (rest_at_missing (codes "DROP") t0 l0))) (choice (fit (Keyword (codes "RESIZE")) t0) (λ r12. resize_at r12 (rest_at_missing (codes "UNDROP") t0 (rest_at_missing (codes "DROP") t0 l0))) (choice (fit (Keyword (codes "REBALANCE")) t0) (λ r13. mapped (λ r. s.Rebalancing r) (options_at r13 (rest_at_missing (codes "RESIZE") t0 (rest_at_missing (codes "UNDROP") t0 (rest_at_missing (codes "DROP") t0 l0))))) (later_clause_at t0 (rest_at_missing (codes "REBALANCE") t0 (rest_at_missing (codes "RESIZE") t0 (rest_at_missing (codes "UNDROP") t0 (rest_at_missing (codes "DROP") t0 l0)))))))))) (λ r0 l0. refl) (tie (codes "DROP") g.dropped (Either (Then (One (Keyword (codes "UNDROP"))) (g.key (codes "DISKS"))) (Either (Then (One (Keyword (codes "RESIZE"))) rows.resize_rest) (Either (Then (One (Keyword (codes "REBALANCE"))) rows.rebalance_options) (Either (Then (One (Keyword (codes "CHECK"))) rows.check_rest) (Either (Then (One (Keyword (codes "MOUNT"))) g.forced) (Either (Then (One (Keyword (codes "DISMOUNT"))) g.forced) (Either (Then (One (Keyword (codes "ONLINE"))) rows.online_rest) (Either (Then (One (Keyword (codes "OFFLINE"))) rows.offline_rest) (Either (Then (Either (One (Keyword (codes "MODIFY"))) (One (Keyword (codes "ALTER")))) g.template) (Either (Then (One (Keyword (codes "RENAME"))) rows.rename_rest) (Then (One (Keyword (codes "SET"))) rows.attribute_rest))))))))))) (λ v. clause_of (inr v)) (λ r1 l1. dropped_at r1 l1) (λ t1 l1. (choice (fit (Keyword (codes "UNDROP")) t1) (λ r10. mapped (λ u. s.UndropDisks) (parse (g.key (codes "DISKS")) r10 l1)) (choice (fit (Keyword (codes "RESIZE")) t1) (λ r11. resize_at r11 (rest_at_missing (codes "UNDROP") t1 l1)) (choice (fit (Keyword (codes "REBALANCE")) t1) (λ r12. mapped (λ r. s.Rebalancing r) (options_at r12 (rest_at_missing (codes "RESIZE") t1 (rest_at_missing (codes "UNDROP") t1 l1)))) (later_clause_at t1 (rest_at_missing (codes "REBALANCE") t1 (rest_at_missing (codes "RESIZE") t1 (rest_at_missing (codes "UNDROP") t1 l1)))))))) (λ r1 l1. dropped_is r1 l1) (tie (codes "UNDROP") (g.key (codes "DISKS")) (Either (Then (One (Keyword (codes "RESIZE"))) rows.resize_rest) (Either (Then (One (Keyword (codes "REBALANCE"))) rows.rebalance_options) (Either (Then (One (Keyword (codes "CHECK"))) rows.check_rest) (Either (Then (One (Keyword (codes "MOUNT"))) g.forced) (Either (Then (One (Keyword (codes "DISMOUNT"))) g.forced) (Either (Then (One (Keyword (codes "ONLINE"))) rows.online_rest) (Either (Then (One (Keyword (codes "OFFLINE"))) rows.offline_rest) (Either (Then (Either (One (Keyword (codes "MODIFY"))) (One (Keyword (codes "ALTER")))) g.template) (Either (Then (One (Keyword (codes "RENAME"))) rows.rename_rest) (Then (One (Keyword (codes "SET"))) rows.attribute_rest)))))))))) (λ v. clause_of (inr (inr v))) (λ r2 l2. mapped (λ u. s.UndropDisks) (parse (g.key (codes "DISKS")) r2 l2)) (λ t2 l2. (choice (fit (Keyword (codes "RESIZE")) t2) (λ r10. resize_at r10 l2) (choice (fit (Keyword (codes "REBALANCE")) t2) (λ r11. mapped (λ r. s.Rebalancing r) (options_at r11 (rest_at_missing (codes "RESIZE") t2 l2))) (later_clause_at t2 (rest_at_missing (codes "REBALANCE") t2 (rest_at_missing (codes "RESIZE") t2 l2)))))) (λ r2 l2. refl) (tie (codes "RESIZE") rows.resize_rest (Either (Then (One (Keyword (codes "REBALANCE"))) rows.rebalance_options) (Either (Then (One (Keyword (codes "CHECK"))) rows.check_rest) (Either (Then (One (Keyword (codes "MOUNT"))) g.forced) (Either (Then (One (Keyword (codes "DISMOUNT"))) g.forced) (Either (Then (One (Keyword (codes "ONLINE"))) rows.online_rest) (Either (Then (One (Keyword (codes "OFFLINE"))) rows.offline_rest) (Either (Then (Either (One (Keyword (codes "MODIFY"))) (One (Keyword (codes "ALTER")))) g.template) (Either (Then (One (Keyword (codes "RENAME"))) rows.rename_rest) (Then (One (Keyword (codes "SET"))) rows.attribute_rest))))))))) (λ v. clause_of (inr (inr (inr v)))) (λ r3 l3. resize_at r3 l3) (λ t3 l3. (choice (fit (Keyword (codes "REBALANCE")) t3) (λ r10. mapped (λ r. s.Rebalancing r) (options_at r10 l3)) (later_clause_at t3 (rest_at_missing (codes "REBALANCE") t3 l3)))) (λ r3 l3. (same _ rows.resize_rest_of resize_same (parse rows.resize_rest r3 l3) ∙ resize_is r3 l3)) (tie (codes "REBALANCE") rows.rebalance_options (Either (Then (One (Keyword (codes "CHECK"))) rows.check_rest) (Either (Then (One (Keyword (codes "MOUNT"))) g.forced) (Either (Then (One (Keyword (codes "DISMOUNT"))) g.forced) (Either (Then (One (Keyword (codes "ONLINE"))) rows.online_rest) (Either (Then (One (Keyword (codes "OFFLINE"))) rows.offline_rest) (Either (Then (Either (One (Keyword (codes "MODIFY"))) (One (Keyword (codes "ALTER")))) g.template) (Either (Then (One (Keyword (codes "RENAME"))) rows.rename_rest) (Then (One (Keyword (codes "SET"))) rows.attribute_rest)))))))) (λ v. clause_of (inr (inr (inr (inr v))))) (λ r4 l4. mapped (λ r. s.Rebalancing r) (options_at r4 l4)) (λ t4 l4. (later_clause_at t4 l4)) (λ r4 l4. sym (fused (λ r. s.Rebalancing r) rows.options_of (parse rows.rebalance_options r4 l4))) later_clause_is)))))
 
 again : (o : Outcome Bytes) → (o >>= λ group r q. mapped (λ c. s.Alter group c) (mapped clause_of (parse g.clause r q))) ≡ (o >>= λ group r q. mapped (λ c. s.Alter group c) (clause_at r q))
 again (Took name r l) = ap (λ z. mapped (λ c. s.Alter name c) z) (clause_is r l)
@@ -268,4 +268,4 @@ again (Failed l) = refl
 
 pub statement_is : (text : List ℕ) (left : ℕ) → mapped statement_of (parse g.statement text left) ≡ statement_at text left
 unfolding statement_at drop_group_at
-statement_is = (tie (codes "CREATE") rows.created (Either (Then (One (Keyword (codes "DROP"))) g.drop_group) (Then (One (Keyword (codes "ALTER"))) (Then (One (Keyword (codes "DISKGROUP"))) (Then g.name g.clause)))) (λ v. statement_of v) (λ r0 l0. created_at r0 l0) (λ t0 l0. (choice (fit (Keyword (codes "DROP")) t0) (λ r10. drop_group_at r10 l0) (parse (One (Keyword (codes "ALTER"))) t0 (missed (codes "DROP") t0 l0) >>= λ u rest n. parse (One (Keyword (codes "DISKGROUP"))) rest n >>= λ w behind o. parse g.name behind o >>= λ group r q. mapped (λ c. s.Alter group c) (clause_at r q)))) (λ r0 l0. (same _ rows.created_of created_same (parse rows.created r0 l0) ∙ created_is r0 l0)) (tie (codes "DROP") g.drop_group (Then (One (Keyword (codes "ALTER"))) (Then (One (Keyword (codes "DISKGROUP"))) (Then g.name g.clause))) (λ v. statement_of (inr v)) (λ r1 l1. drop_group_at r1 l1) (λ t1 l1. (parse (One (Keyword (codes "ALTER"))) t1 l1 >>= λ u rest n. parse (One (Keyword (codes "DISKGROUP"))) rest n >>= λ w behind o. parse g.name behind o >>= λ group r q. mapped (λ c. s.Alter group c) (clause_at r q))) (λ r1 l1. same _ rows.drop_group_of drop_group_same (parse g.drop_group r1 l1)) (last_tie (codes "ALTER") (Then (One (Keyword (codes "DISKGROUP"))) (Then g.name g.clause)) (λ v. statement_of (inr (inr v))) (λ rest n. parse (One (Keyword (codes "DISKGROUP"))) rest n >>= λ w behind o. parse g.name behind o >>= λ group r q. mapped (λ c. s.Alter group c) (clause_at r q)) (λ r l. last_tie (codes "DISKGROUP") (Then g.name g.clause) (λ v. statement_of (inr (inr (tt, v)))) (λ rest n. parse g.name rest n >>= λ group r q. mapped (λ c. s.Alter group c) (clause_at r q)) (λ r l. named (parse g.name r l) ∙ again (parse g.name r l)) r l))))
+statement_is = (tie (codes "CREATE") rows.created (Either (Then (One (Keyword (codes "DROP"))) g.drop_group) (Then (One (Keyword (codes "ALTER"))) (Then (One (Keyword (codes "DISKGROUP"))) (Then g.name g.clause)))) (λ v. statement_of v) (λ r0 l0. created_at r0 l0) (λ t0 l0. (choice (fit (Keyword (codes "DROP")) t0) (λ r10. drop_group_at r10 l0) (parse (One (Keyword (codes "ALTER"))) t0 (rest_at_missing (codes "DROP") t0 l0) >>= λ u rest n. parse (One (Keyword (codes "DISKGROUP"))) rest n >>= λ w behind o. parse g.name behind o >>= λ group r q. mapped (λ c. s.Alter group c) (clause_at r q)))) (λ r0 l0. (same _ rows.created_of created_same (parse rows.created r0 l0) ∙ created_is r0 l0)) (tie (codes "DROP") g.drop_group (Then (One (Keyword (codes "ALTER"))) (Then (One (Keyword (codes "DISKGROUP"))) (Then g.name g.clause))) (λ v. statement_of (inr v)) (λ r1 l1. drop_group_at r1 l1) (λ t1 l1. (parse (One (Keyword (codes "ALTER"))) t1 l1 >>= λ u rest n. parse (One (Keyword (codes "DISKGROUP"))) rest n >>= λ w behind o. parse g.name behind o >>= λ group r q. mapped (λ c. s.Alter group c) (clause_at r q))) (λ r1 l1. same _ rows.drop_group_of drop_group_same (parse g.drop_group r1 l1)) (last_tie (codes "ALTER") (Then (One (Keyword (codes "DISKGROUP"))) (Then g.name g.clause)) (λ v. statement_of (inr (inr v))) (λ rest n. parse (One (Keyword (codes "DISKGROUP"))) rest n >>= λ w behind o. parse g.name behind o >>= λ group r q. mapped (λ c. s.Alter group c) (clause_at r q)) (λ r l. last_tie (codes "DISKGROUP") (Then g.name g.clause) (λ v. statement_of (inr (inr (tt, v)))) (λ rest n. parse g.name rest n >>= λ group r q. mapped (λ c. s.Alter group c) (clause_at r q)) (λ r l. named (parse g.name r l) ∙ again (parse g.name r l)) r l))))

@@ -13,8 +13,8 @@ use Rattle.asm_world.specs.Statement as s
 use Rattle.group_sql.specs.Rows as rows
 
 -- what is left at a keyword that isn't there
-abbrev pub missed : List ℕ → List ℕ → ℕ → ℕ
-missed k text left = min left (length text - near (Keyword k) text)
+abbrev pub rest_at_missing : List ℕ → List ℕ → ℕ → ℕ
+rest_at_missing k text left = min left (length text - near (Keyword k) text)
 
 -- what stands behind the keyword, where it is there, and else the other
 abbrev pub choice : {A : Type 0} → Option (Unit {0} × List ℕ) → (List ℕ → Outcome A) → Outcome A → Outcome A
@@ -40,13 +40,13 @@ redundancy_at stripe text left = mapped (rows.with_stripe stripe) (parse (Maybe 
 unfoldable pub words_at : List ℕ → ℕ → Outcome s.TemplateWords
 words_at text left =
     choice (fit (Keyword (codes "UNPROTECTED")) text) (λ rest. stripe_at s.Unprotected rest left)
-    (let l = missed (codes "UNPROTECTED") text left in
+    (let l = rest_at_missing (codes "UNPROTECTED") text left in
     choice (fit (Keyword (codes "MIRROR")) text) (λ rest. stripe_at s.Mirror rest l)
-    (let m = missed (codes "MIRROR") text l in
+    (let m = rest_at_missing (codes "MIRROR") text l in
     choice (fit (Keyword (codes "HIGH")) text) (λ rest. stripe_at s.High rest m)
-    (let n = missed (codes "HIGH") text m in
+    (let n = rest_at_missing (codes "HIGH") text m in
     choice (fit (Keyword (codes "COARSE")) text) (λ rest. redundancy_at stripes.Coarse rest n)
-    (parse (g.key (codes "FINE")) text (missed (codes "COARSE") text n) >>= λ u rest o. redundancy_at stripes.Fine rest o))))
+    (parse (g.key (codes "FINE")) text (rest_at_missing (codes "COARSE") text n) >>= λ u rest o. redundancy_at stripes.Fine rest o))))
 
 unfoldable pub template_with_words_at : List ℕ → ℕ → Outcome (Bytes × s.TemplateWords)
 template_with_words_at text left =
@@ -63,9 +63,9 @@ paths_at between text left = mapped (rows.two_paths_of between) (parse (rows.two
 unfoldable pub other_added_at : List ℕ → ℕ → Outcome s.Clause
 other_added_at text left =
     choice (fit (Keyword (codes "TEMPLATE")) text) (λ rest. mapped (λ p. s.AddTemplate p.0 p.1) (template_with_words_at rest left))
-    (let l = missed (codes "TEMPLATE") text left in
+    (let l = rest_at_missing (codes "TEMPLATE") text left in
     choice (fit (Keyword (codes "DIRECTORY")) text) (λ rest. mapped (λ p. s.AddDirectory p) (parse g.path rest l))
-    (let m = missed (codes "DIRECTORY") text l in
+    (let m = rest_at_missing (codes "DIRECTORY") text l in
     parse (g.key (codes "ALIAS")) text m >>= λ u rest n. mapped (λ p. s.AddAlias p.0 p.1) (paths_at (codes "FOR") rest n)))
 
 unfoldable pub drop_disks_at : List ℕ → ℕ → Outcome s.Clause
@@ -83,15 +83,15 @@ drop_failgroup_at text left =
 unfoldable pub dropped_at : List ℕ → ℕ → Outcome s.Clause
 dropped_at text left =
     choice (fit (Keyword (codes "DISK")) text) (λ rest. drop_disks_at rest left)
-    (let l = missed (codes "DISK") text left in
+    (let l = rest_at_missing (codes "DISK") text left in
     choice (fit (Keyword (codes "DISKS")) text) (λ rest. drop_failgroup_at rest l)
-    (let m = missed (codes "DISKS") text l in
+    (let m = rest_at_missing (codes "DISKS") text l in
     choice (fit (Keyword (codes "TEMPLATE")) text) (λ rest. mapped (λ n. s.DropTemplate n) (parse g.name rest m))
-    (let n = missed (codes "TEMPLATE") text m in
+    (let n = rest_at_missing (codes "TEMPLATE") text m in
     choice (fit (Keyword (codes "DIRECTORY")) text) (λ rest. mapped (λ p. s.DropDirectory p) (parse g.path rest n))
-    (let o = missed (codes "DIRECTORY") text n in
+    (let o = rest_at_missing (codes "DIRECTORY") text n in
     choice (fit (Keyword (codes "ALIAS")) text) (λ rest. mapped (λ p. s.DropAlias p) (parse g.path rest o))
-    (let q = missed (codes "ALIAS") text o in
+    (let q = rest_at_missing (codes "ALIAS") text o in
     parse (g.key (codes "FILE")) text q >>= λ u rest r. mapped (λ p. s.DropFile p) (parse g.path rest r))))))
 
 -- a failure group, where one begins
@@ -118,7 +118,7 @@ resized_at text left = size_at text left >>= λ size r l. mapped (λ rebalance. 
 unfoldable pub resize_at : List ℕ → ℕ → Outcome s.Clause
 resize_at text left =
     choice (fit (Keyword (codes "ALL")) text) (λ rest. mapped (λ p. s.ResizeAll p.0 p.1) (resized_at rest left))
-    (parse (g.key (codes "DISK")) text (missed (codes "ALL") text left) >>= λ u r l.
+    (parse (g.key (codes "DISK")) text (rest_at_missing (codes "ALL") text left) >>= λ u r l.
     parse g.name r l >>= λ name r m. mapped (λ p. s.ResizeDisk name p.0 p.1) (resized_at r m))
 
 unfoldable pub options_at : List ℕ → ℕ → Outcome s.Rebalance
@@ -146,39 +146,39 @@ set_at text left = mapped rows.attribute_said (parse rows.attribute_rest text le
 unfoldable pub last_clause_at : List ℕ → ℕ → Outcome s.Clause
 last_clause_at text left =
     choice (fit (Keyword (codes "OFFLINE")) text) (λ rest. offline_at rest left)
-    (let l = missed (codes "OFFLINE") text left in
+    (let l = rest_at_missing (codes "OFFLINE") text left in
     choice (fit (Keyword (codes "MODIFY")) text) (λ rest. modified_at rest l)
-    (let m = missed (codes "MODIFY") text l in
+    (let m = rest_at_missing (codes "MODIFY") text l in
     choice (fit (Keyword (codes "ALTER")) text) (λ rest. modified_at rest m)
-    (let n = missed (codes "ALTER") text m in
+    (let n = rest_at_missing (codes "ALTER") text m in
     choice (fit (Keyword (codes "RENAME")) text) (λ rest. renamed_at rest n)
-    (let o = missed (codes "RENAME") text n in
+    (let o = rest_at_missing (codes "RENAME") text n in
     parse (g.key (codes "SET")) text o >>= λ u rest r. set_at rest r))))
 
 -- clauses from CHECK on
 unfoldable pub later_clause_at : List ℕ → ℕ → Outcome s.Clause
 later_clause_at text left =
     choice (fit (Keyword (codes "CHECK")) text) (λ rest. check_at rest left)
-    (let l = missed (codes "CHECK") text left in
+    (let l = rest_at_missing (codes "CHECK") text left in
     choice (fit (Keyword (codes "MOUNT")) text) (λ rest. mapped (λ f. s.Mount f) (forced_at rest l))
-    (let m = missed (codes "MOUNT") text l in
+    (let m = rest_at_missing (codes "MOUNT") text l in
     choice (fit (Keyword (codes "DISMOUNT")) text) (λ rest. mapped (λ f. s.Dismount f) (forced_at rest m))
-    (let n = missed (codes "DISMOUNT") text m in
+    (let n = rest_at_missing (codes "DISMOUNT") text m in
     choice (fit (Keyword (codes "ONLINE")) text) (λ rest. online_at rest n)
-    (last_clause_at text (missed (codes "ONLINE") text n)))))
+    (last_clause_at text (rest_at_missing (codes "ONLINE") text n)))))
 
 unfoldable pub clause_at : List ℕ → ℕ → Outcome s.Clause
 clause_at text left =
     choice (fit (Keyword (codes "ADD")) text) (λ rest. added_at rest left)
-    (let l = missed (codes "ADD") text left in
+    (let l = rest_at_missing (codes "ADD") text left in
     choice (fit (Keyword (codes "DROP")) text) (λ rest. dropped_at rest l)
-    (let m = missed (codes "DROP") text l in
+    (let m = rest_at_missing (codes "DROP") text l in
     choice (fit (Keyword (codes "UNDROP")) text) (λ rest. mapped (λ u. s.UndropDisks) (parse (g.key (codes "DISKS")) rest m))
-    (let n = missed (codes "UNDROP") text m in
+    (let n = rest_at_missing (codes "UNDROP") text m in
     choice (fit (Keyword (codes "RESIZE")) text) (λ rest. resize_at rest n)
-    (let o = missed (codes "RESIZE") text n in
+    (let o = rest_at_missing (codes "RESIZE") text n in
     choice (fit (Keyword (codes "REBALANCE")) text) (λ rest. mapped (λ r. s.Rebalancing r) (options_at rest o))
-    (later_clause_at text (missed (codes "REBALANCE") text o))))))
+    (later_clause_at text (rest_at_missing (codes "REBALANCE") text o))))))
 
 unfoldable pub attributes_at : List ℕ → ℕ → Outcome (List s.Attribute)
 attributes_at text left = mapped attributes_of (parse rows.maybe_attributes text left)
@@ -201,7 +201,7 @@ new_disk_at text left = mapped rows.disk_rest_of (parse rows.disk_rest text left
 unfoldable pub created_at : List ℕ → ℕ → Outcome s.Statement
 created_at text left =
     choice (fit (Keyword (codes "DISK")) text) (λ rest. new_disk_at rest left)
-    (parse (g.key (codes "DISKGROUP")) text (missed (codes "DISK") text left) >>= λ u rest l. new_group_at rest l)
+    (parse (g.key (codes "DISKGROUP")) text (rest_at_missing (codes "DISK") text left) >>= λ u rest l. new_group_at rest l)
 
 unfoldable pub drop_group_at : List ℕ → ℕ → Outcome s.Statement
 drop_group_at text left = mapped rows.drop_group_of (parse g.drop_group text left)
@@ -209,9 +209,9 @@ drop_group_at text left = mapped rows.drop_group_of (parse g.drop_group text lef
 unfoldable pub statement_at : List ℕ → ℕ → Outcome s.Statement
 statement_at text left =
     choice (fit (Keyword (codes "CREATE")) text) (λ rest. created_at rest left)
-    (let l = missed (codes "CREATE") text left in
+    (let l = rest_at_missing (codes "CREATE") text left in
     choice (fit (Keyword (codes "DROP")) text) (λ rest. drop_group_at rest l)
-    (let m = missed (codes "DROP") text l in
+    (let m = rest_at_missing (codes "DROP") text l in
     parse (g.key (codes "ALTER")) text m >>= λ u rest n.
     parse (g.key (codes "DISKGROUP")) rest n >>= λ w behind o.
     parse g.name behind o >>= λ group r q. mapped (λ c. s.Alter group c) (clause_at r q)))

@@ -13,7 +13,7 @@ use Rattle.group_pieces.proofs.group_engine.Members.{none_filtered}
 use Rattle.group_pieces.proofs.group_engine.Records.{record_parts}
 use Rattle.asm_group.specs.Modes.{is_offline}
 use Rattle.disk_modes.specs.group_reports.Disks.{is_syncing}
-use Rattle.status_table.specs.Changes.{entry_with_mode, inserted, status_with_mode}
+use Rattle.status_table.specs.Changes.{entry_with_mode, entries_with, status_with_mode}
 use Rattle.mode_laws.specs.Coming.{Happens, JoiningChanges, LeavingChanges, OnlineChanges, SyncChanges}
 use Rattle.mode_laws.specs.Events.{EntryChange, ModeChange, ModeEvent, by_joining, by_leaving, by_online, by_sync, mode_after, times_after, offline_times}
 use Rattle.mode_laws.proofs.Mapped.{all_changed, kept_entry}
@@ -109,7 +109,7 @@ not_first y es d none = go (y.number == d) refl none
 
 -- it is found where it was put, and each other as before
 entry_inserted : (least : ℕ) (x : Entry) (es : List Entry) (d : ℕ) → ascends_from least (numbers es) ≡ true → entry_of es x.number ≡ None
-    → entry_of (inserted x es) d ≡ cond (x.number == d) (Some x) (entry_of es d)
+    → entry_of (entries_with x es) d ≡ cond (x.number == d) (Some x) (entry_of es d)
 unfolding entry_of
 entry_inserted least x [] d up none = refl
 entry_inserted least x (y ∷ es) d up none =
@@ -117,8 +117,8 @@ entry_inserted least x (y ∷ es) d up none =
     let n = not_first y es x.number none in
     go (nat_lt x.number y.number) (entry_inserted (y.number + 1) y es d later (none_below (y.number + 1) es y.number later (omega arith))) (entry_inserted (y.number + 1) x es d later n.1) n.0
   where
-    go : (b : Bool) → entry_of (inserted y es) d ≡ cond (y.number == d) (Some y) (entry_of es d) → entry_of (inserted x es) d ≡ cond (x.number == d) (Some x) (entry_of es d)
-        → (y.number == x.number) ≡ false → entry_of (cond b (x ∷ inserted y es) (y ∷ inserted x es)) d ≡ cond (x.number == d) (Some x) (cond (y.number == d) (Some y) (entry_of es d))
+    go : (b : Bool) → entry_of (entries_with y es) d ≡ cond (y.number == d) (Some y) (entry_of es d) → entry_of (entries_with x es) d ≡ cond (x.number == d) (Some x) (entry_of es d)
+        → (y.number == x.number) ≡ false → entry_of (cond b (x ∷ entries_with y es) (y ∷ entries_with x es)) d ≡ cond (x.number == d) (Some x) (cond (y.number == d) (Some y) (entry_of es d))
     go true first rest apart = ap (λ (o : Option Entry). cond (x.number == d) (Some x) o) first
     go false first rest apart =
         ap (λ (o : Option Entry). cond (y.number == d) (Some y) o) rest
@@ -144,8 +144,8 @@ joining_changes r x allowed none online = record {
     happens : ℕ → ModeEvent → Type 0
     happens = Happens by_joining x.number
 
-    put : (d : ℕ) → x.number ≡ d → entry_of (inserted x r.entries) d ≡ Some x
+    put : (d : ℕ) → x.number ≡ d → entry_of (entries_with x r.entries) d ≡ Some x
     put d same = entry_inserted 0 x r.entries d (record_parts r allowed).order none ∙ ap (λ (b : Bool). cond b (Some x) (entry_of r.entries d)) (eq-eqb x.number d same)
 
-    kept : (d : ℕ) → (x.number ≡ d → ⊥) → entry_of (inserted x r.entries) d ≡ entry_of r.entries d
+    kept : (d : ℕ) → (x.number ≡ d → ⊥) → entry_of (entries_with x r.entries) d ≡ entry_of r.entries d
     kept d other = entry_inserted 0 x r.entries d (record_parts r allowed).order none ∙ ap (λ (b : Bool). cond b (Some x) (entry_of r.entries d)) (ne_eqb x.number d other)

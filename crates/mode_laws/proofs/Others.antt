@@ -16,7 +16,7 @@ use Rattle.disk_modes.specs.Effects.{entry_forced}
 use Rattle.group_pieces.proofs.group_engine.Records.{record_parts}
 use Rattle.group_pieces.specs.group_engine.Mounts.{MountedGroup}
 use Rattle.group_mount.specs.Missing.{is_missing}
-use Rattle.group_mount.specs.NextRecord.{IsMarkOf, entry_after_mount, has_entry_of_disk, moded}
+use Rattle.group_mount.specs.NextRecord.{IsMarkOf, entry_after_mount, has_entry_of_disk, entry_when_mounted}
 use Rattle.group_mount.proofs.NextRecords.{makes}
 use Rattle.group_mount.specs.declared.finding.Headed.{Headed}
 use Rattle.group_mount.specs.declared.quorum.Quorate.{Quorate}
@@ -155,7 +155,7 @@ module _ (q : Quorate) (now : ℕ) where
 pub mount_changes : MountChanges
 mount_changes q now next makes is =
     let es = q.survey.value.entries in
-    let after = moded q is.marked now in
+    let after = entry_when_mounted q is.marked now in
     subst (λ (r : Status). ModeChange (MountFinds q now) es r.entries) (sym is.next_is)
     (partners_anew (MountFinds q now) es (map after es)
     (all_changed (MountFinds q now) es after (λ e. after_number q now e (is_missing q.id q.headed.items e) (has_bit is.marked e.number))

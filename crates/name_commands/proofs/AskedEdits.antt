@@ -6,7 +6,7 @@ use Rattle.std.specs.Cmp.Lexicographic.{nat_list_eq_equiv}
 use Rattle.std.proofs.lemmas.Bool.{false≢true, true≢false}
 use Rattle.std.proofs.lemmas.Option.{none-some, same_Some}
 use Rattle.asm_base.specs.Names.{name_of}
-use Rattle.asm_base.specs.Refusals.{said}
+use Rattle.asm_base.specs.Refusals.{meaning_of}
 use Rattle.asm_base.specs.declared.path.Path as code
 use Rattle.asm_base.specs.declared.refusal.Refusal.{Refusal}
 use Rattle.asm_base.specs.declared.refusal.Refusal.TheVariants as cause
@@ -124,7 +124,7 @@ module _ (place : List Bytes) (text name : Bytes) (clause : s.Clause) (asked : c
 
   -- the edit that a clause of names was read as, or none where a path isn't one of the group
   names_asked : ((g : Group) → by_clause name clause g ≡ by_tree (edit_of name clause) g) → (o : Option TreeEdit) → option_map edit_meant o ≡ edit_of name clause → AsksAsRead place (meaning text) name o
-  unfolding said
+  unfolding meaning_of
   names_asked by o read = subst (λ (c : Command). AsksAsRead place c name o) (sym (means text command asked is)) (as_read o read)
     where
       as_read : (o : Option TreeEdit) → option_map edit_meant o ≡ edit_of name clause → AsksAsRead place command name o
@@ -156,7 +156,7 @@ module _ (place : List Bytes) (text name : Bytes) (clause : s.Clause) (asked : c
   })
 
   -- one that is refused in each group
-  pub settings_vain : (refusal : Refusal) → ((g : Group) → by_clause name clause g ≡ Err (said (λ _. []) refusal)) → AsksInVain place (meaning text) name refusal
+  pub settings_vain : (refusal : Refusal) → ((g : Group) → by_clause name clause g ≡ Err (meaning_of (λ _. []) refusal)) → AsksInVain place (meaning text) name refusal
   settings_vain refusal each = subst (λ (c : Command). AsksInVain place c name refusal) (sym (means text command asked is)) (record {
     change = by_clause name clause;
     asks = changes;
@@ -261,12 +261,12 @@ module _ (place : List Bytes) (command : Command) (alias : code.Path) (path name
 
   -- the path of the file leads into no group
   pub alias_nowhere : None ≡ target_from place path → AsksInVain place command name cause.NoGroup
-  unfolding said
+  unfolding meaning_of
   alias_nowhere leads = record { change = by_file None; asks = changes_by None leads; refused = λ g same. refl }
 
   -- it leads into another group
   pub alias_elsewhere : (file : code.Path) → Some (file.group, file.parts) ≡ target_from place path → is_same_name file.group name ≡ false → AsksInVain place command name cause.NoName
-  unfolding said
+  unfolding meaning_of
   alias_elsewhere file leads other = record {
     change = by_file (Some (file.group, file.parts));
     asks = changes_by (Some (file.group, file.parts)) leads;

@@ -1,7 +1,7 @@
 -- Edits of tables: the tables to which each leads, and why one is refused.
 use Rattle.std.proofs.Common.{◌≡◌, ◌⊎◌, inl, inr, ℕ, true, false, List, [], Result, Ok, refl, true≢false}
 use Rattle.asm_base.specs.Records.{DirectoryRecord}
-use Rattle.asm_base.specs.Refusals.{said}
+use Rattle.asm_base.specs.Refusals.{meaning_of}
 use Rattle.asm_base.specs.declared.refusal.Refusal.{Refusal}
 use Rattle.asm_base.specs.declared.refusal.Refusal.TheVariants as cause
 use Rattle.asm_formats.specs.Items.{Key}
@@ -63,15 +63,15 @@ unfolding group_of
 refused_by name c cells (Tree edit) refusal (inl memory) = inl (no_memory memory)
 refused_by name c cells (Tree edit) refusal (inr (inl same)) =
     let meant = names.edit_meant edit in
-    inl (same_refusal (refuses_too (first_cause (e.edit_causes (tree_of c.tables.nodes) meant)) (e.changed (tree_of c.tables.nodes) meant) (world.changed_group (group_of name c.shape c.tables cells) meant) (said (λ n. []) refusal) same))
+    inl (same_refusal (refuses_too (first_cause (e.edit_causes (tree_of c.tables.nodes) meant)) (e.changed (tree_of c.tables.nodes) meant) (world.changed_group (group_of name c.shape c.tables cells) meant) (meaning_of (λ n. []) refusal) same))
 refused_by name c cells (Tree edit) refusal (inr (inr (is, few))) =
     lacks (edited_by (group_of name c.shape c.tables cells) (Tree edit)) (Tree edit) refusal few.makes (refusal_is_of_tables name c cells (Tree edit) refusal (inr (inr (is, few))))
 refused_by name c cells (Templates edit) refusal why = inl (refusal_is_of_tables name c cells (Templates edit) refusal why)
 refused_by name c cells (SetAttribute attribute value) refusal why = inl (refusal_is_of_tables name c cells (SetAttribute attribute value) refusal why)
 
 -- a refusal that tells no disk says the same whatever the names of disks
-pub as_is : (names : ℕ → Bytes) (raw : Refusal) → tells_disk (said (λ _. []) raw) ≡ false → said names raw ≡ said (λ _. []) raw
-unfolding said
+pub as_is : (names : ℕ → Bytes) (raw : Refusal) → tells_disk (meaning_of (λ _. []) raw) ≡ false → meaning_of names raw ≡ meaning_of (λ _. []) raw
+unfolding meaning_of
 as_is names (cause.NoDisk x) none = absurd (true≢false none)
 as_is names (cause.TooSmall x n) none = absurd (true≢false none)
 as_is names (cause.MissingDisks x) none = absurd (true≢false none)

@@ -9,7 +9,7 @@ use Rattle.std.proofs.lemmas.List.{length-map}
 use Rattle.bay.specs.Image.{Same}
 use Rattle.bay.specs.Moments.{Runs}
 use Rattle.bay.specs.State.{BayState, IsSound}
-use Rattle.asm_base.specs.Refusals.{said}
+use Rattle.asm_base.specs.Refusals.{meaning_of}
 use Rattle.asm_base.specs.declared.refusal.DiskRef.TheVariants as disk
 use Rattle.asm_base.specs.declared.refusal.Refusal.{Refusal}
 use Rattle.asm_base.specs.declared.refusal.Refusal.TheVariants as cause
@@ -84,7 +84,7 @@ pub record IsEdited (es entries' : List SessionEntry) (groups groups' : List Mou
 -- the reply to an edit that was answered so
 abbrev pub reply_of : Result (Unit {0}) Refusal → Reply
 reply_of (Ok given) = Done []
-reply_of (Err refusal) = Refused [] (said (λ _. []) refusal)
+reply_of (Err refusal) = Refused [] (meaning_of (λ _. []) refusal)
 
 get_only : (o : Option (List Group)) (g : Group) → unwrap_or o [] ≡ g ∷ [] → o ≡ Some (g ∷ [])
 get_only None g is = absurd cc
@@ -185,24 +185,24 @@ module _ (paths : List Bytes) (text name : Bytes) (edit : GroupEdit) (allowed : 
             (looks_keep (λ (slot : ℕ). ⊥) s t sound (length paths) known was.given was.given w w was.groups was.groups (meaning text) (omega arith) runs attached (same_some (length paths) known was.given s w was.groups stands) stands)),
       )
 
-      by_worlds : (raw : Refusal) → IsWorldsRefusal (edited_by g edit) raw → Ends (Refused [] (said (disk_name after) raw))
-      unfolding said
+      by_worlds : (raw : Refusal) → IsWorldsRefusal (edited_by g edit) raw → Ends (Refused [] (meaning_of (disk_name after) raw))
+      unfolding meaning_of
       by_worlds raw (no_memory is) =
-          let none : said (disk_name after) raw ≡ r.NoMemory = as_is (disk_name after) raw (ap tells_disk is) ∙ is in
+          let none : meaning_of (disk_name after) raw ≡ r.NoMemory = as_is (disk_name after) raw (ap tells_disk is) ∙ is in
           subst (λ (c : r.Refusal). Ends (Refused [] c)) (sym none) (unknown (Refused [] r.NoMemory) (short paths text asks_edit_so was now s t calls past below w))
       by_worlds raw (same_refusal is) =
-          let world_is : edited_in at ≡ Err (said (λ n. []) raw) = as_asked ∙ is in
-          let same_said = as_is (disk_name after) raw (tells_no_disk w.place (meaning text) name asks.change g (said (λ n. []) raw) asks_edit_so asks.asks.asks world_is) in
-          subst (λ (c : r.Refusal). Ends (Refused [] c)) (sym same_said) (idle (said (λ n. []) raw) (answers_edits.refused (below_with below unread) w (meaning text) at (said (λ n. []) raw) world_is))
+          let world_is : edited_in at ≡ Err (meaning_of (λ n. []) raw) = as_asked ∙ is in
+          let same_said = as_is (disk_name after) raw (tells_no_disk w.place (meaning text) name asks.change g (meaning_of (λ n. []) raw) asks_edit_so asks.asks.asks world_is) in
+          subst (λ (c : r.Refusal). Ends (Refused [] c)) (sym same_said) (idle (meaning_of (λ n. []) raw) (answers_edits.refused (below_with below unread) w (meaning text) at (meaning_of (λ n. []) raw) world_is))
 
-      by_tables : (raw : Refusal) → IsRefusedBy (edited_by g edit) edit raw → Ends (Refused [] (said (disk_name after) raw))
-      unfolding said
+      by_tables : (raw : Refusal) → IsRefusedBy (edited_by g edit) edit raw → Ends (Refused [] (meaning_of (disk_name after) raw))
+      unfolding meaning_of
       by_tables raw (inl why) = by_worlds raw why
       by_tables raw (inr lacks) =
-          subst (λ (x : Refusal). Ends (Refused [] (said (disk_name after) x))) (sym lacks.is)
+          subst (λ (x : Refusal). Ends (Refused [] (meaning_of (disk_name after) x))) (sym lacks.is)
           (idle (r.DirectoryFull lacks.need lacks.free) (answers_edits.full (below_with below unread) w (meaning text) at lacks.done lacks.need lacks.free (asks.makes lacks.wants) (as_asked ∙ lacks.answer_is)))
 
-      unplanned : (raw : Refusal) → IsEditRefusal before.catalog edit raw → Ends (Refused [] (said (disk_name after) raw))
+      unplanned : (raw : Refusal) → IsEditRefusal before.catalog edit raw → Ends (Refused [] (meaning_of (disk_name after) raw))
       unplanned raw (inl never) = absurd (true≢false (sym allowed ∙ never.0))
       unplanned raw (inr why) =
           by_tables raw (subst (λ (x : Group). IsRefusedBy (edited_by x edit) edit raw) (sym told.is) (refused_by before.name before.catalog told.cells edit raw why))
@@ -365,8 +365,8 @@ module _ (paths : List Bytes) (text name : Bytes) (edit : GroupEdit) (allowed : 
         )
 
       -- for want of memory, or since the group was dismounted
-      refused_commit : (raw : Refusal) → StatusCause before after s t raw → Ends (Refused [] (said (disk_name after) raw))
-      unfolding said
+      refused_commit : (raw : Refusal) → StatusCause before after s t raw → Ends (Refused [] (meaning_of (disk_name after) raw))
+      unfolding meaning_of
       refused_commit (cause.Dismounted (disk.Number d)) why = ⊎_elim
           (λ it. let never : access.Mounted ≡ access.Dismounted d = sym mounted ∙ it in absurd cc)
           (λ now_off. torn_end d now_off.0)

@@ -5,7 +5,7 @@ use Rattle.std.proofs.lemmas.Bool.{false≢true, true≢false}
 use Rattle.bay.specs.State.{BayState}
 use Rattle.bay.specs.declared.disk.Bay as Bay
 use Rattle.bay.specs.declared.host.Host as Host
-use Rattle.asm_base.specs.Refusals.{said}
+use Rattle.asm_base.specs.Refusals.{meaning_of}
 use Rattle.asm_base.specs.declared.refusal.Refusal.{Refusal}
 use Rattle.asm_group.specs.Group.{Group}
 use Rattle.asm_group.specs.Names.{Bytes, is_same_name}
@@ -69,11 +69,11 @@ module _ (paths : List Bytes) (text : Bytes) (asks : asks_edit (meaning text) �
     short_still c is = subst (λ (x : r.Refusal). IsRefusedSo x) (sym is) (outcomes.no_memory paths text was s w)
 
     -- the path of a verb leads into no group
-    pub nowhere : (place : List Bytes) (path : Bytes) → (target_from place path ≡ None → change_of w.place (meaning text) ≡ None) → (refusal : Refusal) → IsNoTarget place path refusal → IsRefusedSo (said (λ _. []) refusal)
-    unfolding said
+    pub nowhere : (place : List Bytes) (path : Bytes) → (target_from place path ≡ None → change_of w.place (meaning text) ≡ None) → (refusal : Refusal) → IsNoTarget place path refusal → IsRefusedSo (meaning_of (λ _. []) refusal)
+    unfolding meaning_of
     nowhere place path leads refusal why = ⊎_elim
-        (λ none. short_still (said (λ _. []) refusal) (ap (said (λ _. [])) none))
-        (λ none. subst (λ (x : Refusal). IsRefusedSo (said (λ _. []) x)) (sym none.0) (still r.NoGroup (answers_none.nowhere (below_with below unread) w (meaning text) asks (leads none.1))))
+        (λ none. short_still (meaning_of (λ _. []) refusal) (ap (meaning_of (λ _. [])) none))
+        (λ none. subst (λ (x : Refusal). IsRefusedSo (meaning_of (λ _. []) x)) (sym none.0) (still r.NoGroup (answers_none.nowhere (below_with below unread) w (meaning text) asks (leads none.1))))
         why
 
     -- the group isn't in the session, or is dismounted
@@ -88,8 +88,8 @@ module _ (paths : List Bytes) (text : Bytes) (asks : asks_edit (meaning text) �
           by_state (DismountedBy disk) is out =
               subst (λ (x : r.Refusal). IsRefusedSo x) (sym out) (still (r.Dismounted disk) (answers_none.out (below_with below unread) w (meaning text) name change entry disk asks asked named is))
 
-      pub out : (refusal : Refusal) → IsOutCause w.session name refusal → IsRefusedSo (said (λ _. []) refusal)
-      out refusal why = ⊎_elim (λ gone. by_entry (entry_in w name) refl (said (λ _. []) refusal) gone) (λ none. short_still (said (λ _. []) refusal) none) why
+      pub out : (refusal : Refusal) → IsOutCause w.session name refusal → IsRefusedSo (meaning_of (λ _. []) refusal)
+      out refusal why = ⊎_elim (λ gone. by_entry (entry_in w name) refl (meaning_of (λ _. []) refusal) gone) (λ none. short_still (meaning_of (λ _. []) refusal) none) why
 
 on_by : (entry : SessionEntry) (x : SessionState) → entry.state ≡ x → is_mounted entry ≡ true → entry.state ≡ Mounted
 on_by entry Mounted is on = is
@@ -99,7 +99,7 @@ on_by entry (DismountedBy disk) is on = let off : is_mounted entry ≡ false = r
 
 -- The entry's group is mounted. Where it is alone under its id, the world refuses the edit so.
 vain_in : (paths : List Bytes) (text : Bytes) (was : Roster) (s : BayState) (below : ℕ → GroupBelow) (w : World) (name : Bytes) (refusal : Refusal) → AsksInVain w.place (meaning text) name refusal → (o : Option SessionEntry) → entry_in w name ≡ o
-    → is_mounted_as o ≡ true → IsServed paths unread text (Refused [] (said (λ _. []) refusal)) was was s s below w w
+    → is_mounted_as o ≡ true → IsServed paths unread text (Refused [] (meaning_of (λ _. []) refusal)) was was s s below w w
 vain_in paths text was s below w name refusal vain None named on = absurd (false≢true on)
 vain_in paths text was s below w name refusal vain (Some entry) named on = record {
   calls = omega arith;
@@ -107,7 +107,7 @@ vain_in paths text was s below w name refusal vain (Some entry) named on = recor
   effect = λ proved met. (alone (met (inl (edits paths text vain.asks.is_edit)))).effect proved met;
 }
   where
-    alone : HasOwnGroups w → IsServed paths unread text (Refused [] (said (λ _. []) refusal)) was was s s below w w
+    alone : HasOwnGroups w → IsServed paths unread text (Refused [] (meaning_of (λ _. []) refusal)) was was s s below w w
     alone own =
         let among = named_among w.session name entry named in
         let one = own.alone.one entry among.0 on in
@@ -121,15 +121,15 @@ vain_in paths text was s below w name refusal vain (Some entry) named on = recor
           group = one.0;
           has = record { entry = entry; named = named; is = refl; mounted = on_by entry entry.state refl on; only = one.1 };
         } in
-        still paths text vain.asks.is_edit was s below w (said (λ _. []) refusal)
-        (answers_edits.refused (below_with below unread) w (meaning text) at (said (λ _. []) refusal) (vain.refused one.0 (ap (λ (n : Bytes). is_same_name n name) called ∙ among.1)))
+        still paths text vain.asks.is_edit was s below w (meaning_of (λ _. []) refusal)
+        (answers_edits.refused (below_with below unread) w (meaning text) at (meaning_of (λ _. []) refusal) (vain.refused one.0 (ap (λ (n : Bytes). is_same_name n name) called ∙ among.1)))
 
 -- ---- on the desk
 
 -- a command that was refused, and nothing was done
 pub answered-refused : {B H : Type 0} {bay : Bay.Ghosts B} {host : Host.Ghosts H} (text : Bytes) (answer : Answer) (desk new : Desk B H bay host) (refusal : Refusal) → paths_on new ≡ paths_on desk → new.host ≡ desk.host → new.session ≡ desk.session
     → new.bay ≡ desk.bay → answer.reply ≡ code.Refused refusal → found_view answer.found ≡ nothing_found → AreReady desk.session.groups (bay.state desk.bay)
-    → ((w : World) (below : ℕ → GroupBelow) → Knows desk.session w below → IsServed (paths_on desk) unread text (Refused [] (said (λ _. []) refusal)) (roster_of desk.session) (roster_of desk.session) (bay.state desk.bay) (bay.state desk.bay) below w w)
+    → ((w : World) (below : ℕ → GroupBelow) → Knows desk.session w below → IsServed (paths_on desk) unread text (Refused [] (meaning_of (λ _. []) refusal)) (roster_of desk.session) (roster_of desk.session) (bay.state desk.bay) (bay.state desk.bay) below w w)
     → IsAnswered text answer desk new
 answered-refused text answer desk new refusal paths host session disks reply found ready served = record {
   paths = paths;
@@ -140,7 +140,7 @@ answered-refused text answer desk new refusal paths host session disks reply fou
 
 module _ (paths : List Bytes) (text : Bytes) (session : SessionView) (s : BayState) (w : World) (below : ℕ → GroupBelow) (knows : Knows session w below) where
   abbrev pub IsRefusedOn : Refusal → Type 0
-  IsRefusedOn refusal = IsServed paths unread text (Refused [] (said (λ _. []) refusal)) (roster_of session) (roster_of session) s s below w w
+  IsRefusedOn refusal = IsServed paths unread text (Refused [] (meaning_of (λ _. []) refusal)) (roster_of session) (roster_of session) s s below w w
 
   pub no_target : (path : Bytes) → asks_edit (meaning text) ≡ true → (target_from session.place path ≡ None → change_of session.place (meaning text) ≡ None) → (refusal : Refusal) → IsNoTarget session.place path refusal → IsRefusedOn refusal
   no_target path asks leads refusal why =

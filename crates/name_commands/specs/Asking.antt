@@ -1,6 +1,6 @@
 -- Which edit of one group of the session a command asks for, by the session's place.
 use Rattle.std.specs.Prelude.{◌≡◌, Bool, true, false, List, [], Option, Some, None, Result, Err}
-use Rattle.asm_base.specs.Refusals.{said}
+use Rattle.asm_base.specs.Refusals.{meaning_of}
 use Rattle.asm_base.specs.declared.path.Path.{Path}
 use Rattle.asm_base.specs.declared.refusal.Refusal.{Refusal}
 use Rattle.asm_base.specs.declared.refusal.Refusal.TheVariants as cause
@@ -44,7 +44,7 @@ pub record AsksForEdit (place : List Bytes) (command : Command) (name : Bytes) (
 pub record AsksInVain (place : List Bytes) (command : Command) (name : Bytes) (refusal : Refusal) : Type 0 where
   pub change : Group → Result Group r.Refusal
   pub asks : AsksChange place command name change
-  pub refused : (g : Group) → is_same_name g.name name ≡ true → change g ≡ Err (said (λ _. []) refusal)
+  pub refused : (g : Group) → is_same_name g.name name ≡ true → change g ≡ Err (meaning_of (λ _. []) refusal)
 
 -- The edit of names that a clause was read as, which is allowed. It is in vain where a path isn't one of the group.
 abbrev pub AsksAsRead : List Bytes → Command → Bytes → Option TreeEdit → Type 0

@@ -27,7 +27,7 @@ use Rattle.group_disks.proofs.Disks.{sizes_are, slots_are}
 use Rattle.group_disks.proofs.Spared.{change_held, looks_held, spares_on, spares_some}
 use Rattle.group_disks.proofs.Staying.{stays_keeps, stays_trans}
 use Rattle.group_disks.specs.group_engine.Frames.{StaysAttached}
-use Rattle.group_disks.specs.group_engine.Making.{made}
+use Rattle.group_disks.specs.group_engine.Making.{group_of_parts}
 use Rattle.group_disks.specs.group_engine.Mounts.{AreCopiesOf, IsWhole, MountedGroup}
 use Rattle.group_disks.specs.group_engine.declared.attached.Attached.{Attached}
 use Rattle.group_disks.specs.group_mount.Verdicts.{IsSlotIn}
@@ -112,7 +112,7 @@ module _ (d : Draft) (agrees : HasAgreeingParts d) where
 
   module _ (cat : Catalogued) (store : Stored) (copies : store.copies ≡ copy_list d.status.directories hs) (is_catalog : IsCatalogOf store.table.records d.status.entries cat) (shape : cat.shape ≡ d.shape)
       (reached : Reaches register.members register.value) where
-    pub whole_of : (state : BayState) → AreDisks hs state → IsWhole (made d.name cat store register (by_number (disk_list hs)))
+    pub whole_of : (state : BayState) → AreDisks hs state → IsWhole (group_of_parts d.name cat store register (by_number (disk_list hs)))
     whole_of state disks = record {
       are_tables = is_catalog.rules.tables;
       tables = records_told store.table.records cat.tables is_catalog.rules.tables is_catalog.records;
@@ -132,10 +132,10 @@ module _ (d : Draft) (agrees : HasAgreeingParts d) where
 
   -- the parts as the code has them
   pub parts_whole : (f : Formed) (cat : Catalogued) (ds : List (Option Attached)) (state : BayState) → AreParts d f → AreDisks hs state → IsCatalogOf f.store.table.records d.status.entries cat → cat.shape ≡ d.shape
-      → Reaches f.register.members f.register.value → ds ≡ by_number (disk_list hs) → IsWhole (made d.name cat f.store f.register ds)
+      → Reaches f.register.members f.register.value → ds ≡ by_number (disk_list hs) → IsWhole (group_of_parts d.name cat f.store f.register ds)
   parts_whole f cat ds state parts disks is_catalog shape reached are =
-      subst (λ (l : List (Option Attached)). IsWhole (made d.name cat f.store f.register l)) (sym are)
-      (subst (λ (x : Registered). IsWhole (made d.name cat f.store x (by_number (disk_list hs)))) (sym parts.register)
+      subst (λ (l : List (Option Attached)). IsWhole (group_of_parts d.name cat f.store f.register l)) (sym are)
+      (subst (λ (x : Registered). IsWhole (group_of_parts d.name cat f.store x (by_number (disk_list hs)))) (sym parts.register)
       (whole_of cat f.store parts.copies is_catalog shape (subst (λ (x : Registered). Reaches x.members x.value) parts.register reached) state disks))
 
   -- it takes calls, and no slot that others hold is one of its disks'

@@ -8,7 +8,7 @@ use Rattle.bay.specs.State.{BayState}
 use Rattle.asm_group.specs.declared.GroupKind.{GroupKind}
 use Rattle.asm_world.specs.NewDisks.{PlannedDisk, is_name_taken, needed_groups, regular_groups}
 use Rattle.asm_group.specs.Refusal as r
-use Rattle.asm_base.specs.Refusals.{said}
+use Rattle.asm_base.specs.Refusals.{meaning_of}
 use Rattle.asm_base.specs.declared.refusal.Refusal.{Refusal}
 use Rattle.group_disks.specs.Probes.{SaysRefusal}
 use Rattle.group_disks.proofs.group_mount.Told.{rose_before}
@@ -19,8 +19,8 @@ use Rattle.new_groups.specs.Forming.{IsFormRefusal}
 use Rattle.new_groups.specs.Preparing.{IsFormFailure}
 
 -- what is said is the one that there is
-pub first_says : (first : Option r.Refusal) (wanted : r.Refusal) (refusal : Refusal) → first ≡ Some wanted → SaysRefusal wanted refusal → IsThisRefusal first (said (λ any. []) refusal)
-first_says first wanted refusal is says = ⊎_elim (λ (same : said (λ any. []) refusal ≡ wanted). inl (is ∙ ap (λ (x : r.Refusal). Some x) (sym same))) (λ short. inr short) says
+pub first_says : (first : Option r.Refusal) (wanted : r.Refusal) (refusal : Refusal) → first ≡ Some wanted → SaysRefusal wanted refusal → IsThisRefusal first (meaning_of (λ any. []) refusal)
+first_says first wanted refusal is says = ⊎_elim (λ (same : meaning_of (λ any. []) refusal ≡ wanted). inl (is ∙ ap (λ (x : r.Refusal). Some x) (sym same))) (λ short. inr short) says
 
 pub first_passed : {A : Type 0} (test : A → Option r.Refusal) (x : A) (xs : List A) → test x ≡ None → first_refused test (x ∷ xs) ≡ first_refused test xs
 first_passed test x xs none = rw none refl

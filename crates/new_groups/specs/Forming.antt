@@ -15,7 +15,7 @@ use Rattle.group_disks.specs.catalog_tables.Tables.{Catalogued}
 use Rattle.directory_store.specs.Stores.{Keeps}
 use Rattle.disk_images.specs.Headers.{HasHeaderSlot}
 use Rattle.group_disks.specs.Mounting.{by_number}
-use Rattle.group_disks.specs.group_engine.Making.{made}
+use Rattle.group_disks.specs.group_engine.Making.{group_of_parts}
 use Rattle.group_disks.specs.group_engine.Mounts.{MountedGroup}
 use Rattle.disk_images.specs.disk_forming.Gates.{HasAttachedRegion}
 use Rattle.group_disks.specs.group_mount.Verdicts.{IsSlotIn}
@@ -58,7 +58,7 @@ pub record IsMountedOf (d : Draft) (f : Formed) (m : MountedGroup) : Type 0 wher
   pub catalog : Catalogued
   pub is_catalog : IsCatalogOf f.store.table.records d.status.entries catalog
   pub shape : catalog.shape ≡ d.shape
-  pub is : m ≡ made d.name catalog f.store f.register (by_number (disk_list d.disks.items))
+  pub is : m ≡ group_of_parts d.name catalog f.store f.register (by_number (disk_list d.disks.items))
 
 -- ---- conditions
 

@@ -1,6 +1,6 @@
 //! The attributes of a creation.
 ghost use Rattle.std.specs.Prelude.{◌≡◌, [], IfErr, IfOk, IsTrue, Ok, Some};
-ghost use Rattle.asm_base.specs.Refusals.{said};
+ghost use Rattle.asm_base.specs.Refusals.{meaning_of};
 ghost use Rattle.asm_group.specs.Shape.{is_shape};
 ghost use Rattle.asm_world.specs.Settings.{created_with, creation, with_creation_attribute};
 ghost use Rattle.group_disks.specs.attribute_values.Creations.{IsNewCreation, creation_meant};
@@ -19,7 +19,7 @@ fn finished(alloc: Global, creation: Creation) -> Result<Creation, Refusal>
     ensures given { IfOk result (λ c. created_with (creation_meant creation) [] ≡ Ok (creation_meant c)) }
     ensures new { IfOk result IsNewCreation }
     ensures shape { IfOk result (λ c. IsTrue (is_shape c.shape)) }
-    ensures refused { IfErr result (λ refusal. IsRefusedAs (created_with (creation_meant creation) []) (said (λ _. []) refusal)) }
+    ensures refused { IfErr result (λ refusal. IsRefusedAs (created_with (creation_meant creation) []) (meaning_of (λ _. []) refusal)) }
 {
     if creation.has_sectors() {
         if !creation.shape.is_allowed() {
@@ -36,7 +36,7 @@ fn with_one(alloc: Global, creation: &Creation, attribute: &Attribute) -> Result
     requires { IsNewCreation creation.now }
     ensures given { IfOk result (λ next. with_creation_attribute (creation_meant creation.now) attribute.now ≡ Some (creation_meant next)) }
     ensures new { IfOk result IsNewCreation }
-    ensures refused { IfErr result (λ refusal. IsNotTaken (creation_meant creation.now) attribute.now (said (λ _. []) refusal)) }
+    ensures refused { IfErr result (λ refusal. IsNotTaken (creation_meant creation.now) attribute.now (meaning_of (λ _. []) refusal)) }
 {
     let name = attribute.name.as_slice();
     match creation.with_attribute(alloc, name, attribute.value.as_slice()) {
@@ -56,7 +56,7 @@ fn with_attributes(
     ensures given { IfOk result (λ c. created_with (creation_meant creation) attributes.now ≡ Ok (creation_meant c)) }
     ensures new { IfOk result IsNewCreation }
     ensures shape { IfOk result (λ c. IsTrue (is_shape c.shape)) }
-    ensures refused { IfErr result (λ refusal. IsRefusedAs (created_with (creation_meant creation) attributes.now) (said (λ _. []) refusal)) }
+    ensures refused { IfErr result (λ refusal. IsRefusedAs (created_with (creation_meant creation) attributes.now) (meaning_of (λ _. []) refusal)) }
 {
     let [first, rest @ ..] = attributes else {
         return finished(alloc, creation);
@@ -77,7 +77,7 @@ pub fn creation_of(
     ensures given { IfOk result (λ c. creation (Some kind) attributes.now ≡ Ok (creation_meant c)) }
     ensures new { IfOk result IsNewCreation }
     ensures shape { IfOk result (λ c. IsTrue (is_shape c.shape)) }
-    ensures refused { IfErr result (λ refusal. IsRefusedAs (creation (Some kind) attributes.now) (said (λ _. []) refusal)) }
+    ensures refused { IfErr result (λ refusal. IsRefusedAs (creation (Some kind) attributes.now) (meaning_of (λ _. []) refusal)) }
 {
     with_attributes(alloc, Creation::usual(alloc, kind), attributes)
 }

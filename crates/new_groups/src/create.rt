@@ -2,7 +2,7 @@
 
 ghost use Rattle.std.specs.Prelude.{◌≤◌, ◌<◌, [], All, IfErr, IfOk, IfSome, IsSome, OnOk, Some, length, map};
 ghost use Rattle.std.specs.String.{string_bytes};
-ghost use Rattle.asm_base.specs.Refusals.{said};
+ghost use Rattle.asm_base.specs.Refusals.{meaning_of};
 ghost use Rattle.bay.specs.Counts.{last_count};
 ghost use Rattle.group_disks.specs.FirstParts.{IsNewlyMounted};
 ghost use Rattle.group_disks.specs.Holding.{SparesHeld};
@@ -32,7 +32,7 @@ fn form_ready<B: Bay>(
     requires lists { AreLists ready.draft ready.lists }
     requires free { AreFreeDisks slots held.now ready.draft.disks.items (B.state bay.old) }
     ensures works { Works ready.draft.disks.items (B.state bay.old) (B.state bay.new) }
-    ensures cause { IfErr result (λ refusal. IsFormRefusal ready.draft.disks.items (said (λ _. []) refusal) (B.state bay.old) (B.state bay.new)) }
+    ensures cause { IfErr result (λ refusal. IsFormRefusal ready.draft.disks.items (meaning_of (λ _. []) refusal) (B.state bay.old) (B.state bay.new)) }
     ensures mounted { IfOk result (λ m. IsNewlyMounted held.now ready.draft.name (Some ready.draft.status.id) m (B.state bay.new)) }
 {
     match form(alloc, bay, &ready) {
@@ -62,7 +62,7 @@ pub fn create_group<B: Bay>(
     ensures floor { IfSome result.0 (λ id. known.now.floor ≤ id) }
     ensures above_read { IfSome result.0 (λ id. id < last_count → All (λ other. other < id) ids.new.items) }
     // Why it is refused.
-    ensures cause { IfErr result.1 (λ refusal. IsCreationRefusal (map string_bytes paths.now) asked.now known.now result.0 (said (λ _. []) refusal) (B.state bay.old) (B.state bay.new)) }
+    ensures cause { IfErr result.1 (λ refusal. IsCreationRefusal (map string_bytes paths.now) asked.now known.now result.0 (meaning_of (λ _. []) refusal) (B.state bay.old) (B.state bay.new)) }
     // The new group takes calls, on disks that no other group holds.
     ensures mounted { IfOk result.1 (λ m. IsNewlyMounted known.now.held.items asked.now.name result.0 m (B.state bay.new)) }
     // Of other groups nothing changes: what was attached stays so, and the disks in these slots do.

@@ -1,6 +1,6 @@
 //! The disks of a new group get their parts: headers, directory copies, claims, and last the record.
 ghost use Rattle.std.specs.Prelude.{◌≡◌, [], IfErr, IfOk, IsTrue};
-ghost use Rattle.asm_base.specs.Refusals.{said};
+ghost use Rattle.asm_base.specs.Refusals.{meaning_of};
 ghost use Rattle.asm_group.specs.Shape.{is_shape};
 ghost use Rattle.bay.specs.Image.{ChangesOnly};
 ghost use Rattle.bay.specs.Moments.{Runs};
@@ -193,7 +193,7 @@ fn give_parts<B: Bay>(
 
 /// WriteFault by the disk of a slot.
 fn fault_of(alloc: Global, disks: &[Headed], slot: u32) -> Refusal
-    ensures { IsFaultOf disks.now slot (said (λ _. []) result) }
+    ensures { IsFaultOf disks.now slot (meaning_of (λ _. []) result) }
 {
     let [first, rest @ ..] = disks else {
         return Refusal::NoMemory;
@@ -206,7 +206,7 @@ fn fault_of(alloc: Global, disks: &[Headed], slot: u32) -> Refusal
 
 /// Why a group isn't formed, as its creation is refused.
 fn refusal_of(alloc: Global, disks: &[Headed], error: FormError) -> Refusal
-    ensures { IsErrorSaid disks.now error (said (λ _. []) result) }
+    ensures { IsErrorSaid disks.now error (meaning_of (λ _. []) result) }
 {
     match error {
         FormError::Fault { slot } => fault_of(alloc, disks, slot),
@@ -221,7 +221,7 @@ pub fn form<B: Bay>(alloc: Global, bay: &mut B, ready: &Ready) -> Result<Formed,
     requires disks { AreDisks ready.now.draft.disks.items (B.state bay.old) }
     ensures works { Works ready.now.draft.disks.items (B.state bay.old) (B.state bay.new) }
     ensures formed { IfOk result (λ formed. IsFormed ready.now.draft formed (B.state bay.new)) }
-    ensures cause { IfErr result (λ refusal. IsFormRefusal ready.now.draft.disks.items (said (λ _. []) refusal) (B.state bay.old) (B.state bay.new)) }
+    ensures cause { IfErr result (λ refusal. IsFormRefusal ready.now.draft.disks.items (meaning_of (λ _. []) refusal) (B.state bay.old) (B.state bay.new)) }
 {
     match give_parts(alloc, bay, &ready.draft, &ready.lists) {
         Ok(formed) => Ok(formed),

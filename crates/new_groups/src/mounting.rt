@@ -2,7 +2,7 @@
 ghost use Rattle.std.specs.Prelude.{◌≡◌, IfOk};
 ghost use Rattle.group_disks.specs.catalog_tables.Faults.{IsCatalogOf};
 ghost use Rattle.group_disks.specs.Mounting.{by_number};
-ghost use Rattle.group_disks.specs.group_engine.Making.{made};
+ghost use Rattle.group_disks.specs.group_engine.Making.{group_of_parts};
 ghost use Rattle.group_disks.specs.group_engine.Mounts.{IsWhole};
 ghost use Rattle.status_register.specs.Reaching.{Reaches};
 ghost use Rattle.new_groups.specs.Drafts.{HasAgreeingParts, disk_list};
@@ -38,7 +38,7 @@ fn mounted_of<B: Bay>(bay: &B, draft: Draft, formed: Formed, catalog: Catalog) -
     requires reached { Reaches formed.register.members formed.register.value }
     requires catalog { IsCatalogOf formed.store.table.records draft.status.entries catalog }
     requires shape { catalog.shape ≡ draft.shape }
-    ensures made { result ≡ made draft.name catalog formed.store formed.register (by_number (disk_list draft.disks.items)) }
+    ensures made { result ≡ group_of_parts draft.name catalog formed.store formed.register (by_number (disk_list draft.disks.items)) }
     ensures whole { IsWhole result }
 {
     let _bay = bay;

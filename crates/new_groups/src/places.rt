@@ -3,7 +3,7 @@
 ghost use Rattle.std.specs.Prelude.{◌≡◌, ◌≤◌, ◌+◌, ◌++◌, [], IfErr, IfOk, None, OnOk, length, map};
 ghost use Rattle.std.specs.List.{list_any};
 ghost use Rattle.std.specs.String.{string_bytes};
-ghost use Rattle.asm_base.specs.Refusals.{said};
+ghost use Rattle.asm_base.specs.Refusals.{meaning_of};
 ghost use Rattle.new_groups.specs.Causes.{IsThisRefusal, creation_disk, creation_disks, first_refused, is_member_taken, is_same_disk, is_place_taken, is_unread, missing_refusal, place_at_path, place_in_slot, places_at, shown_by_header, slot_from, taken_refusal};
 
 use crate::asked::{Known, Taken};
@@ -106,7 +106,7 @@ fn put_places(
     requires few { length paths.now ≤ 512 }
     ensures places { OnOk result (places.new.items ≡ places.old.items ++ places_at (map string_bytes paths.now) looked.now disks.now) }
     ensures all { OnOk result (first_refused (missing_refusal (map string_bytes paths.now) looked.now) disks.now ≡ None) }
-    ensures refused { IfErr result (λ refusal. IsThisRefusal (first_refused (missing_refusal (map string_bytes paths.now) looked.now) disks.now) (said (λ _. []) refusal)) }
+    ensures refused { IfErr result (λ refusal. IsThisRefusal (first_refused (missing_refusal (map string_bytes paths.now) looked.now) disks.now) (meaning_of (λ _. []) refusal)) }
 {
     let [disk, rest @ ..] = disks else {
         return Ok(());
@@ -131,7 +131,7 @@ pub fn find_places(
     requires few { length paths.now ≤ 512 }
     ensures places { IfOk result (λ places. places.items ≡ places_at (map string_bytes paths.now) looked.now disks.now) }
     ensures all { OnOk result (first_refused (missing_refusal (map string_bytes paths.now) looked.now) disks.now ≡ None) }
-    ensures refused { IfErr result (λ refusal. IsThisRefusal (first_refused (missing_refusal (map string_bytes paths.now) looked.now) disks.now) (said (λ _. []) refusal)) }
+    ensures refused { IfErr result (λ refusal. IsThisRefusal (first_refused (missing_refusal (map string_bytes paths.now) looked.now) disks.now) (meaning_of (λ _. []) refusal)) }
 {
     let mut places = Vec::new(alloc);
     match put_places(alloc, paths, looked, disks, &mut places) {
@@ -192,7 +192,7 @@ fn check_free(
     place: Place,
 ) -> Result<(), Refusal>
     ensures free { OnOk result (taken_refusal known.now (creation_disk disk.now terms place) ≡ None) }
-    ensures refused { IfErr result (λ refusal. IsThisRefusal (taken_refusal known.now (creation_disk disk.now terms place)) (said (λ _. []) refusal)) }
+    ensures refused { IfErr result (λ refusal. IsThisRefusal (taken_refusal known.now (creation_disk disk.now terms place)) (meaning_of (λ _. []) refusal)) }
 {
     if is_unread(place.shown) {
         return Err(write_fault(alloc, &disk.name));
@@ -214,7 +214,7 @@ pub fn check_all_free(
     places: &[Place],
 ) -> Result<(), Refusal>
     ensures free { OnOk result (first_refused (taken_refusal known.now) (creation_disks disks.now terms.now places.now) ≡ None) }
-    ensures refused { IfErr result (λ refusal. IsThisRefusal (first_refused (taken_refusal known.now) (creation_disks disks.now terms.now places.now)) (said (λ _. []) refusal)) }
+    ensures refused { IfErr result (λ refusal. IsThisRefusal (first_refused (taken_refusal known.now) (creation_disks disks.now terms.now places.now)) (meaning_of (λ _. []) refusal)) }
 {
     let [disk, disks @ ..] = disks else {
         return Ok(());

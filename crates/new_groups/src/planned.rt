@@ -1,7 +1,7 @@
 //! The disks of a creation, each with its name and its failure group.
 
 ghost use Rattle.std.specs.Prelude.{◌≡◌, ◌+◌, ◌%◌, ◌^◌, ◌<◌, ◌≤◌, ◌++◌, ◌∷◌, [], IfErr, IfOk, OnOk, length, nat_le, take, unwrap_or};
-ghost use Rattle.asm_base.specs.Refusals.{said};
+ghost use Rattle.asm_base.specs.Refusals.{meaning_of};
 ghost use Rattle.asm_world.specs.NewDisks.{four_digits, planned_disk, usual_name};
 ghost use Rattle.new_groups.specs.Causes.{terms_in, terms_of};
 ghost use Rattle.new_groups.specs.Planning.{disk_count, planned_after, planned_in};
@@ -226,7 +226,7 @@ pub fn planned_disks(
 ) -> Result<Planned, Refusal>
     ensures planned { IfOk result (λ planned. planned.disks.items ≡ planned_after group.now 0 groups.now) }
     ensures terms { IfOk result (λ planned. planned.terms.items ≡ terms_of groups.now) }
-    ensures refused { IfErr result (λ refusal. IsTooMany groups.now (said (λ _. []) refusal)) }
+    ensures refused { IfErr result (λ refusal. IsTooMany groups.now (meaning_of (λ _. []) refusal)) }
 {
     if !disks_within(groups, MOST_DISKS) {
         return Err(Refusal::TooMany {

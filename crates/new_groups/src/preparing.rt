@@ -2,7 +2,7 @@
 
 ghost use Rattle.std.specs.Prelude.{◌≡◌, ◌≤◌, ◌<◌, ◌*◌, [], All, IfErr, IfOk, IsTrue, None, OnOk, length, map};
 ghost use Rattle.std.specs.String.{string_bytes};
-ghost use Rattle.asm_base.specs.Refusals.{said};
+ghost use Rattle.asm_base.specs.Refusals.{meaning_of};
 ghost use Rattle.asm_group.specs.Refusal.{NoMemory as NoMemoryLeft};
 ghost use Rattle.asm_group.specs.Shape.{is_shape};
 ghost use Rattle.bay.specs.Counts.{last_count};
@@ -49,7 +49,7 @@ fn next_id(floor: u64, ids: &[u64]) -> u64
 /// Whether names, paths and failure groups don't clash.
 fn check_names(disks: &[PlannedDisk]) -> Result<(), Refusal>
     ensures none { OnOk result (clash_refusal disks.now ≡ None) }
-    ensures refused { IfErr result (λ refusal. IsThisRefusal (clash_refusal disks.now) (said (λ _. []) refusal)) }
+    ensures refused { IfErr result (λ refusal. IsThisRefusal (clash_refusal disks.now) (meaning_of (λ _. []) refusal)) }
 {
     if is_name_taken(&[], disks) {
         Err(Refusal::NameTaken)
@@ -61,7 +61,7 @@ fn check_names(disks: &[PlannedDisk]) -> Result<(), Refusal>
 /// Whether there are as many regular failure groups as the kind needs.
 fn check_groups(kind: GroupKind, disks: &[PlannedDisk]) -> Result<(), Refusal>
     ensures none { OnOk result (groups_refusal kind disks.now ≡ None) }
-    ensures refused { IfErr result (λ refusal. IsThisRefusal (groups_refusal kind disks.now) (said (λ _. []) refusal)) }
+    ensures refused { IfErr result (λ refusal. IsThisRefusal (groups_refusal kind disks.now) (meaning_of (λ _. []) refusal)) }
 {
     let need = needed_groups(kind);
     let have = regular_groups(disks);
@@ -86,7 +86,7 @@ fn free_places(
     requires few { length paths.now ≤ 512 }
     ensures places { IfOk result (λ places. places.items ≡ places_at (map string_bytes paths.now) looked.now planned.now.disks.items) }
     ensures none { OnOk result (first_refusal (image_refusals known.now (map string_bytes paths.now) looked.now planned.now.disks.items planned.now.terms.items) ≡ None) }
-    ensures refused { IfErr result (λ refusal. IsThisRefusal (first_refusal (image_refusals known.now (map string_bytes paths.now) looked.now planned.now.disks.items planned.now.terms.items)) (said (λ _. []) refusal)) }
+    ensures refused { IfErr result (λ refusal. IsThisRefusal (first_refusal (image_refusals known.now (map string_bytes paths.now) looked.now planned.now.disks.items planned.now.terms.items)) (meaning_of (λ _. []) refusal)) }
 {
     let places = match find_places(alloc, paths, looked, &planned.disks) {
         Ok(places) => places,
@@ -106,7 +106,7 @@ fn right_units(
     places: &[Place],
 ) -> Result<Vec<u32>, Refusal>
     requires shape { IsTrue (is_shape shape.now) }
-    ensures refused { IfErr result (λ refusal. IsThisRefusal (first_refusal (shape_refusals shape.now planned.now.disks.items planned.now.terms.items places.now)) (said (λ _. []) refusal)) }
+    ensures refused { IfErr result (λ refusal. IsThisRefusal (first_refusal (shape_refusals shape.now planned.now.disks.items planned.now.terms.items places.now)) (meaning_of (λ _. []) refusal)) }
 {
     match check_names(&planned.disks) {
         Ok(()) => {}
@@ -148,7 +148,7 @@ fn ready_draft(
 ) -> Result<Ready, Refusal>
     requires items { ArePutItems draft.first.put }
     ensures prepared { IfOk result (IsPrepared looked.now held.now draft.name id) }
-    ensures refused { IfErr result (λ refusal. said (λ _. []) refusal ≡ NoMemoryLeft) }
+    ensures refused { IfErr result (λ refusal. meaning_of (λ _. []) refusal ≡ NoMemoryLeft) }
 {
     if draft.status.id != id || !may_form(&draft, looked, held) {
         return Err(Refusal::NoMemory);
@@ -174,7 +174,7 @@ fn planned_group(
     requires few { length paths.now ≤ 512 }
     requires shape { IsTrue (is_shape creation.now.shape) }
     ensures prepared { IfOk result (IsPrepared looked.now known.now.held.items asked.now.name id) }
-    ensures refused { IfErr result (λ refusal. IsThisRefusal (look_refusal known.now creation.now.shape (map string_bytes paths.now) looked.now planned.now.disks.items planned.now.terms.items) (said (λ _. []) refusal)) }
+    ensures refused { IfErr result (λ refusal. IsThisRefusal (look_refusal known.now creation.now.shape (map string_bytes paths.now) looked.now planned.now.disks.items planned.now.terms.items) (meaning_of (λ _. []) refusal)) }
 {
     let places = match free_places(alloc, paths, known, looked, planned) {
         Ok(places) => places,
@@ -234,7 +234,7 @@ pub fn prepare<B: Bay>(
     ensures free { IfOk result (λ ready. AreFreeDisks (length paths.now) known.now.held.items ready.draft.disks.items (B.state bay.new)) }
     ensures floor { IfOk result (λ ready. known.now.floor ≤ ready.draft.status.id) }
     ensures above { IfOk result (λ ready. ready.draft.status.id < last_count → All (λ other. other < ready.draft.status.id) ids.new.items) }
-    ensures cause { IfErr result (λ refusal. IsPrepareRefusal (map string_bytes paths.now) asked.now known.now (said (λ _. []) refusal) (B.state bay.old) (B.state bay.new)) }
+    ensures cause { IfErr result (λ refusal. IsPrepareRefusal (map string_bytes paths.now) asked.now known.now (meaning_of (λ _. []) refusal) (B.state bay.old) (B.state bay.new)) }
 {
     let creation = match creation_of(alloc, asked.kind, asked.attributes.as_slice()) {
         Ok(creation) => creation,

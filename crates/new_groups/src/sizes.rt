@@ -1,6 +1,6 @@
 //! The units of the disks of a creation.
 ghost use Rattle.std.specs.Prelude.{◌≡◌, ◌+◌, [], IfErr, IsTrue, None, OnOk};
-ghost use Rattle.asm_base.specs.Refusals.{said};
+ghost use Rattle.asm_base.specs.Refusals.{meaning_of};
 ghost use Rattle.asm_formats.specs.Regions.{reserved_units, units_in};
 ghost use Rattle.asm_group.specs.Shape.{is_shape};
 ghost use Rattle.new_groups.specs.Causes.{IsThisRefusal, creation_disk, creation_disks, first_refused, small_refusal, units_of_new_disk};
@@ -54,7 +54,7 @@ fn units_for(
 ) -> Result<u32, Refusal>
     requires shape { IsTrue (is_shape shape.now) }
     ensures fit { OnOk result (small_refusal shape.now (creation_disk disk.now terms place) ≡ None) }
-    ensures refused { IfErr result (λ refusal. IsThisRefusal (small_refusal shape.now (creation_disk disk.now terms place)) (said (λ _. []) refusal)) }
+    ensures refused { IfErr result (λ refusal. IsThisRefusal (small_refusal shape.now (creation_disk disk.now terms place)) (meaning_of (λ _. []) refusal)) }
 {
     let units = units_asked(shape, terms.size, place.size);
     if image_units(shape, place.size) < units {
@@ -78,7 +78,7 @@ pub fn all_units(
 ) -> Result<(), Refusal>
     requires shape { IsTrue (is_shape shape.now) }
     ensures fit { OnOk result (first_refused (small_refusal shape.now) (creation_disks disks.now terms.now places.now) ≡ None) }
-    ensures refused { IfErr result (λ refusal. IsThisRefusal (first_refused (small_refusal shape.now) (creation_disks disks.now terms.now places.now)) (said (λ _. []) refusal)) }
+    ensures refused { IfErr result (λ refusal. IsThisRefusal (first_refused (small_refusal shape.now) (creation_disks disks.now terms.now places.now)) (meaning_of (λ _. []) refusal)) }
 {
     let [disk, disks @ ..] = disks else {
         return Ok(());

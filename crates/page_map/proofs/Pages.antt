@@ -4,7 +4,7 @@ use Rattle.std.specs.Prelude.{not, ◌&&◌, ◌↔◌, IsTrue, IfSome, IfNone, 
 use Rattle.std.proofs.lemmas.Bool.{cases_lt, true≢false, le-leb, lt-leb, lt-ltb, le-ltb, ne_eqb, eq-eqb}
 use Rattle.std.proofs.lemmas.List.{length-take, length-drop, length-append, length-replicate, get_or_append_left, get_or-append_right, get_or-take, get_or-drop, get_or-replicate, get_or_default}
 use Rattle.allocator.specs.Words.{is_within}
-use Rattle.allocator.specs.UnitMaps.{IsFreeRun, HasNoRun, IsLowestRun, IsUsedRun, with_run, taken, unused}
+use Rattle.allocator.specs.UnitMaps.{IsFreeRun, HasNoRun, IsLowestRun, IsUsedRun, with_run, with_taken_run, unused}
 use Rattle.page_map.specs.Free.{FreeMap, is_page_free, IsFreeMap, IsLeastFreePage}
 
 -- an element of a list of which a run was replaced
@@ -61,7 +61,7 @@ least_is m (Some at) sound lowest = record {
   least = λ k below. not_true (is_page_free m k) (λ free. lowest.lowest k below (run_of_one m k free));
 }
 
-pub taken_is : (m n : FreeMap) (found : Option ℕ) → IsFreeMap m → MatchOption found (HasNoRun m 1) (IsLowestRun m 1) → n ≡ taken m 1 found
+pub taken_is : (m n : FreeMap) (found : Option ℕ) → IsFreeMap m → MatchOption found (HasNoRun m 1) (IsLowestRun m 1) → n ≡ with_taken_run m 1 found
     → IfSome found (λ p. (k : ℕ) → is_page_free n k ≡ cond (eqb k p) false (is_page_free m k))
 taken_is m n None sound none e = tt
 taken_is m n (Some at) sound lowest e = λ k. rw e (one_of_run m sound at true (free_inside m at (lowest.free at (omega arith) (omega arith))) k)
@@ -72,15 +72,15 @@ length_with m sound at used inside = record {
   length = omega (arith, sound.length, length-append (take at m.used ++ replicate 1 used) (drop (at + 1) m.used), length-append (take at m.used) (replicate 1 used), length-take at m.used, length-replicate 1 used, length-drop (at + 1) m.used);
 }
 
-pub sound_taken : (m n : FreeMap) (found : Option ℕ) → IsFreeMap m → MatchOption found (HasNoRun m 1) (IsLowestRun m 1) → n ≡ taken m 1 found → IsFreeMap n
+pub sound_taken : (m n : FreeMap) (found : Option ℕ) → IsFreeMap m → MatchOption found (HasNoRun m 1) (IsLowestRun m 1) → n ≡ with_taken_run m 1 found → IsFreeMap n
 sound_taken m n None sound none e = rw e sound
 sound_taken m n (Some at) sound lowest e = rw e (length_with m sound at true (free_inside m at (lowest.free at (omega arith) (omega arith))))
 
-pub units_taken : (m n : FreeMap) (found : Option ℕ) → n ≡ taken m 1 found → n.units ≡ m.units
+pub units_taken : (m n : FreeMap) (found : Option ℕ) → n ≡ with_taken_run m 1 found → n.units ≡ m.units
 units_taken m n None e = ap (λ (f : FreeMap). f.units) e
 units_taken m n (Some at) e = ap (λ (f : FreeMap). f.units) e
 
-pub none_taken : (m n : FreeMap) (found : Option ℕ) → n ≡ taken m 1 found → IfNone found (n ≡ m)
+pub none_taken : (m n : FreeMap) (found : Option ℕ) → n ≡ with_taken_run m 1 found → IfNone found (n ≡ m)
 none_taken m n None e = e
 none_taken m n (Some at) e = tt
 

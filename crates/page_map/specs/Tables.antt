@@ -57,12 +57,12 @@ abbrev pub one_if : Bool → ℕ
 one_if b = if b then 1 else 0
 
 -- the records but these two
-abbrev pub used : PageTable → ℕ
-used t = length t.places - (one_if (is_some (place_at t.places rebalance_key)) + one_if (is_some (place_at t.places pending_key)))
+abbrev pub used_pages : PageTable → ℕ
+used_pages t = length t.places - (one_if (is_some (place_at t.places rebalance_key)) + one_if (is_some (place_at t.places pending_key)))
 
 -- the pages that are left for other records than these two
 abbrev pub room : PageTable → ℕ
-room t = t.free.units - 2 - used t
+room t = t.free.units - 2 - used_pages t
 
 -- the key isn't there, and isn't one of these two
 abbrev pub is_new : PageTable → Key → Bool

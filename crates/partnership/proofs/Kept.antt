@@ -13,7 +13,7 @@ use Rattle.asm_placement.specs.Space.{has_room}
 use Rattle.asm_placement.specs.Choices as choices
 use Rattle.asm_placement.specs.Choices.{home_on, staying_disk, kept_disks, holds_copy, is_partner_of_first, is_eligible, replacement, replacement_on}
 use Rattle.partnership.specs.Candidates.{Candidate, candidates, candidate_tried_first, candidate_home, lies_on, lies_in_group, is_partner_of_kept, is_disk_in_set, is_allowed, may_take, may_take_of, may_take_at, chosen_copy_of}
-use Rattle.partnership.specs.UnitsOf.{AreUnitsOf, AreHomesOf, held, kept, kept_homes_from, is_eligible_at}
+use Rattle.partnership.specs.UnitsOf.{AreUnitsOf, AreHomesOf, held, homes_kept, kept_homes_from, is_eligible_at}
 use Rattle.partnership.proofs.Turns.{filter_both}
 use Rattle.partnership.proofs.Placement.{as_candidate, may_have, candidates_are, among_map, tried_map}
 
@@ -59,11 +59,11 @@ partner_is : (es : List Entry) (e : Entry) (hs : List Home) (ks : List Entry) �
 partner_is es e _ _ none = refl
 partner_is es e _ _ (one h k hs ks is more) = rw is refl
 
-may_take_is : (es : List Entry) (replaced : ℕ) (hs : Homes) (e : Entry) → may_take es (kept es replaced hs) (held hs) e ≡ is_eligible es replaced hs e
+may_take_is : (es : List Entry) (replaced : ℕ) (hs : Homes) (e : Entry) → may_take es (homes_kept es replaced hs) (held hs) e ≡ is_eligible es replaced hs e
 unfolding may_take is_eligible
 may_take_is es replaced hs e =
     let ks = kept_is es replaced 0 hs in
-    rw (held_is hs e.number, apart_is es e.failgroup (kept es replaced hs) (kept_disks es replaced hs) ks, partner_is es e (kept es replaced hs) (kept_disks es replaced hs) ks) refl
+    rw (held_is hs e.number, apart_is es e.failgroup (homes_kept es replaced hs) (kept_disks es replaced hs) ks, partner_is es e (homes_kept es replaced hs) (kept_disks es replaced hs) ks) refl
 
 pub eligible_is : (es : List Entry) (replaced : ℕ) (hs : Homes) (kept_homes holders : List Home) (o : Option Entry) → AreHomesOf es replaced hs kept_homes holders → may_take_at es kept_homes holders o ≡ is_eligible_at es replaced hs o
 eligible_is es replaced hs kept_homes holders None are = refl
@@ -89,11 +89,11 @@ target_first false a b c r x = refl
 
 -- disks that may take the copy and have room
 takers : (s : Shape) (items : List Item) (n : ℕ) (es : List Entry) (on : Option ℕ) (replaced : ℕ) (hs : Homes)
-    → filter (may_take_of on es (kept es replaced hs) (held hs)) (filter (may_have s items n) es) ≡ filter (λ (e : Entry). is_eligible es replaced hs e && has_room s items n e && is_allowed on e) es
+    → filter (may_take_of on es (homes_kept es replaced hs) (held hs)) (filter (may_have s items n) es) ≡ filter (λ (e : Entry). is_eligible es replaced hs e && has_room s items n e && is_allowed on e) es
 unfolding is_eligible
 takers s items n es on replaced hs =
-    filter_both (may_take_of on es (kept es replaced hs) (held hs)) (may_have s items n) es
-    ∙ filter_agree (λ (e : Entry). may_have s items n e && may_take_of on es (kept es replaced hs) (held hs) e) (λ (e : Entry). is_eligible es replaced hs e && has_room s items n e && is_allowed on e)
+    filter_both (may_take_of on es (homes_kept es replaced hs) (held hs)) (may_have s items n) es
+    ∙ filter_agree (λ (e : Entry). may_have s items n e && may_take_of on es (homes_kept es replaced hs) (held hs) e) (λ (e : Entry). is_eligible es replaced hs e && has_room s items n e && is_allowed on e)
     (λ e. ap (λ (b : Bool). may_have s items n e && (is_allowed on e && b)) (may_take_is es replaced hs e)
     ∙ target_first (is_target e) (not (holds_copy hs e.number)) (list_all (λ (k : Entry). not (eqb k.failgroup e.failgroup)) (kept_disks es replaced hs)) (is_partner_of_first (kept_disks es replaced hs) e) (has_room s items n e) (is_allowed on e)) es
 
@@ -105,7 +105,7 @@ home_map s items n (Some e) = refl
 copy_of_is : (s : Shape) (items : List Item) (es : List Entry) (ms : List UnitMap) (on : Option ℕ) (n replaced : ℕ) (hs : Homes) (kept_homes holders : List Home) → 0 < n → AreUnitsOf s items es ms → AreHomesOf es replaced hs kept_homes holders
     → chosen_copy_of on es kept_homes holders (candidates n es ms) ≡ replacement_on (is_allowed on) s es items n replaced hs
 copy_of_is s items es ms on n replaced hs kept_homes holders some units are =
-    let test = may_take_of on es (kept es replaced hs) (held hs) in
+    let test = may_take_of on es (homes_kept es replaced hs) (held hs) in
     rw (are.kept_is, are.holders_are, candidates_are s items n es ms some units)
     (ap (λ (cs : List Candidate). option_and_then candidate_home (candidate_tried_first cs)) (among_map s items n test (filter (may_have s items n) es) ∙ ap (map (as_candidate s items n)) (takers s items n es on replaced hs))
     ∙ ap (option_and_then candidate_home) (tried_map s items n (filter (λ (e : Entry). is_eligible es replaced hs e && has_room s items n e && is_allowed on e) es))

@@ -103,8 +103,8 @@ abbrev pub with_others : List Candidate → ℕ → Candidate → List Candidate
 with_others cs copies c = c ∷ candidates_in_turn (among (is_disk_in_set c.entry.partners) cs) (c.entry.failgroup ∷ []) (copies - 1)
 
 -- the disks of a new extent's copies: the first, and partners of it in turn
-abbrev pub chosen : List Candidate → ℕ → Option (List Candidate)
-chosen cs copies = option_map (with_others cs copies) (candidate_tried_first (among (may_be_first_candidate cs copies) cs))
+abbrev pub chosen_candidates : List Candidate → ℕ → Option (List Candidate)
+chosen_candidates cs copies = option_map (with_others cs copies) (candidate_tried_first (among (may_be_first_candidate cs copies) cs))
 
 abbrev pub homes : List Candidate → Homes
 homes cs = map (λ (c : Candidate). c.home) cs
@@ -115,7 +115,7 @@ three hs = first_home hs ∷ second_home hs ∷ third_home hs ∷ []
 
 -- the homes of a new extent's copies, or none
 abbrev pub chosen_homes : List Candidate → ℕ → Option Homes
-chosen_homes cs copies = option_map (λ ds. three (homes ds)) (chosen cs copies)
+chosen_homes cs copies = option_map (λ ds. three (homes ds)) (chosen_candidates cs copies)
 
 -- ---- a copy in place of one of an extent's copies
 

@@ -39,12 +39,12 @@ kept_homes_from es replaced copy (Some h ∷ hs) =
     else if is_some (staying_disk es (Some h)) then h ∷ kept_homes_from es replaced (suc copy) hs
     else kept_homes_from es replaced (suc copy) hs
 
-abbrev pub kept : List Entry → ℕ → Homes → List Home
-kept es replaced homes = kept_homes_from es replaced 0 homes
+abbrev pub homes_kept : List Entry → ℕ → Homes → List Home
+homes_kept es replaced homes = kept_homes_from es replaced 0 homes
 
 -- the lists are those of an extent with these homes whose copy number `replaced` is to be replaced
 pub record AreHomesOf (es : List Entry) (replaced : ℕ) (homes : Homes) (kept_homes holding : List Home) : Type 0 where
-  pub kept_is : kept_homes ≡ kept es replaced homes
+  pub kept_is : kept_homes ≡ homes_kept es replaced homes
   pub holders_are : holding ≡ held homes
 
 abbrev pub is_eligible_at : List Entry → ℕ → Homes → Option Entry → Bool

@@ -1,7 +1,7 @@
 //! Why a plan is refused, as a refusal of a command.
 
 ghost use Rattle.std.specs.Prelude.{◌≡◌, ◌⊎◌, []};
-ghost use Rattle.asm_base.specs.Refusals.{said};
+ghost use Rattle.asm_base.specs.Refusals.{meaning_of};
 ghost use Rattle.asm_base.specs.declared.refusal.Refusal.TheVariants.{BadAttribute, NoMemory as WithoutMemory};
 ghost use Rattle.alias_edits.specs.Edits.{cause_said};
 
@@ -10,9 +10,9 @@ use asm_base::{NoMemory, Refusal, Text};
 use std::alloc::Global;
 
 /// Why an edit of the tree of names is refused.
-#[tactic(auto, unfolding(asm_base::specs::Refusals::said))]
+#[tactic(auto, unfolding(asm_base::specs::Refusals::meaning_of))]
 pub fn refusal_of(error: TreeError) -> Refusal
-    ensures { said (λ n. []) result ≡ cause_said error }
+    ensures { meaning_of (λ n. []) result ≡ cause_said error }
 {
     match error {
         TreeError::NoName => Refusal::NoName,

@@ -30,7 +30,7 @@ use Rattle.rebalance.specs.Sums.{Sums, sums_at}
 use Rattle.rebalance.specs.Searching.{extent_in_tables}
 use Rattle.rebalance.specs.Due.{any_of_chunk, any_of_extents, any_with, is_due, is_due_in, passes_there}
 use Rattle.rebalance.proofs.Searching.{chunk_parts}
-use Rattle.rebalance.specs.Cursors.{AreClear, IsClearBefore, IsCursor, IsFollowed, IsSameBut, MarksChangeOne, MovesChangeOne, SearchPlaces, copy_count_of_file, followed, is_passed, passes_at, passes_found, place_after, search_start}
+use Rattle.rebalance.specs.Cursors.{AreClear, IsClearBefore, IsCursor, IsFollowed, IsSameBut, MarksChangeOne, MovesChangeOne, SearchPlaces, copy_count_of_file, places_after, is_passed, passes_at, passes_found, place_after, search_start}
 
 -- ---- the order of chunks
 
@@ -158,9 +158,9 @@ start_is c r = record {
 
 -- ---- all places
 
-pub followed_is : (k : SearchPlaces) (at : Chunk) (d : Catalogued) (q : Status) → AreTables d.tables → IsFollowed at k d q (followed q.entries d (sums_at d.units q.entries) k at)
+pub followed_is : (k : SearchPlaces) (at : Chunk) (d : Catalogued) (q : Status) → AreTables d.tables → IsFollowed at k d q (places_after q.entries d (sums_at d.units q.entries) k at)
 followed_is k at d q tables c r cursor shape entries is =
-    subst (λ (es : List Entry). AreClear es d (sums_at d.units es) (followed es d (sums_at d.units es) k at)) (sym entries) (record {
+    subst (λ (es : List Entry). AreClear es d (sums_at d.units es) (places_after es d (sums_at d.units es) k at)) (sym entries) (record {
       recopy = clear_after stage.Recopy r.entries c d (sums_at c.units r.entries) (sums_at d.units r.entries) at k.recopy tables (λ x. refl) shape is cursor.recopy;
       fill = clear_after stage.Fill r.entries c d (sums_at c.units r.entries) (sums_at d.units r.entries) at k.fill tables (λ x. refl) shape is cursor.fill;
       shift = clear_after stage.Shift r.entries c d (sums_at c.units r.entries) (sums_at d.units r.entries) at k.shift tables (λ x. refl) shape is cursor.shift;

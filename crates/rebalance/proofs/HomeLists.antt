@@ -5,7 +5,7 @@ use Rattle.std.specs.Option.{is_some, option_to_list}
 use Rattle.asm_formats.specs.Status.{Entry}
 use Rattle.asm_formats.specs.Items.{Home, Homes}
 use Rattle.asm_placement.specs.Choices.{staying_disk}
-use Rattle.partnership.specs.UnitsOf.{held, kept, kept_homes_from}
+use Rattle.partnership.specs.UnitsOf.{held, homes_kept, kept_homes_from}
 use Rattle.rebalance.specs.Extents.{kept_home}
 
 held_three : (a b c : Option Home) → option_to_list a ++ option_to_list b ++ option_to_list c ≡ held (a ∷ b ∷ c ∷ [])
@@ -38,7 +38,7 @@ kept_one es replaced copy (Some h) hs = by (eqb copy replaced) (is_some (staying
 appended : (xs ys zs : List Home) → xs ++ (ys ++ (zs ++ [])) ≡ xs ++ ys ++ zs
 appended xs ys zs = simp (append_assoc, append-nil)
 
-kept_three : (es : List Entry) (replaced : ℕ) (a b c : Option Home) → kept es replaced (a ∷ b ∷ c ∷ []) ≡ option_to_list (kept_home es replaced 0 a) ++ option_to_list (kept_home es replaced 1 b) ++ option_to_list (kept_home es replaced 2 c)
+kept_three : (es : List Entry) (replaced : ℕ) (a b c : Option Home) → homes_kept es replaced (a ∷ b ∷ c ∷ []) ≡ option_to_list (kept_home es replaced 0 a) ++ option_to_list (kept_home es replaced 1 b) ++ option_to_list (kept_home es replaced 2 c)
 kept_three es replaced a b c =
     kept_one es replaced 0 a (b ∷ c ∷ [])
     ∙ ap (λ (l : List Home). option_to_list (kept_home es replaced 0 a) ++ l) (kept_one es replaced 1 b (c ∷ []))
@@ -46,5 +46,5 @@ kept_three es replaced a b c =
     ∙ appended (option_to_list (kept_home es replaced 0 a)) (option_to_list (kept_home es replaced 1 b)) (option_to_list (kept_home es replaced 2 c))
 
 pub kept_is : (es : List Entry) (replaced : ℕ) (a b c x y z : Option Home) (list : List Home) (homes : Homes) → a ∷ b ∷ c ∷ [] ≡ homes
-    → x ≡ kept_home es replaced 0 a → y ≡ kept_home es replaced 1 b → z ≡ kept_home es replaced 2 c → list ≡ option_to_list x ++ option_to_list y ++ option_to_list z → list ≡ kept es replaced homes
-kept_is es replaced a b c x y z list homes is x_is y_is z_is made = made ∙ rw (x_is, y_is, z_is) (sym (kept_three es replaced a b c)) ∙ ap (kept es replaced) is
+    → x ≡ kept_home es replaced 0 a → y ≡ kept_home es replaced 1 b → z ≡ kept_home es replaced 2 c → list ≡ option_to_list x ++ option_to_list y ++ option_to_list z → list ≡ homes_kept es replaced homes
+kept_is es replaced a b c x y z list homes is x_is y_is z_is made = made ∙ rw (x_is, y_is, z_is) (sym (kept_three es replaced a b c)) ∙ ap (homes_kept es replaced) is

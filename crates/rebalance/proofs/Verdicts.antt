@@ -16,7 +16,7 @@ use Rattle.asm_placement.specs.Copies.{Copy, home, units, copies_at, entry_at_ho
 use Rattle.asm_placement.specs.Rebalancing.{Next, first_of, move, lacks_space, shift, option_when, new_home, above_or_none, balancing}
 use Rattle.asm_placement.proofs.Bits.{passing_is}
 use Rattle.partnership.specs.Candidates.{is_disk_in_set}
-use Rattle.partnership.specs.UnitsOf.{AreUnits, AreUnitsOf, held, kept}
+use Rattle.partnership.specs.UnitsOf.{AreUnits, AreUnitsOf, held, homes_kept}
 use Rattle.partnership.proofs.Kept.{copy_is, copy_on_is}
 use Rattle.extent_copies.specs.declared.extent.Extent.{Extent}
 use Rattle.rebalance.specs.declared.moves.Next.{Next as CodeNext}
@@ -125,7 +125,7 @@ marked_is s items all x k are less = ap (λ (b : Bool). is_some (home (copy_of x
 
 home_is : (s : Shape) (items : List Item) (all : List Copy) (es : List Entry) (ms : List UnitMap) (x : Extent) (k : ℕ) → 0 < x.units → AreUnitsOf s items es ms → IsExtentOf s items all x → home_for es ms x k ≡ new_home s es items (copy_of x k)
 home_is s items all es ms x k long units are =
-    copy_is s items es ms x.units k x.homes (kept es k x.homes) (held x.homes) long units (record { kept_is = refl; holders_are = refl })
+    copy_is s items es ms x.units k x.homes (homes_kept es k x.homes) (held x.homes) long units (record { kept_is = refl; holders_are = refl })
     ∙ ap (λ (n : ℕ). replacement s es items n k x.homes) are.units
 
 -- the disks of the set are those below their shares
@@ -143,7 +143,7 @@ below_agree s items es ms t n fits (e ∷ fs) small units is =
 below_is : (s : Shape) (items : List Item) (all : List Copy) (es : List Entry) (ms : List UnitMap) (t : Sums) (x : Extent) (k : ℕ) → FitInSet es → 0 < x.units → AreUnitsOf s items es ms → t ≡ sums_of s items es → IsExtentOf s items all x
     → home_below es ms t x k ≡ replacement_on (is_below s items es (units s (copy_of x k))) s es items (units s (copy_of x k)) k x.homes
 below_is s items all es ms t x k small long units is are =
-    copy_on_is s items es ms (below_set t x.units ms) x.units k x.homes (kept es k x.homes) (held x.homes) long units (record { kept_is = refl; holders_are = refl })
+    copy_on_is s items es ms (below_set t x.units ms) x.units k x.homes (homes_kept es k x.homes) (held x.homes) long units (record { kept_is = refl; holders_are = refl })
     ∙ ap (λ (l : List Entry). option_and_then (home_on s items x.units) (tried_first s items l))
     (below_agree s items es ms t x.units (λ (e : Entry). is_eligible es k x.homes e && has_room s items x.units e) es (recursion_from_All (λ (e : Entry). e.number < 64) es small) units is)
     ∙ ap (λ (n : ℕ). replacement_on (is_below s items es n) s es items n k x.homes) are.units

@@ -85,8 +85,8 @@ abbrev pub place_after : (Chunked → Bool) → List Chunked → Chunk → Optio
 place_after due table at place = if is_passed place at && passes_at due table at then Some at else place
 
 -- the places once the chunk has changed: those that are behind it go back to it where something is due there, and the last one to the first chunk
-abbrev pub followed : List Entry → Catalogued → Sums → SearchPlaces → Chunk → SearchPlaces
-followed es c t k at = record {
+abbrev pub places_after : List Entry → Catalogued → Sums → SearchPlaces → Chunk → SearchPlaces
+places_after es c t k at = record {
   recopy = place_after (is_due_in stage.Recopy es c t) c.tables.extents at k.recopy;
   fill = place_after (is_due_in stage.Fill es c t) c.tables.extents at k.fill;
   shift = place_after (is_due_in stage.Shift es c t) c.tables.extents at k.shift;

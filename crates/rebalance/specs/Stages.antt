@@ -9,7 +9,7 @@ use Rattle.asm_placement.specs.Modes.{is_online}
 use Rattle.asm_placement.specs.Copies.{Copy, home, all_copies, entry_at_home, is_on, is_marked, has_source, has_other_source, wants_fill, wants_shift}
 use Rattle.asm_placement.specs.Rebalancing.{Next, move, recopy, fill, shift, done, lacks_space, lost_extent, first_of, option_when, new_home, balancing, next_directory, next_tables, next}
 use Rattle.partnership.specs.Candidates.{candidates, chosen_copy, chosen_copy_of}
-use Rattle.partnership.specs.UnitsOf.{held, kept}
+use Rattle.partnership.specs.UnitsOf.{held, homes_kept}
 use Rattle.extent_copies.specs.declared.extent.Extent.{Extent}
 use Rattle.rebalance.specs.declared.stages.Stage.{Stage}
 use Rattle.rebalance.specs.declared.stages.Stage.TheVariants as stage
@@ -42,10 +42,10 @@ StagesAreNext =
 
 -- the home that it gets in place of its own
 abbrev pub home_for : List Entry → List UnitMap → Extent → ℕ → Option Home
-home_for es ms x k = chosen_copy es (kept es k x.homes) (held x.homes) (candidates x.units es ms)
+home_for es ms x k = chosen_copy es (homes_kept es k x.homes) (held x.homes) (candidates x.units es ms)
 
 abbrev pub home_below : List Entry → List UnitMap → Sums → Extent → ℕ → Option Home
-home_below es ms t x k = chosen_copy_of (Some (below_set t x.units ms)) es (kept es k x.homes) (held x.homes) (candidates x.units es ms)
+home_below es ms t x k = chosen_copy_of (Some (below_set t x.units ms)) es (homes_kept es k x.homes) (held x.homes) (candidates x.units es ms)
 
 abbrev pub below_if_above : List Entry → List UnitMap → Sums → Extent → ℕ → Option Entry → Option Home
 below_if_above es ms t x k None = None

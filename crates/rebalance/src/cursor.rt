@@ -3,7 +3,7 @@
 ghost use Rattle.std.specs.Prelude.{◌≡◌, ◌/◌};
 ghost use Rattle.asm_formats.specs.Status.{Status};
 ghost use Rattle.catalog_laws.specs.catalog_tables.Tables.{AreTables, Catalogued};
-ghost use Rattle.rebalance.specs.Cursors.{IsCursor, IsFollowed, followed, is_passed, passes_at, place_after, search_start};
+ghost use Rattle.rebalance.specs.Cursors.{IsCursor, IsFollowed, places_after, is_passed, passes_at, place_after, search_start};
 ghost use Rattle.rebalance.specs.Due.{is_due_in};
 ghost use Rattle.rebalance.specs.Sums.{sums_at};
 
@@ -71,21 +71,21 @@ impl Cursor {
         // It is a cursor after each change by which all chunks but the extent's stay as they were.
         ensures follows { IsFollowed (extent.file, extent.index / 256) self.old catalog.now status.now self.new }
         // No place goes back further than it must.
-        ensures places { self.new ≡ followed status.now.entries catalog.now (sums_at catalog.now.units status.now.entries) self.old (extent.file, extent.index / 256) }
+        ensures places { self.new ≡ places_after status.now.entries catalog.now (sums_at catalog.now.units status.now.entries) self.old (extent.file, extent.index / 256) }
     {
         *self = self.followed(catalog, status, (extent.file, extent.index / 256));
     }
 
     fn followed(&self, catalog: &Catalog, status: &PstRecord, at: (u32, u32)) -> Cursor
         requires { AreTables catalog.now.tables }
-        ensures { result ≡ followed status.now.entries catalog.now (sums_at catalog.now.units status.now.entries) self.now at }
+        ensures { result ≡ places_after status.now.entries catalog.now (sums_at catalog.now.units status.now.entries) self.now at }
     {
         self.followed_by(&Search::of(catalog, status), at)
     }
 
     fn followed_by(&self, search: &Search<'_>, at: (u32, u32)) -> Cursor
         requires { AreTables search.now.catalog.now.tables }
-        ensures { result ≡ followed search.now.disks.now search.now.catalog.now search.now.shares self.now at }
+        ensures { result ≡ places_after search.now.disks.now search.now.catalog.now search.now.shares self.now at }
     {
         Cursor {
             recopy: place_after(search, Stage::Recopy, at, self.recopy),

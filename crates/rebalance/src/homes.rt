@@ -4,7 +4,7 @@ ghost use Rattle.std.specs.Prelude.{◌≡◌, ◌<◌, ◌≤◌, ◌+◌, [], 
 ghost use Rattle.std.specs.Option.{option_to_list};
 ghost use Rattle.asm_placement.specs.Choices.{staying_disk};
 ghost use Rattle.asm_placement.specs.Copies.{entry_at_home};
-ghost use Rattle.partnership.specs.UnitsOf.{held, kept};
+ghost use Rattle.partnership.specs.UnitsOf.{held, homes_kept};
 ghost use Rattle.rebalance.specs.Extents.{kept_home};
 
 use asm_base::{Home, Homes, Mode};
@@ -73,7 +73,7 @@ impl HomeList {
     /// Those on disks that stay, but for one copy.
     #[tactic(auto, using(crate::proofs::HomeLists::kept_is))]
     pub fn kept(disks: &[PstEntry], homes: &Homes, replaced: u8) -> HomeList
-        ensures { result ≡ kept disks.now replaced homes.now }
+        ensures { result ≡ homes_kept disks.now replaced homes.now }
     {
         let first = kept_home(disks, replaced, 0, homes.first);
         let second = kept_home(disks, replaced, 1, homes.second);

@@ -12,7 +12,7 @@ use Rattle.asm_images.specs.Copies.{is_disk_in, is_kept}
 use Rattle.asm_images.specs.Directories.{IsNamed}
 use Rattle.asm_images.specs.Kept.{Kept}
 use Rattle.asm_images.specs.Members.{all_members}
-use Rattle.status_register.specs.Holders.{numbered}
+use Rattle.status_register.specs.Holders.{with_next_number}
 use Rattle.group_engine.specs.Mounts.{MountedGroup}
 use Rattle.group_engine.specs.Recorded.{MayBeWritten, MayGet}
 use Rattle.group_engine.specs.Statuses.{IsNextOf}
@@ -29,10 +29,10 @@ module _ (s : BayState) (n : ℕ) (m : MountedGroup) (next fewer : Status) (g : 
   id = m.register.id
 
   abbrev p : Status
-  p = numbered m.register next
+  p = with_next_number m.register next
 
   abbrev q : Status
-  q = numbered m.register fewer
+  q = with_next_number m.register fewer
 
   also_named : (h : Header) → IsNamed q h → IsNamed p h
   also_named h named = record {

@@ -18,7 +18,7 @@ use Rattle.asm_images.specs.Sound.{IsCovered}
 use Rattle.asm_images.specs.Stands.{HasEntryUnits}
 use Rattle.asm_images.proofs.OneContent.{found_is_held}
 use Rattle.group_engine.specs.catalog_tables.Items.{AreItemsOf}
-use Rattle.status_register.specs.Holders.{numbered}
+use Rattle.status_register.specs.Holders.{with_next_number}
 use Rattle.group_engine.specs.Mounts.{MountedGroup, Mounts}
 use Rattle.group_engine.specs.Recorded.{IsThere, MayBeWritten, MayGet}
 use Rattle.group_engine.specs.Statuses.{IsNextOf}
@@ -69,7 +69,7 @@ module _ (n : ℕ) (m : MountedGroup) (s : BayState) (g : Group) (kept : Kept) (
 
   module _ (next : Status) (is_next : IsNextOf m next) (turns : m.register.turn + 1 < 2 ^ 64) where
     abbrev q : Status
-    q = numbered m.register next
+    q = with_next_number m.register next
 
     -- a record that names a copy
     module _ (births : r.births ≤ next.births)

@@ -23,7 +23,7 @@ use Rattle.asm_images.proofs.Enough.{more_enough}
 use Rattle.asm_images.proofs.Membership.{among_within}
 use Rattle.group_engine.proofs.catalog_tables.TableItems.{from_map}
 use Rattle.group_engine.specs.directory_store.Copies.{RegionsOf}
-use Rattle.status_register.specs.Holders.{attached_to, numbered}
+use Rattle.status_register.specs.Holders.{attached_to, with_next_number}
 use Rattle.status_register.specs.SurveyLaws.{IsMemberOn, slots_of}
 use Rattle.status_register.specs.Surveys.{disk_in}
 use Rattle.status_register.specs.declared.member.Member.{Member as Disk}
@@ -71,7 +71,7 @@ module _ (n : ℕ) (m : MountedGroup) (s : BayState) (g : Group) (kept : Kept) (
 
   module _ (next : Status) (is_next : IsNextOf m next) where
     abbrev q : Status
-    q = numbered m.register next
+    q = with_next_number m.register next
 
     -- a copy that the next record names this one names
     pub was_named : (h : Header) → IsNamed q h → IsNamed r h

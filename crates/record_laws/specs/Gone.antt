@@ -9,13 +9,13 @@ use Rattle.asm_images.specs.Bridge.{disks_in}
 use Rattle.asm_images.specs.Kept.{Kept}
 use Rattle.asm_images.specs.Sound.{SoundBy}
 use Rattle.asm_images.specs.Stands.{Standing}
-use Rattle.status_register.specs.Holders.{numbered}
+use Rattle.status_register.specs.Holders.{with_next_number}
 use Rattle.group_engine.specs.Gone.{IsGone, gone_of}
 use Rattle.group_engine.specs.Mounts.{MountedGroup, Mounts}
 
 -- the group's record marked gone, under the next number
 abbrev pub gone_next : MountedGroup → Status
-gone_next m = numbered m.register (gone_of m.register.value)
+gone_next m = with_next_number m.register (gone_of m.register.value)
 
 -- The image stands for the group or for nothing, by the history in which that record is begun.
 abbrev pub IsGoing : MountedGroup → Group → Image → Type 0

@@ -5,7 +5,7 @@ use Rattle.std.proofs.lemmas.Option.{same_Some}
 use Rattle.asm_formats.specs.Among.{IsAmong}
 use Rattle.asm_formats.specs.Status.{Status}
 use Rattle.asm_formats.specs.Following.{Holder, rank, sets, Follows}
-use Rattle.register_machine.specs.Disks.{DisksByHolder, is_in, is_enough, greatest, where_enough, surveyed, shown_epoch, seen_epoch}
+use Rattle.register_machine.specs.Disks.{DisksByHolder, is_in, is_enough, greatest, where_enough, surveyed_record, shown_epoch, seen_epoch}
 use Rattle.register_machine.specs.Machine.{Mark, Completed}
 use Rattle.register_machine.specs.Laws.{begun, begun_since, last_completed, IsCurrent}
 use Rattle.register_machine.proofs.Counting.{majorities_meet, majority_of}
@@ -28,10 +28,10 @@ from_one disks read n d among h = go (disks d).status refl h
 
 -- ---- what is found is not superseded
 
-pub found_begun : (disks : DisksByHolder) (history : List Mark) (kept : Kept disks history) (read : List Holder) (r : Status) → surveyed disks read ≡ Some r → IsAmong (begun history) r
+pub found_begun : (disks : DisksByHolder) (history : List Mark) (kept : Kept disks history) (read : List Holder) (r : Status) → surveyed_record disks read ≡ Some r → IsAmong (begun history) r
 found_begun disks history kept read r e = let h = greatest_held disks read r (surveyed_parts disks read r e).0 in kept.held h.0 r h.2
 
-found_stands : (disks : DisksByHolder) (read : List Holder) (r : Status) → surveyed disks read ≡ Some r → Superseded disks r → ⊥
+found_stands : (disks : DisksByHolder) (read : List Holder) (r : Status) → surveyed_record disks read ≡ Some r → Superseded disks r → ⊥
 found_stands disks read r e s =
     let parts = surveyed_parts disks read r e in
     let m = majorities_meet (is_in read) (has_from disks (rank r + 1)) s.set (majority_of (is_in read) r s.set parts.1 s.among) s.greater in
@@ -39,11 +39,11 @@ found_stands disks read r e s =
     let same : g.0 ≡ r = same_Some g.0 r (sym g.1 ∙ parts.0) in
     omega (arith, g.2, ap rank same)
 
-pub found_from : (disks : DisksByHolder) (history : List Mark) (kept : Kept disks history) (v : Status) → AtBase disks history v → (read : List Holder) (r : Status) → surveyed disks read ≡ Some r → rank v ≤ rank r
+pub found_from : (disks : DisksByHolder) (history : List Mark) (kept : Kept disks history) (v : Status) → AtBase disks history v → (read : List Holder) (r : Status) → surveyed_record disks read ≡ Some r → rank v ≤ rank r
 found_from disks history kept v at read r e = ⊎_elim
     (λ less. absurd (found_stands disks read r e (at.superseded r (found_begun disks history kept read r e) less))) (λ le. le) (cases_lt (rank r) (rank v))
 
-pub found_current : (disks : DisksByHolder) (history : List Mark) (kept : Kept disks history) (read : List Holder) (r : Status) → surveyed disks read ≡ Some r → IsCurrent history r
+pub found_current : (disks : DisksByHolder) (history : List Mark) (kept : Kept disks history) (read : List Holder) (r : Status) → surveyed_record disks read ≡ Some r → IsCurrent history r
 found_current disks history kept read r e =
     let h = found_begun disks history kept read r e in
     let b = has_base history r h in
@@ -61,7 +61,7 @@ epochs_seen disks history v r g read at follows enough h =
     let seen = epoch_seen disks read m.0 (in_read read m.0 m.2) in
     omega (arith, shown, seen)
 
-pub found_claims : (disks : DisksByHolder) (history : List Mark) (kept : Kept disks history) (read : List Holder) (r : Status) → surveyed disks read ≡ Some r → IsClaim history r (seen_epoch disks read + 1)
+pub found_claims : (disks : DisksByHolder) (history : List Mark) (kept : Kept disks history) (read : List Holder) (r : Status) → surveyed_record disks read ≡ Some r → IsClaim history r (seen_epoch disks read + 1)
 found_claims disks history kept read r e =
     let h = found_begun disks history kept read r e in
     let b = has_base history r h in
@@ -100,7 +100,7 @@ completed_held disks history kept v read last enough =
     (g.0, g.1, at.current g.0 (kept.held h.0 g.0 h.2) g.2)
 
 pub completed_found : (disks : DisksByHolder) (history : List Mark) (kept : Kept disks history) (v : Status) (read : List Holder) → last_completed history ≡ Some v → begun_since history ≡ []
-    → is_enough (is_in read) v ≡ true → surveyed disks read ≡ Some v
+    → is_enough (is_in read) v ≡ true → surveyed_record disks read ≡ Some v
 completed_found disks history kept v read last none enough =
     let h = completed_held disks history kept v read last enough in
     let same : h.0 ≡ v = ⊎_elim

@@ -4,7 +4,7 @@ use Rattle.std.proofs.lemmas.Option.{none-some}
 use Rattle.asm_formats.specs.Among.{IsAmong}
 use Rattle.asm_formats.specs.Status.{Status}
 use Rattle.asm_formats.specs.Following.{Holder, rank}
-use Rattle.register_machine.specs.Disks.{surveyed}
+use Rattle.register_machine.specs.Disks.{surveyed_record}
 use Rattle.register_machine.specs.Machine.{Mark, Completed, Program, Claiming, Writing, State, Event, Creates, Surveys, Claims, ClaimStands, Begins, Stores, Completes, Stops, Allowed, after, AreAllowed, after_all, start}
 use Rattle.register_machine.specs.Laws.{begun, Always, SurveyIsCurrent, StatusIsCurrent, BegunFollow, NumbersRise, CompletedIsHeld, CompletedIsFound, LastIsGreatest, EpochsAreSeen, NeverUndone}
 use Rattle.register_machine.specs.Mounts.{CanBeMounted}
@@ -116,7 +116,7 @@ mark_stays : (s : State) (events : List Event) (m : Mark) → IsAmong s.history 
 mark_stays s [] m h = h
 mark_stays s (event ∷ events) m h = mark_stays (after s event) events m (mark_stays_once s event m h)
 
-stays : (s : State) → Holds s → (v : Status) → IsAmong s.history (Completed v) → (read : List Holder) (r : Status) → surveyed s.disks read ≡ Some r → (r ≡ v) ⊎ (rank v < rank r)
+stays : (s : State) → Holds s → (v : Status) → IsAmong s.history (Completed v) → (read : List Holder) (r : Status) → surveyed_record s.disks read ≡ Some r → (r ≡ v) ⊎ (rank v < rank r)
 stays s h v done read r e =
     let found = found_begun s.disks s.history h.kept read r e in
     let b = has_base s.history r found in

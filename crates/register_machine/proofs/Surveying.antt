@@ -6,7 +6,7 @@ use Rattle.std.proofs.lemmas.Option.{cond_some, none-some}
 use Rattle.asm_formats.specs.Among.{IsAmong}
 use Rattle.asm_formats.specs.Status.{Status}
 use Rattle.asm_formats.specs.Following.{Holder, rank}
-use Rattle.register_machine.specs.Disks.{DisksByHolder, is_same, is_in, is_enough, greater, greatest, where_enough, surveyed, unless_gone, status, shown_epoch, seen_epoch}
+use Rattle.register_machine.specs.Disks.{DisksByHolder, is_same, is_in, is_enough, greater, greatest, where_enough, surveyed_record, unless_gone, status, shown_epoch, seen_epoch}
 
 pub same_disk : (d e : Holder) → is_same d e ≡ true → d ≡ e
 same_disk d e h = let p = and_parts (d.0 == e.0) (d.1 == e.1) h in λ i. (eqb-true d.0 e.0 p.0 i, eqb-true d.1 e.1 p.1 i)
@@ -63,15 +63,15 @@ enough_parts read (Some s) r e =
     let p = cond_some (is_enough (is_in read) s) s r e in
     (ap (λ (t : Status). Some t) p.1, subst (λ (t : Status). is_enough (is_in read) t ≡ true) p.1 p.0)
 
-pub surveyed_parts : (disks : DisksByHolder) (read : List Holder) (r : Status) → surveyed disks read ≡ Some r → (greatest disks read ≡ Some r) × (is_enough (is_in read) r ≡ true)
+pub surveyed_parts : (disks : DisksByHolder) (read : List Holder) (r : Status) → surveyed_record disks read ≡ Some r → (greatest disks read ≡ Some r) × (is_enough (is_in read) r ≡ true)
 surveyed_parts disks read r e = enough_parts read (greatest disks read) r e
 
 gone_parts : (o : Option Status) (r : Status) → unless_gone o ≡ Some r → o ≡ Some r
 gone_parts None r e = e
 gone_parts (Some s) r e = cond_both s.gone None (Some s) (λ (o : Option Status). o ≡ Some r → Some s ≡ Some r) (λ gone is. absurd (none-some r is)) (λ stays is. is) e
 
-pub status_surveyed : (disks : DisksByHolder) (read : List Holder) (r : Status) → status disks read ≡ Some r → surveyed disks read ≡ Some r
-status_surveyed disks read r e = gone_parts (surveyed disks read) r e
+pub status_surveyed : (disks : DisksByHolder) (read : List Holder) (r : Status) → status disks read ≡ Some r → surveyed_record disks read ≡ Some r
+status_surveyed disks read r e = gone_parts (surveyed_record disks read) r e
 
 pub epoch_seen : (disks : DisksByHolder) (read : List Holder) (d : Holder) → IsAmong read d → shown_epoch (disks d) ≤ seen_epoch disks read
 epoch_seen disks [] d among = absurd among

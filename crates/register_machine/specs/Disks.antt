@@ -70,8 +70,8 @@ where_enough read None = None
 where_enough read (Some r) = if is_enough (is_in read) r then Some r else None
 
 -- what a survey gives: the greatest record that the disks hold, where they are enough for it
-abbrev pub surveyed : DisksByHolder → List Holder → Option Status
-surveyed disks read = where_enough read (greatest disks read)
+abbrev pub surveyed_record : DisksByHolder → List Holder → Option Status
+surveyed_record disks read = where_enough read (greatest disks read)
 
 abbrev pub unless_gone : Option Status → Option Status
 unless_gone None = None
@@ -79,7 +79,7 @@ unless_gone (Some r) = if r.gone then None else Some r
 
 -- Status: the same, where it isn't marked gone
 abbrev pub status : DisksByHolder → List Holder → Option Status
-status disks read = unless_gone (surveyed disks read)
+status disks read = unless_gone (surveyed_record disks read)
 
 abbrev pub epoch_of : Option Status → ℕ
 epoch_of None = 0

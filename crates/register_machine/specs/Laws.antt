@@ -3,7 +3,7 @@ use Rattle.std.specs.Prelude.{◌≡◌, ◌⊎◌, ◌<◌, ◌≤◌, List, []
 use Rattle.asm_formats.specs.Among.{IsAmong}
 use Rattle.asm_formats.specs.Status.{Status}
 use Rattle.asm_formats.specs.Following.{Holder, rank, Follows}
-use Rattle.register_machine.specs.Disks.{is_enough, is_in, greatest, surveyed, status, seen_epoch}
+use Rattle.register_machine.specs.Disks.{is_enough, is_in, greatest, surveyed_record, status, seen_epoch}
 use Rattle.register_machine.specs.Machine.{Mark, Begun, Completed, State, Event, AreAllowed, after_all, start}
 
 -- ---- the history
@@ -42,7 +42,7 @@ Always Holds = (events : List Event) → AreAllowed start events → Holds (afte
 
 -- whichever disks are left, the record that they survey is current
 abbrev pub SurveyIsCurrent : State → Type 0
-SurveyIsCurrent s = (read : List Holder) (r : Status) → surveyed s.disks read ≡ Some r → IsCurrent s.history r
+SurveyIsCurrent s = (read : List Holder) (r : Status) → surveyed_record s.disks read ≡ Some r → IsCurrent s.history r
 
 abbrev pub StatusIsCurrent : State → Type 0
 StatusIsCurrent s = (read : List Holder) (r : Status) → status s.disks read ≡ Some r → IsCurrent s.history r
@@ -66,7 +66,7 @@ CompletedIsHeld s = (v : Status) (read : List Holder) → last_completed s.histo
 -- and where nothing was begun since, they survey it
 abbrev pub CompletedIsFound : State → Type 0
 CompletedIsFound s = (v : Status) (read : List Holder) → last_completed s.history ≡ Some v → begun_since s.history ≡ [] → IsTrue (is_enough (is_in read) v)
-    → surveyed s.disks read ≡ Some v
+    → surveyed_record s.disks read ≡ Some v
 
 -- disks that are enough for a current record show each epoch in which a record was begun
 abbrev pub EpochsAreSeen : State → Type 0
@@ -78,4 +78,4 @@ abbrev pub NeverUndone : Type 0
 NeverUndone =
     (events later : List Event) → AreAllowed start events → AreAllowed (after_all start events) later
     → (v : Status) → IsAmong (after_all start events).history (Completed v)
-    → (read : List Holder) (r : Status) → surveyed (after_all (after_all start events) later).disks read ≡ Some r → (r ≡ v) ⊎ (rank v < rank r)
+    → (read : List Holder) (r : Status) → surveyed_record (after_all (after_all start events) later).disks read ≡ Some r → (r ≡ v) ⊎ (rank v < rank r)

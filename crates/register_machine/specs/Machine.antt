@@ -2,7 +2,7 @@
 use Rattle.std.specs.Prelude.{◌≡◌, ℕ, ◌+◌, ◌<◌, List, [], ◌∷◌, Some, IsTrue}
 use Rattle.asm_formats.specs.Status.{Status, is_status}
 use Rattle.asm_formats.specs.Following.{Holder, sets, Follows}
-use Rattle.register_machine.specs.Disks.{DisksByHolder, blank, with_claim, with_record, is_enough, has_claim, has_record, surveyed, seen_epoch}
+use Rattle.register_machine.specs.Disks.{DisksByHolder, blank, with_claim, with_record, is_enough, has_claim, has_record, surveyed_record, seen_epoch}
 
 -- what the program is at
 pub data Program : Type 0 where
@@ -61,7 +61,7 @@ abbrev pub Allowed : State → Event → Type 0
 -- nothing was begun: a group is created once
 Allowed s (Creates first) = (s.program ≡ Idle) × (s.history ≡ [])
 -- the disks are enough for the greatest record that they hold
-Allowed s (Surveys read found) = (s.program ≡ Idle) × (surveyed s.disks read ≡ Some found)
+Allowed s (Surveys read found) = (s.program ≡ Idle) × (surveyed_record s.disks read ≡ Some found)
 Allowed s (Claims disk found epoch) = s.program ≡ Claiming found epoch
 Allowed s (ClaimStands found epoch) = (s.program ≡ Claiming found epoch) × IsTrue (is_enough (has_claim s.disks epoch) found)
 Allowed s (Begins next) = IsTrue (is_status next) × MayBegin s.program next

@@ -2,7 +2,7 @@
 use Rattle.std.specs.Prelude.{◌≡◌, ℕ, ◌+◌, ◌^◌, ◌<◌, List, [], ◌∷◌, ◌++◌, map, Some}
 use Rattle.asm_formats.specs.Status.{Status}
 use Rattle.asm_formats.specs.Following.{Holder}
-use Rattle.register_machine.specs.Disks.{surveyed, seen_epoch}
+use Rattle.register_machine.specs.Disks.{surveyed_record, seen_epoch}
 use Rattle.register_machine.specs.Laws.{last_completed}
 use Rattle.register_machine.specs.Machine.{State, Event, Surveys, Claims, ClaimStands, Begins, Stores, Completes, Stops, AreAllowed, after_all}
 
@@ -37,5 +37,5 @@ mount s read found = Stops ∷ surveys read found (next_epoch s read) ++ complet
 -- Wherever the last program stopped: disks that are enough for the greatest record that they hold can be mounted, while there are epochs.
 abbrev pub CanBeMounted : State → Type 0
 CanBeMounted s =
-    (read : List Holder) (found : Status) → surveyed s.disks read ≡ Some found → next_epoch s read < 2 ^ 64
+    (read : List Holder) (found : Status) → surveyed_record s.disks read ≡ Some found → next_epoch s read < 2 ^ 64
     → AreAllowed s (mount s read found) × (last_completed (after_all s (mount s read found)).history ≡ Some (anew found (next_epoch s read)))

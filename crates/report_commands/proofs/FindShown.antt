@@ -3,7 +3,7 @@ use Rattle.std.proofs.Common.{◌≡◌, ℕ, List, ◌∷◌, [], Option, Some,
 use Rattle.std.specs.Prelude.{IfErr, IfOk}
 use Rattle.std.specs.Option.{option_map}
 use Rattle.bay.specs.State.{BayState}
-use Rattle.asm_base.specs.Refusals.{said}
+use Rattle.asm_base.specs.Refusals.{meaning_of}
 use Rattle.asm_base.specs.declared.refusal.Refusal.{Refusal}
 use Rattle.asm_base.specs.declared.refusal.Refusal.TheVariants as cause
 use Rattle.asm_group.specs.Group.{Group}
@@ -68,7 +68,7 @@ module _ (paths : List Bytes) (text path pattern : Bytes) (says : meaning text �
   at_place : (o : Option (Bytes × Path)) → target_from session.place path ≡ o → target_from w.place path ≡ o
   at_place o is = ap (λ (p : List Bytes). target_from p path) knows.place_is ∙ is
 
-  pub found_nowhere : target_from session.place path ≡ None → IsServed paths unread text (Refused [] (said (λ _. []) cause.NoGroup)) was was s s below w w
+  pub found_nowhere : target_from session.place path ≡ None → IsServed paths unread text (Refused [] (meaning_of (λ _. []) cause.NoGroup)) was was s s below w w
   found_nowhere none = told_nowhere paths text command says session s ready w below knows leads lines_of search (at_place None none)
 
   module _ (name : Bytes) (inside : Path) (target : target_from session.place path ≡ Some (name, inside)) where

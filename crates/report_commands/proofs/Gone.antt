@@ -4,7 +4,7 @@ use Rattle.std.specs.Prelude.{is_some, not}
 use Rattle.std.specs.Cmp.Lexicographic.{bytes_decides}
 use Rattle.std.proofs.lemmas.Bool.{cases_Bool, false≢true}
 use Rattle.bay.specs.State.{BayState}
-use Rattle.asm_base.specs.Refusals.{said}
+use Rattle.asm_base.specs.Refusals.{meaning_of}
 use Rattle.asm_base.specs.declared.refusal.Refusal.{Refusal}
 use Rattle.asm_base.specs.declared.refusal.Refusal.TheVariants as cause
 use Rattle.asm_group.specs.Group.{Group}
@@ -113,15 +113,15 @@ module _ (paths : List Bytes) (text path : Bytes) (says : meaning text ≡ Asked
         abbrev there_none : IsThere w below name m
         there_none = is_there session name m group w below knows own
 
-        caused : IsCaused (dir_causes there_none.group inside) (said (λ _. []) refusal)
-        caused = subst (λ (g : Group). IsCaused (dir_causes g inside) (said (λ _. []) refusal)) (sym there_none.told.is)
+        caused : IsCaused (dir_causes there_none.group inside) (meaning_of (λ _. []) refusal)
+        caused = subst (λ (g : Group). IsCaused (dir_causes g inside) (meaning_of (λ _. []) refusal)) (sym there_none.told.is)
             (no_directories_are_worlds m.name m.catalog.shape m.catalog.tables there_none.told.cells inside refusal (are_tables session name m ready group) none)
 
         abbrev Caused : r.Refusal → Type 0
         Caused c = IsCaused (causes (below_with below unread) w (Asked (Cd path))) c
 
-        whole : Caused (said (λ _. []) refusal)
-        whole = subst (λ (l : List Cause). IsCaused l (said (λ _. []) refusal)) (sym (causes_inside paths text (Asked (Cd path)) says counts was s w name (λ g. dir_causes g inside) shows m there_none)) caused
+        whole : Caused (meaning_of (λ _. []) refusal)
+        whole = subst (λ (l : List Cause). IsCaused l (meaning_of (λ _. []) refusal)) (sym (causes_inside paths text (Asked (Cd path)) says counts was s w name (λ g. dir_causes g inside) shows m there_none)) caused
 
         by_cause : (c : r.Refusal) → Caused c → (c ≡ r.NoName) ⊎ (c ≡ r.NotDirectory) → IsServed paths unread text (Refused [] c) was was s s below w w
         by_cause c is which = ⊎_elim
@@ -131,8 +131,8 @@ module _ (paths : List Bytes) (text path : Bytes) (says : meaning text ≡ Asked
             (refused paths text (Asked (Cd path)) says counts was s w r.NotDirectory refl (subst Caused directory_is is) refl))
             which
 
-        stayed : IsServed paths unread text (Refused [] (said (λ _. []) refusal)) was was s s below w w
-        stayed = by_cause (said (λ _. []) refusal) whole (either_cause _ _ (said (λ _. []) refusal) caused)
+        stayed : IsServed paths unread text (Refused [] (meaning_of (λ _. []) refusal)) was was s s below w w
+        stayed = by_cause (meaning_of (λ _. []) refusal) whole (either_cause _ _ (meaning_of (λ _. []) refusal) caused)
 
     -- ---- all of it
 
@@ -147,19 +147,19 @@ module _ (paths : List Bytes) (text path : Bytes) (says : meaning text ≡ Asked
     pub gone : (place : List Bytes) → IsLed session path place → IsServed paths unread text (Done []) was was s s below w (record w { place = place })
     gone place led = done_by place (resolved session.place path) (at_place (resolved session.place path) refl) led
 
-    short : (refusal : Refusal) → refusal ≡ cause.NoMemory → IsServed paths unread text (Refused [] (said (λ _. []) refusal)) was was s s below w w
-    unfolding said
-    short refusal want = subst (λ (x : Refusal). IsServed paths unread text (Refused [] (said (λ _. []) x)) was was s s below w w) (sym want) (outcomes.no_memory paths text was s w)
+    short : (refusal : Refusal) → refusal ≡ cause.NoMemory → IsServed paths unread text (Refused [] (meaning_of (λ _. []) refusal)) was was s s below w w
+    unfolding meaning_of
+    short refusal want = subst (λ (x : Refusal). IsServed paths unread text (Refused [] (meaning_of (λ _. []) x)) was was s s below w w) (sym want) (outcomes.no_memory paths text was s w)
 
-    refused_by : (refusal : Refusal) (o : Option (List Bytes)) → resolved w.place path ≡ o → IsGoingCauseBy session o refusal → IsServed paths unread text (Refused [] (said (λ _. []) refusal)) was was s s below w w
+    refused_by : (refusal : Refusal) (o : Option (List Bytes)) → resolved w.place path ≡ o → IsGoingCauseBy session o refusal → IsServed paths unread text (Refused [] (meaning_of (λ _. []) refusal)) was was s s below w w
     refused_by refusal None leads why = absurd (false≢true (sym (ap (λ (o : Option (List Bytes)). is_some o) leads) ∙ paths_lead.cd text path w.place asked))
     refused_by refusal (Some []) leads why = absurd why
     refused_by refusal (Some (name ∷ inside)) leads why = ⊎_elim
         (λ out. out_refused paths text (Asked (Cd path)) says counts was s w name (λ g. dir_causes g inside) (shows name inside leads) refusal (rw knows.entries_are out))
-        (λ none. served_in paths text (Refused [] (said (λ _. []) refusal)) was s w w (goes_in w.place name inside leads) (λ own. stayed name inside leads none.group none.is_group refusal none.caused own))
+        (λ none. served_in paths text (Refused [] (meaning_of (λ _. []) refusal)) was s w w (goes_in w.place name inside leads) (λ own. stayed name inside leads none.group none.is_group refusal none.caused own))
         why
 
-    pub not_gone : (refusal : Refusal) → IsGoingCause session path refusal → IsServed paths unread text (Refused [] (said (λ _. []) refusal)) was was s s below w w
+    pub not_gone : (refusal : Refusal) → IsGoingCause session path refusal → IsServed paths unread text (Refused [] (meaning_of (λ _. []) refusal)) was was s s below w w
     not_gone refusal why = ⊎_elim
         (λ want. short refusal want)
         (λ other. refused_by refusal (resolved session.place path) (at_place (resolved session.place path) refl) other)

@@ -10,7 +10,7 @@ use Rattle.std.specs.Cmp.Lexicographic.{nat_list_eq_equiv, slice_cmp}
 use Rattle.std.proofs.lemmas.Bool.{true≢false}
 use Rattle.std.proofs.lemmas.List.{append-nil}
 use Rattle.std.proofs.lemmas.Slice.Eq.{bytes_eq-Decides}
-use Rattle.asm_base.specs.Refusals.{said}
+use Rattle.asm_base.specs.Refusals.{meaning_of}
 use Rattle.asm_base.specs.declared.refusal.Refusal.{Refusal}
 use Rattle.asm_base.specs.declared.refusal.Refusal.TheVariants as cause
 use Rattle.asm_formats.specs.Among.{IsAmong}
@@ -223,7 +223,7 @@ none-by None is = refl
 none-by (Some e) is = absurd cc
 
 pub none_text : (entries : List SessionEntry) (text : Bytes) → None ≡ name_among entries text → IsOutCause entries text cause.NoGroup
-unfolding said
+unfolding meaning_of
 none_text entries text none = rw (none-by (entry_among entries text) none) (inl refl)
 
 -- ---- the rows in it

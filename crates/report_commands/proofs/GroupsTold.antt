@@ -5,7 +5,7 @@ use Rattle.std.specs.List.{cons_option, filter_map}
 use Rattle.std.specs.Option.{option_map}
 use Rattle.std.proofs.lemmas.Bool.{false≢true}
 use Rattle.bay.specs.State.{BayState}
-use Rattle.asm_base.specs.Refusals.{said}
+use Rattle.asm_base.specs.Refusals.{meaning_of}
 use Rattle.asm_base.specs.declared.refusal.Refusal.{Refusal}
 use Rattle.asm_base.specs.declared.refusal.Refusal.TheVariants as cause
 use Rattle.asm_group.specs.Group.{Cell, Group}
@@ -59,8 +59,8 @@ caused : (w : World) (below : ℕ → GroupBelow) (group : Option Bytes) → is_
 caused w below None absent = absurd (false≢true (sym absent))
 caused w below (Some name) absent = is_caused (entry_in w name) absent
 
-no_group : said (λ _. []) cause.NoGroup ≡ r.NoGroup
-unfolding said
+no_group : meaning_of (λ _. []) cause.NoGroup ≡ r.NoGroup
+unfolding meaning_of
 no_group = refl
 
 -- ---- the line of one group
@@ -163,8 +163,8 @@ module _ (paths : List Bytes) (text : Bytes) (group : Option Bytes) (says : mean
   abbrev Told : r.Refusal → Type 0
   Told c = IsServed paths unread text (Refused [] c) was was s s below w w
 
-  short : Told (said (λ _. []) cause.NoMemory)
-  unfolding said
+  short : Told (meaning_of (λ _. []) cause.NoMemory)
+  unfolding meaning_of
   short = outcomes.no_memory paths text was s w
 
   pub groups_served : (result : Result (List Bytes) Refusal) → IfOk result (AreGroupsTold session group) → IfErr result (IsNoGroup session.entries group) → IsServed paths unread text (reply_of result) was was s s below w w
@@ -178,6 +178,6 @@ module _ (paths : List Bytes) (text : Bytes) (group : Option Bytes) (says : mean
   groups_served (Err refusal) told none = ⊎_elim
       (λ (absent : (is_group_there session.entries group ≡ false) × (refusal ≡ cause.NoGroup)).
       let refuses : Told r.NoGroup = refused paths text command says counts was s w r.NoGroup refl (caused w below group (at_world false absent.0)) refl in
-      subst (λ (x : Refusal). Told (said (λ _. []) x)) (sym absent.1) (subst (λ (c : r.Refusal). Told c) (sym no_group) refuses))
-      (λ (want : refusal ≡ cause.NoMemory). subst (λ (x : Refusal). Told (said (λ _. []) x)) (sym want) short)
+      subst (λ (x : Refusal). Told (meaning_of (λ _. []) x)) (sym absent.1) (subst (λ (c : r.Refusal). Told c) (sym no_group) refuses))
+      (λ (want : refusal ≡ cause.NoMemory). subst (λ (x : Refusal). Told (meaning_of (λ _. []) x)) (sym want) short)
       none

@@ -4,7 +4,7 @@ use Rattle.std.specs.Prelude.{IfErr, IfOk, is_some, if◌then◌else◌}
 use Rattle.std.specs.Option.{option_map}
 use Rattle.std.proofs.lemmas.Bool.{cases_Bool, false≢true}
 use Rattle.bay.specs.State.{BayState}
-use Rattle.asm_base.specs.Refusals.{said}
+use Rattle.asm_base.specs.Refusals.{meaning_of}
 use Rattle.asm_base.specs.declared.refusal.Refusal.{Refusal}
 use Rattle.asm_base.specs.declared.refusal.Refusal.TheVariants as cause
 use Rattle.asm_group.specs.Group.{Group}
@@ -73,8 +73,8 @@ module _ (paths : List Bytes) (text : Bytes) (long : Bool) (path : Option Bytes)
   abbrev Told : r.Refusal → Type 0
   Told c = IsServed paths unread text (Refused [] c) was was s s below w w
 
-  short : Told (said (λ _. []) cause.NoMemory)
-  unfolding said
+  short : Told (meaning_of (λ _. []) cause.NoMemory)
+  unfolding meaning_of
   short = outcomes.no_memory paths text was s w
 
   -- the mounted groups that match are the world's
@@ -130,8 +130,8 @@ module _ (paths : List Bytes) (text : Bytes) (long : Bool) (path : Option Bytes)
       abbrev there_none : IsThere w below name m
       there_none = is_there session name m group w below knows own
 
-      caused : IsCaused (list_causes there_none.group parts) (said (λ _. []) refusal)
-      caused = subst (λ (g : Group). IsCaused (list_causes g parts) (said (λ _. []) refusal)) (sym there_none.told.is)
+      caused : IsCaused (list_causes there_none.group parts) (meaning_of (λ _. []) refusal)
+      caused = subst (λ (g : Group). IsCaused (list_causes g parts) (meaning_of (λ _. []) refusal)) (sym there_none.told.is)
           (lists_are_refused m.name m.catalog.shape m.catalog.tables there_none.told.cells parts refusal (are_tables session name m ready group) due)
 
       by_cause : (c : r.Refusal) → IsCaused (inside there_none.group) c → (c ≡ r.NoName) ⊎ (c ≡ r.NotDirectory) → Told c
@@ -145,10 +145,10 @@ module _ (paths : List Bytes) (text : Bytes) (long : Bool) (path : Option Bytes)
           (refused paths text command says counts was s w r.NotDirectory refl (subst (λ (x : r.Refusal). IsCaused (causes (below_with below unread) w command) x) directory_is whole) refl))
           which
 
-    out : (refusal : Refusal) → IsRefusedIn session name parts refusal → ((m : MountedGroup) → IsGroupOf session name m → list_refusal m.catalog.tables parts ≡ Some refusal → HasOwnGroups w → Told (said (λ _. []) refusal)) → Told (said (λ _. []) refusal)
+    out : (refusal : Refusal) → IsRefusedIn session name parts refusal → ((m : MountedGroup) → IsGroupOf session name m → list_refusal m.catalog.tables parts ≡ Some refusal → HasOwnGroups w → Told (meaning_of (λ _. []) refusal)) → Told (meaning_of (λ _. []) refusal)
     out refusal why within = ⊎_elim
         (λ absent. out_refused paths text command says counts was s w name inside shows refusal (rw knows.entries_are absent))
-        (λ none. served_in paths text (Refused [] (said (λ _. []) refusal)) was s w w in_family (λ own. within none.group none.is_group none.caused own))
+        (λ none. served_in paths text (Refused [] (meaning_of (λ _. []) refusal)) was s w w in_family (λ own. within none.group none.is_group none.caused own))
         why
 
   -- ---- by the parts
@@ -175,7 +175,7 @@ module _ (paths : List Bytes) (text : Bytes) (long : Bool) (path : Option Bytes)
   done_at (name ∷ part ∷ parts) lines leads told =
       served_in paths text (Done lines) was s w w in_family (λ own. in_tables name (part ∷ parts) (λ g. list_causes g (part ∷ parts)) leads refl refl (λ g none. none) told.0 lines told.1 told.2 own)
 
-  refused_at : (parts : List Bytes) (refusal : Refusal) → resolved_pattern w.place path ≡ Some parts → IsUnlistedAt session parts refusal → Told (said (λ _. []) refusal)
+  refused_at : (parts : List Bytes) (refusal : Refusal) → resolved_pattern w.place path ≡ Some parts → IsUnlistedAt session parts refusal → Told (meaning_of (λ _. []) refusal)
   refused_at [] refusal leads why = absurd why
   refused_at (name ∷ []) refusal leads why =
       let causes_so : listing_causes w (Some (name ∷ [])) ≡ in_group w name (λ g. []) = ap (λ (t : Bool). if t then [] else in_group w name (λ g. [])) why.0 in
@@ -185,13 +185,13 @@ module _ (paths : List Bytes) (text : Bytes) (long : Bool) (path : Option Bytes)
   refused_at (name ∷ part ∷ parts) refusal leads why =
       out name (part ∷ parts) (λ g. list_causes g (part ∷ parts)) leads refl refl refusal why (λ m group due own.
       let is = caused name (part ∷ parts) (λ g. list_causes g (part ∷ parts)) leads refl refl m group refusal due own in
-      by_cause name (part ∷ parts) (λ g. list_causes g (part ∷ parts)) leads refl refl m group refusal due own (said (λ _. []) refusal) is
-      (either_of (has_star (last_part (part ∷ parts))) _ _ _ (said (λ _. []) refusal) is))
+      by_cause name (part ∷ parts) (λ g. list_causes g (part ∷ parts)) leads refl refl m group refusal due own (meaning_of (λ _. []) refusal) is
+      (either_of (has_star (last_part (part ∷ parts))) _ _ _ (meaning_of (λ _. []) refusal) is))
 
   pub list_served : (parts : List Bytes) (result : Result (List Bytes) Refusal) → resolved_pattern session.place path ≡ Some parts → IfOk result (AreListLines session long parts) → IfErr result (IsUnlisted session parts)
       → IsServed paths unread text (reply_of result) was was s s below w w
   list_served parts (Ok lines) leads told out_of = done_at parts lines (ap (λ (p : List Bytes). resolved_pattern p path) knows.place_is ∙ leads) told
   list_served parts (Err refusal) leads told out_of = ⊎_elim
-      (λ (want : refusal ≡ cause.NoMemory). subst (λ (x : Refusal). Told (said (λ _. []) x)) (sym want) short)
+      (λ (want : refusal ≡ cause.NoMemory). subst (λ (x : Refusal). Told (meaning_of (λ _. []) x)) (sym want) short)
       (λ why. refused_at parts refusal (ap (λ (p : List Bytes). resolved_pattern p path) knows.place_is ∙ leads) why)
       out_of

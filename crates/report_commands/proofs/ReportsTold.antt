@@ -34,7 +34,7 @@ use Rattle.session.proofs.Below.{disks_below, extents_below, not_full_below}
 use Rattle.session.proofs.Languages.{meaning_is}
 use Rattle.session.proofs.Outcomes.{unread}
 use Rattle.session.proofs.Outcomes as outcomes
-use Rattle.report_commands.specs.Told.{AsksForReport, attributes_told, checked_told, disks_told, templates_told, told}
+use Rattle.report_commands.specs.Told.{AsksForReport, attributes_told, checked_told, disks_told, templates_told, report_lines}
 use Rattle.report_commands.specs.declared.shown.Report.{Report}
 use Rattle.report_commands.specs.declared.shown.Report.TheVariants as report
 use Rattle.report_commands.proofs.Gone.{are_tables}
@@ -141,7 +141,7 @@ module _ (paths : List Bytes) (text name : Bytes) (session : SessionView) (s : B
   attributes_as_world m group there = attributes_are_worlds m.name m.catalog.shape m.catalog.tables there.told.cells ∙ ap (λ (g : Group). world.attribute_lines g.shape g.attributes) (sym there.told.is)
 
   -- the report that is asked for
-  pub told_served : (what : Report) (result : Result (List Bytes) Refusal) → AsksForReport text name what → IfOk result (λ lines. IsInGroup session name (λ m. lines ≡ told what m)) → IfErr result (IsOutCause session.entries name)
+  pub told_served : (what : Report) (result : Result (List Bytes) Refusal) → AsksForReport text name what → IfOk result (λ lines. IsInGroup session name (λ m. lines ≡ report_lines what m)) → IfErr result (IsOutCause session.entries name)
       → IsServed paths unread text (reply_of result) (roster_of session) (roster_of session) s s below w w
   told_served report.Disks result asked shown out =
       report_served paths text name session s w below knows (Asked (ListDisks name)) (meaning_is text (Asked (ListDisks name)) asked) (λ id g. world.disk_lines (below id).disks) disks_is disks_told disks_as_world result shown out

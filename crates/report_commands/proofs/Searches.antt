@@ -4,7 +4,7 @@ use Rattle.std.specs.Prelude.{IfErr, IfOk, is_some}
 use Rattle.std.proofs.lemmas.Bool.{false≢true}
 use Rattle.std.proofs.lemmas.Option.{same_Some}
 use Rattle.bay.specs.State.{BayState}
-use Rattle.asm_base.specs.Refusals.{said}
+use Rattle.asm_base.specs.Refusals.{meaning_of}
 use Rattle.asm_base.specs.declared.refusal.Refusal.{Refusal}
 use Rattle.asm_base.specs.declared.refusal.Refusal.TheVariants as cause
 use Rattle.asm_group.specs.Group.{Group}
@@ -81,11 +81,11 @@ module _ (paths : List Bytes) (text : Bytes) (command : Command) (says : meaning
       refused paths text command says counts was s w r.NoGroup is.absent (subst (λ (l : List Cause). IsCaused l r.NoGroup) (sym due) refl) (is.lines r.NoGroup)
   nowhere_by (Some (name ∷ inside)) to none = absurd cc
 
-  no_group : said (λ _. []) cause.NoGroup ≡ r.NoGroup
-  unfolding said
+  no_group : meaning_of (λ _. []) cause.NoGroup ≡ r.NoGroup
+  unfolding meaning_of
   no_group = refl
 
-  pub told_nowhere : parts_of leads ≡ None → Told (said (λ _. []) cause.NoGroup)
+  pub told_nowhere : parts_of leads ≡ None → Told (meaning_of (λ _. []) cause.NoGroup)
   told_nowhere none = subst (λ (c : r.Refusal). Told c) (sym no_group) (nowhere_by leads refl none)
 
   -- ---- it leads into one
@@ -134,15 +134,15 @@ module _ (paths : List Bytes) (text : Bytes) (command : Command) (says : meaning
       abbrev there_none : IsThere w below name m
       there_none = is_there session name m group w below knows own
 
-      caused : IsCaused (dir_causes there_none.group inside) (said (λ _. []) refusal)
-      caused = subst (λ (g : Group). IsCaused (dir_causes g inside) (said (λ _. []) refusal)) (sym there_none.told.is)
+      caused : IsCaused (dir_causes there_none.group inside) (meaning_of (λ _. []) refusal)
+      caused = subst (λ (g : Group). IsCaused (dir_causes g inside) (meaning_of (λ _. []) refusal)) (sym there_none.told.is)
           (no_directories_are_worlds m.name m.catalog.shape m.catalog.tables there_none.told.cells inside refusal (are_tables session name m ready group) none)
 
       abbrev Caused : r.Refusal → Type 0
       Caused c = IsCaused (causes (below_with below unread) w command) c
 
-      whole : Caused (said (λ _. []) refusal)
-      whole = subst (λ (l : List Cause). IsCaused l (said (λ _. []) refusal)) (sym (causes_inside paths text command says counts was s w name (λ g. dir_causes g inside) shows m there_none)) caused
+      whole : Caused (meaning_of (λ _. []) refusal)
+      whole = subst (λ (l : List Cause). IsCaused l (meaning_of (λ _. []) refusal)) (sym (causes_inside paths text command says counts was s w name (λ g. dir_causes g inside) shows m there_none)) caused
 
       by_cause : (c : r.Refusal) → Caused c → (c ≡ r.NoName) ⊎ (c ≡ r.NotDirectory) → Told c
       by_cause c due which = ⊎_elim
@@ -151,8 +151,8 @@ module _ (paths : List Bytes) (text : Bytes) (command : Command) (says : meaning
           (refused paths text command says counts was s w r.NotDirectory is.no_directory (subst Caused directory_is due) (is.lines r.NotDirectory)))
           which
 
-      stayed : Told (said (λ _. []) refusal)
-      stayed = by_cause (said (λ _. []) refusal) whole (either_cause _ _ (said (λ _. []) refusal) caused)
+      stayed : Told (meaning_of (λ _. []) refusal)
+      stayed = by_cause (meaning_of (λ _. []) refusal) whole (either_cause _ _ (meaning_of (λ _. []) refusal) caused)
 
     -- ---- all of it
 
@@ -164,5 +164,5 @@ module _ (paths : List Bytes) (text : Bytes) (command : Command) (says : meaning
     search_served what as_world (Ok lines) told out = served_in paths text (Done lines) was s w w family (λ own. listed what as_world told.group told.is_group lines told.caused own)
     search_served what as_world (Err refusal) told out = ⊎_elim
         (λ absent. out_refused paths text command says counts was s w name (λ g. dir_causes g inside) shows refusal (rw knows.entries_are absent))
-        (λ none. served_in paths text (Refused [] (said (λ _. []) refusal)) was s w w family (λ own. stayed none.group none.is_group refusal none.caused own))
+        (λ none. served_in paths text (Refused [] (meaning_of (λ _. []) refusal)) was s w w family (λ own. stayed none.group none.is_group refusal none.caused own))
         out

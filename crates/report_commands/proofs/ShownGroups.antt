@@ -2,7 +2,7 @@
 use Rattle.std.proofs.Common.{◌≡◌, ◌⊎◌, ⊎_elim, inl, inr, ℕ, true, List, [], ◌∷◌, ◌++◌, length, Option, Some, None, refl, sym, ◌∙◌, ap, subst, arith}
 use Rattle.std.specs.Prelude.{unwrap_or}
 use Rattle.bay.specs.State.{BayState}
-use Rattle.asm_base.specs.Refusals.{said}
+use Rattle.asm_base.specs.Refusals.{meaning_of}
 use Rattle.asm_base.specs.declared.refusal.Refusal.{Refusal}
 use Rattle.asm_group.specs.Group.{Group}
 use Rattle.asm_group.specs.Names.{Bytes}
@@ -121,9 +121,9 @@ module _ (paths : List Bytes) (text : Bytes) (command : Command) (says : meaning
             (shows.lines (r.Dismounted disk)))
 
     -- the group isn't in the session, or is dismounted
-    pub out_refused : (refusal : Refusal) → of_entry (entry_in w name) (said (λ _. []) refusal) ⊎ (said (λ _. []) refusal ≡ r.NoMemory) → IsServed paths unread text (Refused [] (said (λ _. []) refusal)) was was s s below w w
+    pub out_refused : (refusal : Refusal) → of_entry (entry_in w name) (meaning_of (λ _. []) refusal) ⊎ (meaning_of (λ _. []) refusal ≡ r.NoMemory) → IsServed paths unread text (Refused [] (meaning_of (λ _. []) refusal)) was was s s below w w
     out_refused refusal why = ⊎_elim
-        (λ out. by_entry (entry_in w name) refl (said (λ _. []) refusal) out)
+        (λ out. by_entry (entry_in w name) refl (meaning_of (λ _. []) refusal) out)
         (λ none. subst (λ (x : r.Refusal). IsServed paths unread text (Refused [] x) was was s s below w w) (sym none) (outcomes.no_memory paths text was s w))
         why
 

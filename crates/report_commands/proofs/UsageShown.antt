@@ -2,7 +2,7 @@
 use Rattle.std.proofs.Common.{◌≡◌, ℕ, List, ◌∷◌, [], Option, Some, None, Result, refl, sym, ◌∙◌, ap}
 use Rattle.std.specs.Prelude.{IfErr, IfOk}
 use Rattle.bay.specs.State.{BayState}
-use Rattle.asm_base.specs.Refusals.{said}
+use Rattle.asm_base.specs.Refusals.{meaning_of}
 use Rattle.asm_base.specs.declared.refusal.Refusal.{Refusal}
 use Rattle.asm_base.specs.declared.refusal.Refusal.TheVariants as cause
 use Rattle.asm_group.specs.Group.{Group}
@@ -79,7 +79,7 @@ module _ (paths : List Bytes) (text : Bytes) (path : Option Bytes) (says : meani
   at_place : (o : Option (Bytes × Path)) → parts_of (resolved_or_here session.place path) ≡ o → parts_of leads ≡ o
   at_place o is = ap (λ (p : List Bytes). parts_of (resolved_or_here p path)) knows.place_is ∙ is
 
-  pub used_nowhere : parts_of (resolved_or_here session.place path) ≡ None → IsServed paths unread text (Refused [] (said (λ _. []) cause.NoGroup)) was was s s below w w
+  pub used_nowhere : parts_of (resolved_or_here session.place path) ≡ None → IsServed paths unread text (Refused [] (meaning_of (λ _. []) cause.NoGroup)) was was s s below w w
   used_nowhere none = told_nowhere paths text command says session s ready w below knows leads lines_of search (at_place None none)
 
   module _ (name : Bytes) (inside : Path) (target : parts_of (resolved_or_here session.place path) ≡ Some (name, inside)) where

@@ -30,11 +30,11 @@ abbrev pub attributes_told : MountedGroup → List Bytes
 attributes_told m = texts.attribute_row_lines (texts.attribute_rows m.catalog.shape m.catalog.tables.templates.settings.attributes)
 
 -- the lines of a report
-abbrev pub told : Report → MountedGroup → List Bytes
-told report.Disks m = disks_told m
-told report.Check m = checked_told m
-told report.Templates m = templates_told m
-told report.Attributes m = attributes_told m
+abbrev pub report_lines : Report → MountedGroup → List Bytes
+report_lines report.Disks m = disks_told m
+report_lines report.Check m = checked_told m
+report_lines report.Templates m = templates_told m
+report_lines report.Attributes m = attributes_told m
 
 -- The text asks for the report on the group of a name.
 abbrev pub AsksForReport : Bytes → Bytes → Report → Type 0

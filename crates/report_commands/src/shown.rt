@@ -6,7 +6,7 @@ ghost use Rattle.asm_world.specs.Paths.{parts_of, resolved_or_here};
 ghost use Rattle.group_reports.specs.Places.{directory_at};
 ghost use Rattle.session.specs.Listing.{IsInGroup, IsPathCause};
 ghost use Rattle.session.specs.Naming.{IsOutCause};
-ghost use Rattle.report_commands.specs.Told.{AreFoundLines, IsUsageIn, attributes_told, checked_told, disks_told, found_told, templates_told, told, usage_told};
+ghost use Rattle.report_commands.specs.Told.{AreFoundLines, IsUsageIn, attributes_told, checked_told, disks_told, found_told, templates_told, report_lines, usage_told};
 
 use asm_base::{List, Name, NoMemory, Path, Refusal, Text};
 use asmcmd::{attribute_lines, check_lines, disk_lines, path_lines, template_lines, usage_lines};
@@ -60,7 +60,7 @@ fn attributes_of(alloc: Global, m: &Mounted) -> Result<List<Text>, NoMemory>
 
 /// The lines of a report on a group.
 fn lines_of(alloc: Global, m: &Mounted, report: Report) -> Result<List<Text>, NoMemory>
-    ensures { IfOk result (λ lines. lines ≡ told report m.now) }
+    ensures { IfOk result (λ lines. lines ≡ report_lines report m.now) }
 {
     match report {
         Report::Disks => disks_of(alloc, m),
@@ -72,7 +72,7 @@ fn lines_of(alloc: Global, m: &Mounted, report: Report) -> Result<List<Text>, No
 
 /// What a report tells of a group.
 fn told_of(alloc: Global, m: &Mounted, report: Report) -> Result<List<Text>, Refusal>
-    ensures told { IfOk result (λ lines. lines ≡ told report m.now) }
+    ensures told { IfOk result (λ lines. lines ≡ report_lines report m.now) }
     ensures cause { IfErr result (λ refusal. refusal ≡ WantOfMemory) }
 {
     match lines_of(alloc, m, report) {
@@ -88,7 +88,7 @@ pub fn told(
     name: &Name,
     report: Report,
 ) -> Result<List<Text>, Refusal>
-    ensures told { IfOk result (λ lines. IsInGroup session.now name.now (λ m. lines ≡ told report m)) }
+    ensures told { IfOk result (λ lines. IsInGroup session.now name.now (λ m. lines ≡ report_lines report m)) }
     ensures cause { IfErr result (IsOutCause session.now.entries name.now) }
 {
     match session.mounted(alloc, name) {

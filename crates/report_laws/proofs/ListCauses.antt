@@ -3,7 +3,7 @@ use Rattle.std.proofs.Common.{◌≡◌, ℕ, Bool, true, false, cond, List, [],
 use Rattle.std.specs.Prelude.{IsSomeAnd, MatchBool, not}
 use Rattle.std.proofs.lemmas.Bool.{true≢false}
 use Rattle.std.proofs.lemmas.Option.{none-some, same_Some}
-use Rattle.asm_base.specs.Refusals.{said}
+use Rattle.asm_base.specs.Refusals.{meaning_of}
 use Rattle.asm_base.specs.declared.refusal.Refusal.{Refusal}
 use Rattle.asm_base.specs.declared.refusal.Refusal.TheVariants as cause
 use Rattle.asm_group.specs.Group.{Cell, Group}
@@ -59,19 +59,19 @@ module _ (name : Bytes) (s : Shape) (t : Tables) (cells : ℕ → List Cell) (pa
   -- ---- what is refused
 
   module _ (refusal : Refusal) where
-    no_directory : (o : Result ℕ Refusal) → directory_at t (up parts) ≡ o → directory_refusal o ≡ Some refusal → IsCaused (dir_causes g (up parts)) (said (λ _. []) refusal)
+    no_directory : (o : Result ℕ Refusal) → directory_at t (up parts) ≡ o → directory_refusal o ≡ Some refusal → IsCaused (dir_causes g (up parts)) (meaning_of (λ _. []) refusal)
     no_directory (Ok n) e is = absurd (none-some refusal is)
     no_directory (Err why) e is =
-        subst (λ (c : Refusal). IsCaused (dir_causes g (up parts)) (said (λ _. []) c)) (same_Some why refusal is) (no_directories_are_worlds name s t cells (up parts) why tables e)
+        subst (λ (c : Refusal). IsCaused (dir_causes g (up parts)) (meaning_of (λ _. []) c)) (same_Some why refusal is) (no_directories_are_worlds name s t cells (up parts) why tables e)
 
-    no_node : (o : Option ℕ) → number_of t.nodes parts ≡ o → if_missing o ≡ Some refusal → IsCaused (When (not (world.group_has_path g parts)) r.NoName ∷ []) (said (λ _. []) refusal)
+    no_node : (o : Option ℕ) → number_of t.nodes parts ≡ o → if_missing o ≡ Some refusal → IsCaused (When (not (world.group_has_path g parts)) r.NoName ∷ []) (meaning_of (λ _. []) refusal)
     no_node (Some n) e is = absurd (none-some refusal is)
     no_node None e is =
         let same : cause.NoName ≡ refusal = same_Some cause.NoName refusal is in
-        due (world.group_has_path g parts) (said (λ _. []) refusal) (not_there t.nodes tables.nodes g tree_is parts e) (ap (λ (c : Refusal). said (λ _. []) c) (sym same) ∙ no_name)
+        due (world.group_has_path g parts) (meaning_of (λ _. []) refusal) (not_there t.nodes tables.nodes g tree_is parts e) (ap (λ (c : Refusal). meaning_of (λ _. []) c) (sym same) ∙ no_name)
 
     refused : (b : Bool) → cond b (directory_refusal (directory_in t (node_named t (up parts)))) (if_missing (node_named t parts)) ≡ Some refusal
-        → IsCaused (cond b (dir_causes g (up parts)) (When (not (world.group_has_path g parts)) r.NoName ∷ [])) (said (λ _. []) refusal)
+        → IsCaused (cond b (dir_causes g (up parts)) (When (not (world.group_has_path g parts)) r.NoName ∷ [])) (meaning_of (λ _. []) refusal)
     refused true is =
         no_directory (directory_at t (up parts)) refl (sym (ap (λ (o : Option ℕ). directory_refusal (directory_in t o)) (named_is t tables.nodes (up parts))) ∙ is)
     refused false is = no_node (number_of t.nodes parts) refl (sym (ap if_missing (named_is t tables.nodes parts)) ∙ is)

@@ -2,7 +2,7 @@
 use Rattle.std.proofs.Common.{◌≡◌, ℕ, Bool, true, false, List, [], ◌∷◌, Option, Some, None, Result, Ok, Err, refl, sym, ap, ◌∙◌}
 use Rattle.std.specs.Prelude.{if◌then◌else◌, not}
 use Rattle.std.proofs.lemmas.Bool.{false≢true, true≢false}
-use Rattle.asm_base.specs.Refusals.{said}
+use Rattle.asm_base.specs.Refusals.{meaning_of}
 use Rattle.asm_base.specs.declared.refusal.Refusal.{Refusal}
 use Rattle.asm_base.specs.declared.refusal.Refusal.TheVariants as cause
 use Rattle.asm_group.specs.Group.{Cell, Group}
@@ -36,15 +36,15 @@ second_due true false c p q is = is
 second_due true true c p q is = absurd (true≢false q)
 second_due false b c p q is = absurd (false≢true p)
 
-said_as : (refusal named : Refusal) → named ≡ refusal → said (λ _. []) refusal ≡ said (λ _. []) named
-said_as refusal named same = ap (λ (x : Refusal). said (λ _. []) x) (sym same)
+said_as : (refusal named : Refusal) → named ≡ refusal → meaning_of (λ _. []) refusal ≡ meaning_of (λ _. []) named
+said_as refusal named same = ap (λ (x : Refusal). meaning_of (λ _. []) x) (sym same)
 
-pub no_name : said (λ _. []) cause.NoName ≡ r.NoName
-unfolding said
+pub no_name : meaning_of (λ _. []) cause.NoName ≡ r.NoName
+unfolding meaning_of
 no_name = refl
 
-no_directory : said (λ _. []) cause.NotDirectory ≡ r.NotDirectory
-unfolding said
+no_directory : meaning_of (λ _. []) cause.NotDirectory ≡ r.NotDirectory
+unfolding meaning_of
 no_directory = refl
 
 module _ (name : Bytes) (s : Shape) (t : Tables) (cells : ℕ → List Cell) (tables : AreTables t) (path : Path) where
@@ -81,20 +81,20 @@ module _ (name : Bytes) (s : Shape) (t : Tables) (cells : ℕ → List Cell) (ta
     of_test false is n ok = absurd cc
 
     no_test : (b : Bool) → is_directory_at t m ≡ b → (refusal : Refusal) → ◌≡◌ {A = Result ℕ Refusal} (if b then Ok m else Err cause.NotDirectory) (Err refusal)
-        → IsCaused (dir_causes g path) (said (λ _. []) refusal)
+        → IsCaused (dir_causes g path) (meaning_of (λ _. []) refusal)
     no_test true is refusal err = absurd cc
     no_test false is refusal err =
         let same : cause.NotDirectory ≡ refusal = cc in
-        second_due (world.group_has_path g path) (world.group_has_dir g path) (said (λ _. []) refusal) here (as_dir ∙ is) (said_as refusal cause.NotDirectory same ∙ no_directory)
+        second_due (world.group_has_path g path) (world.group_has_dir g path) (meaning_of (λ _. []) refusal) here (as_dir ∙ is) (said_as refusal cause.NotDirectory same ∙ no_directory)
 
   by_number : (o : Option ℕ) → number_of t.nodes path ≡ o → (n : ℕ) → directory_in t o ≡ Ok n → IsDirectory g path (name ∷ spelt_by t n)
   by_number None e n ok = absurd cc
   by_number (Some m) e n ok = of_test m e (is_directory_at t m) refl n ok
 
-  by_none : (o : Option ℕ) → number_of t.nodes path ≡ o → (refusal : Refusal) → directory_in t o ≡ Err refusal → IsCaused (dir_causes g path) (said (λ _. []) refusal)
+  by_none : (o : Option ℕ) → number_of t.nodes path ≡ o → (refusal : Refusal) → directory_in t o ≡ Err refusal → IsCaused (dir_causes g path) (meaning_of (λ _. []) refusal)
   by_none None e refusal err =
       let same : cause.NoName ≡ refusal = cc in
-      first_due (world.group_has_path g path) (world.group_has_dir g path) (said (λ _. []) refusal) (not_there t.nodes tables.nodes g tree_is path e) (said_as refusal cause.NoName same ∙ no_name)
+      first_due (world.group_has_path g path) (world.group_has_dir g path) (meaning_of (λ _. []) refusal) (not_there t.nodes tables.nodes g tree_is path e) (said_as refusal cause.NoName same ∙ no_name)
   by_none (Some m) e refusal err = no_test m e (is_directory_at t m) refl refusal err
 
 pub directories_are_worlds : DirectoriesAreWorlds

@@ -3,7 +3,7 @@ use Rattle.std.specs.Prelude.{◌≡◌, ◌&&◌, ℕ, List, [], ◌∷◌, ◌
 use Rattle.std.specs.List.{insert}
 use Rattle.std.specs.Ordering.{is_lt}
 use Rattle.asm_base.specs.Names.{folded_cmp}
-use Rattle.asm_base.specs.Refusals.{said}
+use Rattle.asm_base.specs.Refusals.{meaning_of}
 use Rattle.asm_base.specs.declared.refusal.Refusal.{Refusal}
 use Rattle.asm_formats.specs.Among.{IsAmong}
 use Rattle.asm_group.specs.Group.{Cell}
@@ -37,7 +37,7 @@ ListsAreUncaused =
 abbrev pub ListsAreRefused : Type 0
 ListsAreRefused =
     (name : Bytes) (s : Shape) (t : Tables) (cells : ℕ → List Cell) (parts : Path) (refusal : Refusal) → AreTables t → list_refusal t parts ≡ Some refusal
-    → IsCaused (list_causes (group_of name s t cells) parts) (said (λ _. []) refusal)
+    → IsCaused (list_causes (group_of name s t cells) parts) (meaning_of (λ _. []) refusal)
 
 -- ---- the names of groups
 

@@ -1,6 +1,6 @@
 -- Directories of a group by its tables, as the world has them.
 use Rattle.std.specs.Prelude.{◌≡◌, ℕ, List, ◌∷◌, [], length, None, IsTrue, Ok, Err}
-use Rattle.asm_base.specs.Refusals.{said}
+use Rattle.asm_base.specs.Refusals.{meaning_of}
 use Rattle.asm_base.specs.declared.refusal.Refusal.{Refusal}
 use Rattle.asm_group.specs.Group.{Cell, Group}
 use Rattle.asm_group.specs.Names.{Bytes, Path}
@@ -32,4 +32,4 @@ DirectoriesAreWorlds =
 abbrev pub NoDirectoriesAreWorlds : Type 0
 NoDirectoriesAreWorlds =
     (name : Bytes) (s : Shape) (t : Tables) (cells : ℕ → List Cell) (path : Path) (refusal : Refusal) → AreTables t → directory_at t path ≡ Err refusal
-    → IsCaused (dir_causes (group_of name s t cells) path) (said (λ _. []) refusal)
+    → IsCaused (dir_causes (group_of name s t cells) path) (meaning_of (λ _. []) refusal)

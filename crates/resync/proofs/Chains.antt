@@ -16,7 +16,7 @@ use Rattle.file_extents.specs.group_pieces.declared.reading.ReadError.TheVariant
 use Rattle.file_extents.proofs.Chains.{fault_on, rose_on}
 use Rattle.resync.specs.declared.copying.CopyError.{CopyError}
 use Rattle.resync.specs.declared.copying.CopyError.TheVariants as copies
-use Rattle.resync.specs.Copying.{CopyCause, refusal_of, unread}
+use Rattle.resync.specs.Copying.{CopyCause, refusal_of, copy_error_of}
 use Rattle.resync.specs.Syncing.{SyncCause}
 
 -- a failed disk in the second call failed in both
@@ -26,7 +26,7 @@ copies_on keeps u to (copies.Unwritten d) why = (why.0, rose_on keeps u d why.1)
 copies_on keeps u to copies.Nowhere why = tt
 
 -- bytes that can't be read
-pub unread_copies : (m : MountedGroup) (x : ExtentId) (inner to : ℕ) (s t : BayState) (e : ReadError) → IsReadCause m x inner s t e → CopyCause m to s t (unread e)
+pub unread_copies : (m : MountedGroup) (x : ExtentId) (inner to : ℕ) (s t : BayState) (e : ReadError) → IsReadCause m x inner s t e → CopyCause m to s t (copy_error_of e)
 unread_copies m x inner to s t (reads.Fault d) why = why.rose
 unread_copies m x inner to s t reads.Lost why = tt
 

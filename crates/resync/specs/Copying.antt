@@ -30,6 +30,6 @@ refusal_of (copies.Unwritten d) = cause.WriteFault (disk.Number d)
 refusal_of copies.Nowhere = cause.NoMemory
 
 -- why bytes aren't copied that can't be read
-abbrev pub unread : ReadError → CopyError
-unread (reads.Fault d) = copies.Unread d
-unread reads.Lost = copies.Nowhere
+abbrev pub copy_error_of : ReadError → CopyError
+copy_error_of (reads.Fault d) = copies.Unread d
+copy_error_of reads.Lost = copies.Nowhere

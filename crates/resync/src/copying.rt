@@ -3,7 +3,7 @@ ghost use Rattle.std.specs.Prelude.{◌≡◌, IfErr, IfOk, length, replicate};
 ghost use Rattle.file_extents.specs.group_engine.Mounts.{IsMounted, Takes};
 ghost use Rattle.file_extents.specs.group_engine.Own.{KeepsGroup};
 ghost use Rattle.file_extents.specs.group_pieces.Usable.{FitsExtent};
-ghost use Rattle.resync.specs.Copying.{CopyCause, refusal_of, unread};
+ghost use Rattle.resync.specs.Copying.{CopyCause, refusal_of, copy_error_of};
 
 use crate::runs::{extent_bytes, piece_len};
 use asm_base::{DiskRef, ExtentId, Home, NoMemory, Refusal};
@@ -78,7 +78,7 @@ pub fn copy_piece<B: Bay>(
 
 /// Why bytes aren't copied that can't be read.
 fn unread(error: ReadError) -> CopyError
-    ensures { result ≡ unread error }
+    ensures { result ≡ copy_error_of error }
 {
     match error {
         ReadError::Fault { disk } => CopyError::Unread { disk },

@@ -3,7 +3,7 @@ ghost use Rattle.std.specs.Prelude.{◌≡◌, ◌≢◌, ◌≤◌, [], ◌∷�
 ghost use Rattle.bay.specs.Counts.{Rose};
 ghost use Rattle.bay.specs.Streams.{AppendsAll};
 ghost use Rattle.asm_group.specs.Refusal as r;
-ghost use Rattle.asm_base.specs.Refusals.{said};
+ghost use Rattle.asm_base.specs.Refusals.{meaning_of};
 ghost use Rattle.asm_world.specs.Reply.{Refused};
 ghost use Rattle.asm_world.specs.Run.{Slicing, phase_after, slices_of, mounted_groups, is_refusal};
 ghost use Rattle.asm_world.specs.Text.{ended, reply_text};
@@ -39,7 +39,7 @@ fn print_refusal<K: Sink>(
     sink: &mut K,
     refusal: Refusal,
 ) -> (Reply, Result<(), Fault>)
-    ensures reply { IsReplyOrNoMemory (Refused [] (said (λ _. []) refusal)) (reply_view result.0) }
+    ensures reply { IsReplyOrNoMemory (Refused [] (meaning_of (λ _. []) refusal)) (reply_view result.0) }
     ensures bytes { AppendsAll (K.taken sink.old) (K.taken sink.new) result.1 (reply_text (reply_view result.0)) }
     ensures later { K.faults sink.old ≤ K.faults sink.new }
     ensures cause { OnErr result.1 (Rose (K.faults sink.old) (K.faults sink.new)) }
@@ -57,7 +57,7 @@ fn print_after<K: Sink>(
     lines: List<Text>,
     refusal: Refusal,
 ) -> (Reply, Result<(), Fault>)
-    ensures reply { IsReplyOrNoMemory (Refused lines (said (λ _. []) refusal)) (reply_view result.0) }
+    ensures reply { IsReplyOrNoMemory (Refused lines (meaning_of (λ _. []) refusal)) (reply_view result.0) }
     ensures bytes { AppendsAll (K.taken sink.old) (K.taken sink.new) result.1 (reply_text (reply_view result.0)) }
     ensures later { K.faults sink.old ≤ K.faults sink.new }
     ensures cause { OnErr result.1 (Rose (K.faults sink.old) (K.faults sink.new)) }
@@ -110,7 +110,7 @@ fn print_line<K: Sink>(sink: &mut K, line: &[u8]) -> Result<(), Fault>
 
 /// The line of a refusal. A refusal that comes yet spells each disk that it names.
 fn refusal_text(alloc: Global, refusal: &Refusal) -> Result<Vec<u8>, NoMemory>
-    ensures { IfOk result (λ text. text.items ≡ reply_text (Refused [] (said (λ _. []) refusal.now))) }
+    ensures { IfOk result (λ text. text.items ≡ reply_text (Refused [] (meaning_of (λ _. []) refusal.now))) }
 {
     let mut text = refusal.line(alloc, b"")?;
     text.push(b'\n').map_err(|_| NoMemory)?;
@@ -140,7 +140,7 @@ pub fn is_no_memory(reply: &Reply) -> bool
 }
 
 fn is_want_of_memory(refusal: &Refusal) -> bool
-    ensures { MatchBool result (said (λ _. []) refusal.now ≡ r.NoMemory) (said (λ _. []) refusal.now ≢ r.NoMemory) }
+    ensures { MatchBool result (meaning_of (λ _. []) refusal.now ≡ r.NoMemory) (meaning_of (λ _. []) refusal.now ≢ r.NoMemory) }
 {
     match refusal {
         Refusal::NoMemory => true,

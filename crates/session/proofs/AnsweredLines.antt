@@ -3,7 +3,7 @@ use Rattle.std.proofs.Common.{◌≡◌, ℕ, List, [], Result, Ok, Err, refl, s
 use Rattle.std.specs.Prelude.{IfErr, IfOk}
 use Rattle.bay.specs.declared.disk.Bay as Bay
 use Rattle.bay.specs.declared.host.Host as Host
-use Rattle.asm_base.specs.Refusals.{said}
+use Rattle.asm_base.specs.Refusals.{meaning_of}
 use Rattle.asm_base.specs.declared.refusal.Refusal.{Refusal}
 use Rattle.asm_group.specs.Names.{Bytes}
 use Rattle.asm_world.specs.Below.{Found, GroupBelow}
@@ -21,7 +21,7 @@ use Rattle.session.proofs.Outcomes.{unread}
 
 abbrev pub reply_of : Result (List Bytes) Refusal → Reply
 reply_of (Ok lines) = Done lines
-reply_of (Err refusal) = Refused [] (said (λ _. []) refusal)
+reply_of (Err refusal) = Refused [] (meaning_of (λ _. []) refusal)
 
 reply_is : (told : Result (List Bytes) Refusal) (reply : code.Reply) → IfOk told (λ lines. reply ≡ replies.Done lines) → IfErr told (λ refusal. reply ≡ replies.Refused refusal) → reply_view reply ≡ reply_of told
 reply_is (Ok lines) reply ok err = ap reply_view ok

@@ -1,7 +1,7 @@
 -- Why a name has no mounted group.
 use Rattle.std.proofs.Common.{◌≡◌, ◌⊎◌, ⊎_elim, inl, inr, ℕ, [], map, Option, Some, None, refl, sym, ◌∙◌, ap, subst}
 use Rattle.std.specs.Map.{lookup}
-use Rattle.asm_base.specs.Refusals.{said}
+use Rattle.asm_base.specs.Refusals.{meaning_of}
 use Rattle.asm_base.specs.declared.refusal.DiskRef.TheVariants as disk
 use Rattle.asm_base.specs.declared.refusal.Refusal.{Refusal}
 use Rattle.asm_base.specs.declared.refusal.Refusal.TheVariants as cause
@@ -20,11 +20,11 @@ use Rattle.session.specs.Works.{SpellsRefusal}
 use Rattle.session.proofs.Entries.{sought}
 use Rattle.session.proofs.Grouped.{Pairs, entry_found, none_found}
 
-shut_by : (m : MountedGroup) (a : Access) (raw refusal : Refusal) → IsShut a raw → SpellsRefusal m raw refusal → in_state (by_disk m (dismounted_by a)) (said (λ _. []) refusal) ⊎ (said (λ _. []) refusal ≡ r.NoMemory)
-unfolding said
+shut_by : (m : MountedGroup) (a : Access) (raw refusal : Refusal) → IsShut a raw → SpellsRefusal m raw refusal → in_state (by_disk m (dismounted_by a)) (meaning_of (λ _. []) refusal) ⊎ (meaning_of (λ _. []) refusal ≡ r.NoMemory)
+unfolding meaning_of
 shut_by m access.Mounted raw refusal shut spells = absurd shut
-shut_by m (access.Dismounted d) raw refusal shut spells = ⊎_elim (λ same. inl (same ∙ ap (said (disk_name m)) shut)) (λ none. inr none) spells
-shut_by m access.Closed raw refusal shut spells = inr (⊎_elim (λ same. same ∙ ap (said (disk_name m)) shut) (λ none. none) spells)
+shut_by m (access.Dismounted d) raw refusal shut spells = ⊎_elim (λ same. inl (same ∙ ap (meaning_of (disk_name m)) shut)) (λ none. inr none) spells
+shut_by m access.Closed raw refusal shut spells = inr (⊎_elim (λ same. same ∙ ap (meaning_of (disk_name m)) shut) (λ none. none) spells)
 
 -- its group takes no calls
 pub shut_out : (name : Bytes) (es : Pairs) (v : Entry) (raw refusal : Refusal) → lookup (sought name) es ≡ Some v → IsShut v.group.access raw → SpellsRefusal v.group raw refusal → IsOutCause (map entry_view es) name refusal
@@ -42,5 +42,5 @@ shut_after name es v after raw refusal found same shut spells =
     shut_out name es v raw refusal found shut (subst (λ (m : MountedGroup). SpellsRefusal m raw refusal) (same (off_by v.group.access raw shut)) spells)
 
 -- it isn't in the session
-pub absent_out : (name : Bytes) (es : Pairs) (refusal : Refusal) → lookup (sought name) es ≡ None → said (λ _. []) refusal ≡ r.NoGroup → IsOutCause (map entry_view es) name refusal
+pub absent_out : (name : Bytes) (es : Pairs) (refusal : Refusal) → lookup (sought name) es ≡ None → meaning_of (λ _. []) refusal ≡ r.NoGroup → IsOutCause (map entry_view es) name refusal
 absent_out name es refusal none is = inl (rw (none_found name es none) is)

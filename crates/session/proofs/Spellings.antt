@@ -1,6 +1,6 @@
 -- Refusals that name no disk.
 use Rattle.std.proofs.Common.{◌≡◌, ℕ, [], refl}
-use Rattle.asm_base.specs.Refusals.{said}
+use Rattle.asm_base.specs.Refusals.{meaning_of}
 use Rattle.asm_group.specs.declared.Mode.{Mode}
 use Rattle.asm_base.specs.declared.refusal.DiskRef.{DiskRef}
 use Rattle.asm_base.specs.declared.refusal.Refusal.{Refusal}
@@ -10,8 +10,8 @@ use Rattle.asm_group.specs.Names.{Bytes}
 pub says_as_is : (names : ℕ → Bytes) (refusal : Refusal) → ((x : DiskRef) → refusal ≡ cause.NoDisk x → ⊥) → ((x : DiskRef) (n : ℕ) → refusal ≡ cause.TooSmall x n → ⊥)
     → ((x : DiskRef) → refusal ≡ cause.MissingDisks x → ⊥) → ((x : DiskRef) → refusal ≡ cause.ReadFault x → ⊥) → ((x : DiskRef) → refusal ≡ cause.WriteFault x → ⊥)
     → ((x : DiskRef) → refusal ≡ cause.Dismounted x → ⊥) → ((x : DiskRef) (mode : Mode) → refusal ≡ cause.DiskState x mode → ⊥) → ((x : DiskRef) → refusal ≡ cause.HoldsStatus x → ⊥)
-    → ((x : DiskRef) → refusal ≡ cause.HoldsDirectories x → ⊥) → said (λ _. []) refusal ≡ said names refusal
-unfolding said
+    → ((x : DiskRef) → refusal ≡ cause.HoldsDirectories x → ⊥) → meaning_of (λ _. []) refusal ≡ meaning_of names refusal
+unfolding meaning_of
 says_as_is names (cause.NoDisk x) a b c d e f g h i = absurd (a x refl)
 says_as_is names (cause.TooSmall x n) a b c d e f g h i = absurd (b x n refl)
 says_as_is names (cause.MissingDisks x) a b c d e f g h i = absurd (c x refl)

@@ -1,7 +1,7 @@
 -- What reports tell, and why they are refused.
 use Rattle.std.proofs.Common.{◌≡◌, inl, inr, List, refl}
 use Rattle.asm_group.specs.Names.{Bytes, Path}
-use Rattle.asm_base.specs.Refusals.{said}
+use Rattle.asm_base.specs.Refusals.{meaning_of}
 use Rattle.asm_base.specs.declared.refusal.Refusal.{Refusal}
 use Rattle.asm_base.specs.declared.refusal.Refusal.TheVariants as cause
 use Rattle.asm_world.specs.World.{SessionEntry}
@@ -15,7 +15,7 @@ use Rattle.session.specs.Sessions.{SessionView}
 -- ---- one group
 
 pub no_memory_out : (entries : List SessionEntry) (name : Bytes) → IsOutCause entries name cause.NoMemory
-unfolding said
+unfolding meaning_of
 no_memory_out entries name = inr refl
 
 -- ---- a path

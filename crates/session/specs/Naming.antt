@@ -2,7 +2,7 @@
 use Rattle.std.specs.Prelude.{◌≡◌, ◌⊎◌, ⊤, false, ℕ, ◌≤◌, List, [], ◌∷◌, length, map, Option, Some, None, if◌then◌else◌}
 use Rattle.asm_group.specs.Names.{Bytes, is_same_name}
 use Rattle.asm_group.specs.Refusal as r
-use Rattle.asm_base.specs.Refusals.{said}
+use Rattle.asm_base.specs.Refusals.{meaning_of}
 use Rattle.asm_formats.specs.Among.{IsAmong}
 use Rattle.asm_base.specs.declared.refusal.Refusal.{Refusal}
 use Rattle.asm_world.specs.World.{SessionEntry, SessionState, Mounted, DismountedBy, entry_among}
@@ -22,7 +22,7 @@ of_entry (Some entry) refusal = in_state entry.state refusal
 
 -- The name isn't in the session, or its group is dismounted by this disk. Want of memory is free.
 abbrev pub IsOutCause : List SessionEntry → Bytes → Refusal → Type 0
-IsOutCause entries name refusal = of_entry (entry_among entries name) (said (λ _. []) refusal) ⊎ (said (λ _. []) refusal ≡ r.NoMemory)
+IsOutCause entries name refusal = of_entry (entry_among entries name) (meaning_of (λ _. []) refusal) ⊎ (meaning_of (λ _. []) refusal ≡ r.NoMemory)
 
 -- no two entries have one name
 abbrev pub AreNamesApart : List SessionEntry → Type 0

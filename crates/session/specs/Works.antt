@@ -1,7 +1,7 @@
 -- What a piece of work on one group of the session does, by its answer.
 use Rattle.std.specs.Prelude.{◌≡◌, ◌⊎◌, [], List, map, Some, IfErr, IfOk, OnOk, Result, Ok, Err, if◌then◌else◌}
 use Rattle.bay.specs.State.{BayState}
-use Rattle.asm_base.specs.Refusals.{said}
+use Rattle.asm_base.specs.Refusals.{meaning_of}
 use Rattle.asm_base.specs.declared.refusal.Refusal.{Refusal}
 use Rattle.asm_group.specs.Names.{Bytes, is_same_name}
 use Rattle.asm_group.specs.Refusal as r
@@ -13,7 +13,7 @@ use Rattle.session.specs.Sessions.{SessionView}
 
 -- the refusal as a command has it, with the disk spelt, or want of memory
 abbrev pub SpellsRefusal : MountedGroup → Refusal → Refusal → Type 0
-SpellsRefusal m raw refusal = (said (λ _. []) refusal ≡ said (disk_name m) raw) ⊎ (said (λ _. []) refusal ≡ r.NoMemory)
+SpellsRefusal m raw refusal = (meaning_of (λ _. []) refusal ≡ meaning_of (disk_name m) raw) ⊎ (meaning_of (λ _. []) refusal ≡ r.NoMemory)
 
 -- the answer of a call on a group, so spelt
 abbrev pub IsSpelt : {T : Type 0} → MountedGroup → Result T Refusal → Result T Refusal → Type 0

@@ -1,6 +1,6 @@
 // Commands that are refused before anything is done.
 ghost use Rattle.std.specs.Prelude.{◌≡◌, [], false};
-ghost use Rattle.asm_base.specs.Refusals.{said};
+ghost use Rattle.asm_base.specs.Refusals.{meaning_of};
 ghost use Rattle.asm_group.specs.Refusal as r;
 ghost use Rattle.session.specs.Views.{found_view, nothing_found};
 ghost use Rattle.session.specs.declared.reply.Reply.TheVariants.{Refused};
@@ -54,7 +54,7 @@ pub fn refused(alloc: Global, refusal: Refusal) -> Answer
 
 /// As many groups are mounted as there may be.
 pub fn too_many_groups() -> Refusal
-    ensures { said (λ _. []) result ≡ r.TooMany r.Groups 8 }
+    ensures { meaning_of (λ _. []) result ≡ r.TooMany r.Groups 8 }
 {
     Refusal::TooMany {
         kind: Limited::Groups,

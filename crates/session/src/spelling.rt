@@ -1,6 +1,6 @@
 // Refusals in which each disk is spelt.
 ghost use Rattle.std.specs.Prelude.{◌≡◌, ◌⊎◌, [], IfOk};
-ghost use Rattle.asm_base.specs.Refusals.{referred_disk_name as name_of, said};
+ghost use Rattle.asm_base.specs.Refusals.{referred_disk_name as name_of, meaning_of};
 ghost use Rattle.asm_group.specs.Refusal.{NoMemory as WantOfMemory};
 ghost use Rattle.session.specs.Entries.{disk_name};
 
@@ -25,7 +25,7 @@ fn spelt_disk(alloc: Global, m: &Mounted, disk: DiskRef) -> Result<DiskRef, NoMe
 }
 
 fn spelt_refusal(alloc: Global, m: &Mounted, refusal: Refusal) -> Result<Refusal, NoMemory>
-    ensures { IfOk result (λ spelt. said (λ _. []) spelt ≡ said (disk_name m.now) refusal) }
+    ensures { IfOk result (λ spelt. meaning_of (λ _. []) spelt ≡ meaning_of (disk_name m.now) refusal) }
 {
     Ok(match refusal {
         Refusal::NoDisk { text } => Refusal::NoDisk {
@@ -63,7 +63,7 @@ fn spelt_refusal(alloc: Global, m: &Mounted, refusal: Refusal) -> Result<Refusal
 
 /// A refusal of a call on a group, with the names of the disks that it has by number.
 pub fn spelt(alloc: Global, m: &Mounted, refusal: Refusal) -> Refusal
-    ensures { (said (λ _. []) result ≡ said (disk_name m.now) refusal) ⊎ (said (λ _. []) result ≡ WantOfMemory) }
+    ensures { (meaning_of (λ _. []) result ≡ meaning_of (disk_name m.now) refusal) ⊎ (meaning_of (λ _. []) result ≡ WantOfMemory) }
 {
     match spelt_refusal(alloc, m, refusal) {
         Ok(spelt) => spelt,

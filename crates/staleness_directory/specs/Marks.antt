@@ -5,7 +5,6 @@ use Rattle.asm_formats.specs.Items.{Item, marks_item, Key, marks_kind}
 use Rattle.asm_base.specs.Records.{DirectoryRecord}
 use Rattle.asm_base.specs.Chunks.{Chunk, chunk_cmp}
 use Rattle.item_table.specs.Tables.{IsTable as IsKeyTable, record_of as key_record}
-
 -- the marks of a chunk, the table with other marks of it or without it, and the marks of the chunks from one on, in order
 pub use Rattle.item_table.specs.Chunks.{at_chunk as marks_at, with_chunk as with_marks, without_chunk as without_marks, from_chunk as marks_from}
 pub use Rattle.item_table.specs.Tables.{add_record}

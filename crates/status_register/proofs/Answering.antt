@@ -14,7 +14,7 @@ use Rattle.status_register.specs.declared.error.SurveyError.TheVariants.{NoMajor
 use Rattle.bay.specs.Moments.{Ends}
 use Rattle.asm_formats.specs.Claim.{claim_spelling}
 use Rattle.status_register.specs.Rows.{HaveClaim}
-use Rattle.status_register.specs.Registered.{Registered, registered, claim_of, IsClaimAnswer}
+use Rattle.status_register.specs.Registered.{Registered, register_of, claim_of, IsClaimAnswer}
 use Rattle.status_register.proofs.Tallying.{RoseAt}
 
 pub answered : (s t : BayState) (id : ℕ) (ms : List Member) (tally : Tally) (answer : Result Surveyed SurveyError) → AreRead (RoseAt s t) ms tally.read
@@ -50,5 +50,5 @@ module _ (s t : BayState) (survey : Surveyed) (ms took shown : List Member) (bod
   pub claim_refused : (seen need : ℕ) → lacking ≡ Some (seen, need) → IsClaimAnswer survey (Err (NoMajority seen need)) s t
   claim_refused seen need is = (took, members_did, they_show, of_took (Some (seen, need)) is)
 
-  pub claim_taken : (register : Registered) → lacking ≡ None → register ≡ registered survey → IsClaimAnswer survey (Ok register) s t
+  pub claim_taken : (register : Registered) → lacking ≡ None → register ≡ register_of survey → IsClaimAnswer survey (Ok register) s t
   claim_taken register is made = (took, members_did, they_show, (of_took None is, made))

@@ -10,7 +10,7 @@ use Rattle.asm_formats.specs.Sets.{has_bit}
 use Rattle.asm_formats.specs.Status.{Status, Entry, entry_of}
 use Rattle.asm_formats.specs.Among.{IsAmong}
 use Rattle.status_register.specs.Elsewhere.{with_attached}
-use Rattle.status_register.specs.Holders.{is_of, attached_to, numbered}
+use Rattle.status_register.specs.Holders.{is_of, attached_to, with_next_number}
 use Rattle.status_register.specs.Reaching.{Reaches}
 use Rattle.status_register.specs.Registered.{AreNumbered, IsClaimAnswer, Registered, all_placed}
 use Rattle.status_register.specs.Answers.{Surveyed}
@@ -131,8 +131,8 @@ claim_reaches s t survey small (Ok register) answered = subst (λ (r : Registere
     (placed_reach survey.value survey.members answered.0 small (kept_among (RoseAt s t) survey.members answered.0 answered.1) answered.3.0)
 
 -- a record as it is written
-pub written_reaches : (old : Registered) (next : Status) → Reaches old.members next → Reaches old.members (numbered old next)
-written_reaches old next reached = ap (λ (l : List Member). shortfall l (sets next)) (same_attached old.members next old.epoch (numbered old next).turn 64) ∙ reached
+pub written_reaches : (old : Registered) (next : Status) → Reaches old.members next → Reaches old.members (with_next_number old next)
+written_reaches old next reached = ap (λ (l : List Member). shortfall l (sets next)) (same_attached old.members next old.epoch (with_next_number old next).turn 64) ∙ reached
 
 -- ---- a member more
 

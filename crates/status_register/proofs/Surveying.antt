@@ -16,7 +16,7 @@ use Rattle.status_register.specs.Slots.{ShowBoth, body_says}
 use Rattle.status_register.specs.Surveys.{disk_in, greatest_epoch}
 use Rattle.status_register.specs.Tallies.{SlotsSay}
 use Rattle.status_register.specs.declared.places.SlotPair.TheVariants.{Claims, Records}
-use Rattle.status_register.specs.Sayings.{damage_in, none_or_one, spoiled}
+use Rattle.status_register.specs.Sayings.{damage_in, none_or_one, shows_no_value}
 
 -- ---- one slot
 
@@ -25,11 +25,11 @@ module _ {A : Type 0} (decoded : List ℕ → Option A) where
   listed_by true w = refl
   listed_by false w = refl
 
-  spoiled_value : (o : Option A) → not (is_some o) ≡ spoiled (Some o)
+  spoiled_value : (o : Option A) → not (is_some o) ≡ shows_no_value (Some o)
   spoiled_value None = refl
   spoiled_value (Some x) = refl
 
-  spoiled_by : (b : Bool) (w : List ℕ) → (b && not (is_some (decoded w))) ≡ spoiled (option_map decoded (if b then Some w else None))
+  spoiled_by : (b : Bool) (w : List ℕ) → (b && not (is_some (decoded w))) ≡ shows_no_value (option_map decoded (if b then Some w else None))
   spoiled_by true w = spoiled_value (decoded w)
   spoiled_by false w = refl
 
@@ -43,7 +43,7 @@ module _ {A : Type 0} (decoded : List ℕ → Option A) where
     pub slot_says : in_slot decoded (disk_bytes image slot) k ≡ none_or_one (body_says decoded image slot k)
     slot_says = (λ i. if gate_is i then decoded (body_is i) ∷ [] else []) ∙ listed_by (image.byte slot (k * 4096) == 165) (window (image.byte slot) ((k + 1) * 4096) 4096)
 
-    pub slot_spoiled : is_spoiled decoded (disk_bytes image slot) k ≡ spoiled (body_says decoded image slot k)
+    pub slot_spoiled : is_spoiled decoded (disk_bytes image slot) k ≡ shows_no_value (body_says decoded image slot k)
     slot_spoiled = (λ i. gate_is i && not (is_some (decoded (body_is i)))) ∙ spoiled_by (image.byte slot (k * 4096) == 165) (window (image.byte slot) ((k + 1) * 4096) 4096)
 
 -- ---- one disk
@@ -72,7 +72,7 @@ module _ (image : Image) (slot : ℕ) (long : 40960 ≤ image.size slot) where
       (λ i. option_map (λ k. k + 1) (option_or
       (if slot_spoiled decoded_claim image slot 2 (omega (arith, long)) i then Some 2 else (if slot_spoiled decoded_claim image slot 4 (omega (arith, long)) i then Some 4 else None))
       (if slot_spoiled decoded_status image slot 6 (omega (arith, long)) i then Some 6 else (if slot_spoiled decoded_status image slot 8 (omega (arith, long)) i then Some 8 else None))))
-      ∙ damage_by (spoiled (body_says decoded_claim image slot 2)) (spoiled (body_says decoded_claim image slot 4)) (spoiled (body_says decoded_status image slot 6)) (spoiled (body_says decoded_status image slot 8))
+      ∙ damage_by (shows_no_value (body_says decoded_claim image slot 2)) (shows_no_value (body_says decoded_claim image slot 4)) (shows_no_value (body_says decoded_status image slot 6)) (shows_no_value (body_says decoded_status image slot 8))
 
   -- what the bodies in the slots say
   module _ (c d : Option (List ℕ)) (claims : ShowBoth Claims slot c d image) (r q : Option (List ℕ)) (records : ShowBoth Records slot r q image) (id : ℕ) where

@@ -21,9 +21,9 @@ use Rattle.asm_images.specs.Steps.{IsLast}
 use Rattle.asm_images.proofs.Recording.{begin_history, current_split}
 use Rattle.asm_images.proofs.Sharing.{current_share, follower_shares, follows_itself, has_base, shares_itself}
 use Rattle.status_register.specs.History.{FitsHistory}
-use Rattle.status_register.specs.Holders.{attached_to, numbered, HoldSlots}
+use Rattle.status_register.specs.Holders.{attached_to, with_next_number, HoldSlots}
 use Rattle.status_register.specs.Keeping.{EpochStands, HasHistory, HasNoRecord, FitsRegister, KeepsOn, IsSurveyOf, FitsWith, KeepsFromClaim, IsRegisterReady}
-use Rattle.status_register.specs.Registered.{Registered, AreNumbered, IsClaimAnswer, claim_of, registered}
+use Rattle.status_register.specs.Registered.{Registered, AreNumbered, IsClaimAnswer, claim_of, register_of}
 use Rattle.status_register.specs.Answers.{Surveyed}
 use Rattle.status_register.specs.Rows.{HaveClaim, HaveStatus, PutsRow, HaveOwnSlots}
 use Rattle.status_register.specs.Slots.{claim_gate, status_gate}
@@ -105,12 +105,12 @@ begun_leaves {on} slots id epoch r g ms others completed begun s t allowed sound
 
 -- ---- a write
 
-module _ (s t : BayState) (sound : IsSound s) (old : Registered) (next : Status) (allowed : IsTrue (is_status (numbered old next))) (group : next.id ≡ old.value.id) (follows : Follows old.value next)
+module _ (s t : BayState) (sound : IsSound s) (old : Registered) (next : Status) (allowed : IsTrue (is_status (with_next_number old next))) (group : next.id ≡ old.value.id) (follows : Follows old.value next)
     (fresh : old.is_fresh ≡ true → sets next ≡ sets old.value) (hold : HoldSlots s old.members) {on : ℕ → Type 0}
-    (run : Runs on (PutsRow (status_gate old.id) (attached_to old.members next) (status_spelling (numbered old next))) s t)
+    (run : Runs on (PutsRow (status_gate old.id) (attached_to old.members next) (status_spelling (with_next_number old next))) s t)
     (slots : ℕ) (completed : Option Status) (begun : List Status) (room : old.turn + 1 < 2 ^ 64) (keeps : FitsRegister slots old completed begun s) where
   abbrev r : Status
-  r = numbered old next
+  r = with_next_number old next
 
   abbrev ms : List Member
   ms = attached_to old.members next
@@ -237,7 +237,7 @@ module _ (s t : BayState) (sound : IsSound s) (survey : Surveyed) (allowed : IsT
 
   claim_keeps : (slots : ℕ) (completed : Option Status) (begun : List Status) → IsSurveyOf slots survey completed begun → NowOnly s (FitsWith slots survey.id survey.members completed begun)
       → (took : List Member) → ((m : Member) → IsAmong took m → IsAmong survey.members m) → Ends (HaveClaim (claim_spelling (claim_of survey)) took) s t → missing took (Some survey.value) ≡ None
-      → FitsRegister slots (registered survey) completed begun t
+      → FitsRegister slots (register_of survey) completed begun t
   claim_keeps slots completed begun is before took kept done enough = record {
     continues = record { group = is.group; counts = is.counts; holds = λ written. absurd (false≢true (sym written)); below = λ x h. let low = is.below x h in omega (arith, low.0, low.1) };
     now = record {

@@ -44,5 +44,5 @@ abbrev pub next_turn : ℕ → ℕ
 next_turn turn = min (turn + 1) (2 ^ 64 - 1)
 
 -- the record as it is written, under the next number of the register
-abbrev pub numbered : Registered → Status → Status
-numbered register next = record next { epoch = register.epoch; turn = next_turn register.turn }
+abbrev pub with_next_number : Registered → Status → Status
+with_next_number register next = record next { epoch = register.epoch; turn = next_turn register.turn }

@@ -12,7 +12,7 @@ use Rattle.asm_images.specs.Members.{claims_of_group, of_group}
 use Rattle.asm_images.specs.Register.{current_records}
 use Rattle.status_register.specs.Answers.{Surveyed}
 use Rattle.status_register.specs.History.{FitsHistory}
-use Rattle.status_register.specs.Holders.{numbered, HoldSlots, SlotsDiffer}
+use Rattle.status_register.specs.Holders.{with_next_number, HoldSlots, SlotsDiffer}
 use Rattle.status_register.specs.Registered.{Registered, next_epoch}
 use Rattle.status_register.specs.SurveyLaws.{IsMemberOn}
 use Rattle.status_register.specs.Surveys.{disk_in, missing}
@@ -53,8 +53,8 @@ pub record FitsRegister (slots : ℕ) (register : Registered) (completed : Optio
 
 -- Over a write each image of each moment fits the history in which the record is begun. Once a set was given, the record is completed.
 pub record KeepsOn (old : Registered) (next : Status) (answer : Result ℕ Dead) (new : Registered) (s t : BayState) (slots : ℕ) (completed : Option Status) (begun : List Status) : Type 0 where
-  pub moments : LeavesOnly s t (HasHistory slots old completed (begun ++ numbered old next ∷ []))
-  pub after : MatchResult answer (λ failed. FitsRegister slots new (Some new.value) [] t) (λ dead. FitsRegister slots new completed (begun ++ numbered old next ∷ []) t)
+  pub moments : LeavesOnly s t (HasHistory slots old completed (begun ++ with_next_number old next ∷ []))
+  pub after : MatchResult answer (λ failed. FitsRegister slots new (Some new.value) [] t) (λ dead. FitsRegister slots new completed (begun ++ with_next_number old next ∷ []) t)
 
 abbrev pub KeepsWritten : Registered → Status → Result ℕ Dead → Registered → BayState → BayState → Type 0
 KeepsWritten old next answer new s t =

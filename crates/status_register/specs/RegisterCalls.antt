@@ -8,7 +8,7 @@ use Rattle.bay.specs.State.{BayState}
 use Rattle.asm_formats.specs.Claim.{claim_spelling}
 use Rattle.asm_formats.specs.Status.{Status, is_status, status_spelling}
 use Rattle.status_register.specs.Answers.{IsSurveyed, Surveyed}
-use Rattle.status_register.specs.Holders.{attached_to, numbered}
+use Rattle.status_register.specs.Holders.{attached_to, with_next_number}
 use Rattle.status_register.specs.Keeping.{IsRegisterReady, KeepsFromClaim, KeepsFromFirst, KeepsNoRecord, KeepsStanding, KeepsWritten, MayBeFirst}
 use Rattle.status_register.specs.Reaching.{Reaches}
 use Rattle.status_register.specs.Registered.{IsClaimAnswer, KeepsHistory, Registered, claim_of}
@@ -118,21 +118,21 @@ pub record WritesFirst (r : Status) (ms : List Member) (result : Result Register
 pub record HasWritten (old : Registered) (next : Status) (result : Result ℕ Dead) (new : Registered)
     (s t : BayState) : Type 0 where
   -- by those that took the record
-  pub answer : IsWriteAnswer (attached_to old.members next) (numbered old next) result s t
+  pub answer : IsWriteAnswer (attached_to old.members next) (with_next_number old next) result s t
   -- each of these disks shows the record but those of the set that is given
   pub shown : IfOk result
-      (λ set. Ends (ShowBut (attached_to old.members next) set (numbered old next)) s t)
+      (λ set. Ends (ShowBut (attached_to old.members next) set (with_next_number old next)) s t)
   -- in that set is only a disk whose slot failed
   pub failed : IfOk result (λ set. FailedAlone (attached_to old.members next) set s t)
   -- the turn is used up, and once a set is given the record holds
   pub register : new ≡ after_write old next result
   -- the record under its number is one of the formats
-  pub allowed : IsTrue (is_status (numbered old next))
+  pub allowed : IsTrue (is_status (with_next_number old next))
   -- the attached disks are enough for the record that holds then
   pub reaches : OnOk result (Reaches new.members new.value)
   -- the puts come in the order of the disks' numbers
   pub calls : CallsInOrder (status_gate old.id) (attached_to old.members next)
-      (status_spelling (numbered old next)) s t
+      (status_spelling (with_next_number old next)) s t
   -- at each moment the disks fit the history in which it is begun, and once a set is given it is
   -- completed
   pub history : KeepsWritten old next result new s t

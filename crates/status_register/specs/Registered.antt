@@ -48,8 +48,8 @@ abbrev pub claim_of : Surveyed → Claim
 claim_of survey = record { id = survey.id; epoch = next_epoch survey.epoch }
 
 -- the register of a claimed epoch
-abbrev pub registered : Surveyed → Registered
-registered survey = record {
+abbrev pub register_of : Surveyed → Registered
+register_of survey = record {
   id = survey.id;
   members = all_placed survey.value.entries (replicate 64 None) survey.members;
   value = survey.value;
@@ -64,7 +64,7 @@ IsClaimAnswer survey answer s t =
     (took : List Member) × AreRead (λ slot. Rose (s.faults slot) (t.faults slot)) survey.members took
     × Ends (HaveClaim (claim_spelling (claim_of survey)) took) s t
     × MatchResult answer
-    (λ register. (missing took (Some survey.value) ≡ None) × (register ≡ registered survey))
+    (λ register. (missing took (Some survey.value) ≡ None) × (register ≡ register_of survey))
     (λ refusal. IsSurveyRefusal refusal (missing took (Some survey.value)) (Some survey.value) None)
 
 -- each of the members is in one of the first slots

@@ -25,11 +25,11 @@ IsOwnRecord id None = ⊤
 IsOwnRecord id (Some r) = IsTrue (is_status r) × (r.id ≡ id)
 
 -- the gate is open, and the body is no value
-abbrev pub spoiled : {A : Type 0} → Option (Option A) → Bool
-spoiled None = false
-spoiled (Some None) = true
-spoiled (Some (Some x)) = false
+abbrev pub shows_no_value : {A : Type 0} → Option (Option A) → Bool
+shows_no_value None = false
+shows_no_value (Some None) = true
+shows_no_value (Some (Some x)) = false
 
 -- the block of the first body of a pair that must be a value and isn't
 abbrev pub damage_in : {A : Type 0} → SlotPair → Option (Option A) → Option (Option A) → Option ℕ
-damage_in pair first second = if spoiled first then Some (first_gate pair + 1) else (if spoiled second then Some (second_gate pair + 1) else None)
+damage_in pair first second = if shows_no_value first then Some (first_gate pair + 1) else (if shows_no_value second then Some (second_gate pair + 1) else None)

@@ -9,7 +9,7 @@ use Rattle.asm_formats.specs.Among.{IsAmong}
 use Rattle.asm_formats.specs.Sets.{has_bit}
 use Rattle.asm_formats.specs.Status.{Status, status_spelling}
 use Rattle.asm_formats.specs.Following.{Holder, sets, disks_of}
-use Rattle.status_register.specs.Holders.{next_turn, numbered, attached_to}
+use Rattle.status_register.specs.Holders.{next_turn, with_next_number, attached_to}
 use Rattle.status_register.specs.Registered.{Registered, all_placed}
 use Rattle.status_register.specs.Rows.{CallsInOrder, HasStatus, HaveStatus}
 use Rattle.status_register.specs.Slots.{status_gate}
@@ -59,7 +59,7 @@ FailedAlone ms failed s t =
 
 -- what the register is after a write: the turn is used up, and once a set was given the record holds
 abbrev pub after_write : Registered → Status → Result ℕ Dead → Registered
-after_write old next (Ok failed) = record old { value = numbered old next; turn = next_turn old.turn; is_fresh = false }
+after_write old next (Ok failed) = record old { value = with_next_number old next; turn = next_turn old.turn; is_fresh = false }
 after_write old next (Err dead) = record old { turn = next_turn old.turn }
 
 -- ---- the first record of a group

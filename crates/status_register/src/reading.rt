@@ -5,7 +5,7 @@ ghost use Rattle.asm_images.specs.Register.{greatest};
 ghost use Rattle.bay.specs.Calls.{Call, cost};
 ghost use Rattle.bay.specs.Image.{Same};
 ghost use Rattle.status_register.specs.Places.{HasSlots};
-ghost use Rattle.status_register.specs.Sayings.{IsOwnRecord, damage_in, none_or_one, spoiled};
+ghost use Rattle.status_register.specs.Sayings.{IsOwnRecord, damage_in, none_or_one, shows_no_value};
 ghost use Rattle.status_register.specs.Surveys.{greater_of, greatest_epoch};
 ghost use Rattle.status_register.specs.Tallies.{SlotsSay};
 ghost use Rattle.bay.specs.Told.{Told};
@@ -86,7 +86,7 @@ fn record_in_both(
 
 /// Whether a value must stand there and doesn't.
 fn is_spoiled<T>(said: &Option<Option<T>>) -> bool
-    ensures { result ≡ spoiled said.now }
+    ensures { result ≡ shows_no_value said.now }
 {
     match said {
         None => false,

@@ -7,7 +7,7 @@ use Rattle.std.proofs.lemmas.List.{take_more_set, take_more}
 use Rattle.asm_formats.specs.Sets.{elements, has_bit}
 use Rattle.asm_formats.specs.Status.{Entry, Status, is_entry, is_status, entry_of, has_entry, have_entries, ascends_from}
 use Rattle.status_table.specs.Rules.{number_of_entry}
-use Rattle.status_table.specs.Changes.{IsInSomeSet, has_failgroup, free_from, inserted, least_free_failgroup, status_with_entry, status_without_entry}
+use Rattle.status_table.specs.Changes.{IsInSomeSet, has_failgroup, free_from, entries_with, least_free_failgroup, status_with_entry, status_without_entry}
 use Rattle.status_table.specs.EntryChanges.{lower_number_first}
 use Rattle.status_table.proofs.Allowed.{parts_of, parts_are}
 
@@ -51,33 +51,33 @@ or_swap true true c = refl
 or_swap true false c = refl
 or_swap false b c = refl
 
-inserted_has : (e : Entry) (es : List Entry) (d : ℕ) → has_entry (inserted e es) d ≡ (eqb e.number d || has_entry es d)
+inserted_has : (e : Entry) (es : List Entry) (d : ℕ) → has_entry (entries_with e es) d ≡ (eqb e.number d || has_entry es d)
 inserted_has e [] d = has_first e [] d
-inserted_has e (x ∷ xs) d = cond_both (ltb e.number x.number) (e ∷ inserted x xs) (x ∷ inserted e xs) (λ (l : List Entry). has_entry l d ≡ (eqb e.number d || has_entry (x ∷ xs) d))
-    (λ less. has_first e (inserted x xs) d ∙ ap (λ (b : Bool). eqb e.number d || b) (inserted_has x xs d ∙ sym (has_first x xs d)))
-    (λ more. has_first x (inserted e xs) d ∙ ap (λ (b : Bool). eqb x.number d || b) (inserted_has e xs d) ∙ or_swap (eqb x.number d) (eqb e.number d) (has_entry xs d)
+inserted_has e (x ∷ xs) d = cond_both (ltb e.number x.number) (e ∷ entries_with x xs) (x ∷ entries_with e xs) (λ (l : List Entry). has_entry l d ≡ (eqb e.number d || has_entry (x ∷ xs) d))
+    (λ less. has_first e (entries_with x xs) d ∙ ap (λ (b : Bool). eqb e.number d || b) (inserted_has x xs d ∙ sym (has_first x xs d)))
+    (λ more. has_first x (entries_with e xs) d ∙ ap (λ (b : Bool). eqb x.number d || b) (inserted_has e xs d) ∙ or_swap (eqb x.number d) (eqb e.number d) (has_entry xs d)
     ∙ ap (λ (b : Bool). eqb e.number d || b) (sym (has_first x xs d)))
 
-inserted_fit : (e : Entry) (es : List Entry) → is_entry e ≡ true → list_all is_entry es ≡ true → list_all is_entry (inserted e es) ≡ true
+inserted_fit : (e : Entry) (es : List Entry) → is_entry e ≡ true → list_all is_entry es ≡ true → list_all is_entry (entries_with e es) ≡ true
 inserted_fit e [] ok all = and_from (is_entry e) true ok refl
 inserted_fit e (x ∷ xs) ok all =
     let a = and_parts (is_entry x) (list_all is_entry xs) all in
-    cond_both (ltb e.number x.number) (e ∷ inserted x xs) (x ∷ inserted e xs) (λ (l : List Entry). list_all is_entry l ≡ true)
-    (λ less. and_from (is_entry e) (list_all is_entry (inserted x xs)) ok (inserted_fit x xs a.0 a.1))
-    (λ more. and_from (is_entry x) (list_all is_entry (inserted e xs)) a.0 (inserted_fit e xs ok a.1))
+    cond_both (ltb e.number x.number) (e ∷ entries_with x xs) (x ∷ entries_with e xs) (λ (l : List Entry). list_all is_entry l ≡ true)
+    (λ less. and_from (is_entry e) (list_all is_entry (entries_with x xs)) ok (inserted_fit x xs a.0 a.1))
+    (λ more. and_from (is_entry x) (list_all is_entry (entries_with e xs)) a.0 (inserted_fit e xs ok a.1))
 
 inserted_ascend : (e : Entry) (es : List Entry) (least : ℕ) → least ≤ e.number → has_entry es e.number ≡ false → ascends_from least (map number_of_entry es) ≡ true
-    → ascends_from least (map number_of_entry (inserted e es)) ≡ true
+    → ascends_from least (map number_of_entry (entries_with e es)) ≡ true
 inserted_ascend e [] least low none up = and_from (leb least e.number) true (le-leb least e.number low) refl
 inserted_ascend e (x ∷ xs) least low none up =
     let u = and_parts (leb least x.number) (ascends_from (x.number + 1) (map number_of_entry xs)) up in
     let other = none_of x xs e.number none in
-    cond_both (ltb e.number x.number) (e ∷ inserted x xs) (x ∷ inserted e xs) (λ (l : List Entry). ascends_from least (map number_of_entry l) ≡ true)
+    cond_both (ltb e.number x.number) (e ∷ entries_with x xs) (x ∷ entries_with e xs) (λ (l : List Entry). ascends_from least (map number_of_entry l) ≡ true)
     (λ less. let lt = ltb-true e.number x.number less in
-    and_from (leb least e.number) (ascends_from (e.number + 1) (map number_of_entry (inserted x xs))) (le-leb least e.number low)
+    and_from (leb least e.number) (ascends_from (e.number + 1) (map number_of_entry (entries_with x xs))) (le-leb least e.number low)
     (inserted_ascend x xs (e.number + 1) (omega (arith, lt)) (none_below xs (x.number + 1) x.number (omega arith) u.1) (weaker xs (e.number + 1) (x.number + 1) (omega (arith, lt)) u.1)))
     (λ more. let le = ltb-false e.number x.number more in
-    and_from (leb least x.number) (ascends_from (x.number + 1) (map number_of_entry (inserted e xs))) u.0
+    and_from (leb least x.number) (ascends_from (x.number + 1) (map number_of_entry (entries_with e xs))) u.0
     (inserted_ascend e xs (x.number + 1) (⊎_elim (λ (lt : x.number < e.number). omega (arith, lt)) (λ (ge : e.number ≤ x.number). absurd (other.0 (omega (arith, le, ge)))) (cases_lt x.number e.number)) other.1 u.1))
 
 all_gives : {A : Type 0} (p q : A → Bool) (xs : List A) → ((x : A) → p x ≡ true → q x ≡ true) → list_all p xs ≡ true → list_all q xs ≡ true
@@ -88,8 +88,8 @@ or_true : (a b : Bool) → b ≡ true → (a || b) ≡ true
 or_true true b is = refl
 or_true false b is = is
 
-inserted_have : (e : Entry) (es : List Entry) (ds : ℕ) → have_entries es ds ≡ true → have_entries (inserted e es) ds ≡ true
-inserted_have e es ds all = all_gives (has_entry es) (has_entry (inserted e es)) (elements ds) (λ d has. inserted_has e es d ∙ or_true (eqb e.number d) (has_entry es d) has) all
+inserted_have : (e : Entry) (es : List Entry) (ds : ℕ) → have_entries es ds ≡ true → have_entries (entries_with e es) ds ≡ true
+inserted_have e es ds all = all_gives (has_entry es) (has_entry (entries_with e es)) (elements ds) (λ d has. inserted_has e es d ∙ or_true (eqb e.number d) (has_entry es d) has) all
 
 pub entry_keeps : (r : Status) (e : Entry) → is_entry e ≡ true → has_entry r.entries e.number ≡ false → is_status r ≡ true → is_status (status_with_entry r e) ≡ true
 entry_keeps r e fit none ok =
@@ -112,15 +112,15 @@ entry_keeps r e fit none ok =
 -- ---- the loop that puts it in
 
 pub insert_more : (added : Entry) (entries made : List Entry) (i : ℕ) (left entry first second : Entry) → i < length entries → i < length made
-    → take i made ++ inserted left (drop i entries) ≡ inserted added entries → entry ≡ get_or entries i entry → (first, second) ≡ lower_number_first left entry
-    → take (i + 1) (set made i first) ++ inserted second (drop (i + 1) entries) ≡ inserted added entries
+    → take i made ++ entries_with left (drop i entries) ≡ entries_with added entries → entry ≡ get_or entries i entry → (first, second) ≡ lower_number_first left entry
+    → take (i + 1) (set made i first) ++ entries_with second (drop (i + 1) entries) ≡ entries_with added entries
 insert_more added entries made i left entry first second within room so_far read is =
-    let rest = inserted second (drop (i + 1) entries) in
+    let rest = entries_with second (drop (i + 1) entries) in
     let pushed : take (i + 1) (set made i first) ++ rest ≡ (take i made ++ first ∷ []) ++ rest = ap (λ (l : List Entry). l ++ rest) (take_more_set made i first room) in
     let split : (take i made ++ first ∷ []) ++ rest ≡ take i made ++ first ∷ rest = joined (take i made) rest in
     let next : suc i ≡ i + 1 = omega arith in
     let here : drop i entries ≡ entry ∷ drop (i + 1) entries = drop_is entries i entry within read ∙ ap (λ (k : ℕ). entry ∷ drop k entries) next in
-    let moved : inserted left (drop i entries) ≡ first ∷ rest = one (drop i entries) (drop (i + 1) entries) here in
+    let moved : entries_with left (drop i entries) ≡ first ∷ rest = one (drop i entries) (drop (i + 1) entries) here in
     pushed ∙ split ∙ ap (λ (l : List Entry). take i made ++ l) (sym moved) ∙ so_far
   where
     joined : (xs zs : List Entry) → (xs ++ first ∷ []) ++ zs ≡ xs ++ first ∷ zs
@@ -132,17 +132,17 @@ insert_more added entries made i left entry first second within room so_far read
     drop_is (y ∷ xs) zero x lt at = ap (λ (z : Entry). z ∷ xs) (sym at)
     drop_is (y ∷ xs) (suc k) x lt at = drop_is xs k x (omega arith) at
 
-    one : (xs ys : List Entry) → xs ≡ entry ∷ ys → inserted left xs ≡ first ∷ inserted second ys
-    one xs ys e = ap (λ (l : List Entry). inserted left l) e
-        ∙ cond_both (ltb left.number entry.number) (left, entry) (entry, left) (λ (o : Entry × Entry). (first, second) ≡ o → inserted left (entry ∷ ys) ≡ first ∷ inserted second ys)
-        (λ less same. cond-true (ltb left.number entry.number) (left ∷ inserted entry ys) (entry ∷ inserted left ys) less ∙ (λ i. (sym same i).0 ∷ inserted (sym same i).1 ys))
-        (λ more same. cond-false (ltb left.number entry.number) (left ∷ inserted entry ys) (entry ∷ inserted left ys) more ∙ (λ i. (sym same i).0 ∷ inserted (sym same i).1 ys))
+    one : (xs ys : List Entry) → xs ≡ entry ∷ ys → entries_with left xs ≡ first ∷ entries_with second ys
+    one xs ys e = ap (λ (l : List Entry). entries_with left l) e
+        ∙ cond_both (ltb left.number entry.number) (left, entry) (entry, left) (λ (o : Entry × Entry). (first, second) ≡ o → entries_with left (entry ∷ ys) ≡ first ∷ entries_with second ys)
+        (λ less same. cond-true (ltb left.number entry.number) (left ∷ entries_with entry ys) (entry ∷ entries_with left ys) less ∙ (λ i. (sym same i).0 ∷ entries_with (sym same i).1 ys))
+        (λ more same. cond-false (ltb left.number entry.number) (left ∷ entries_with entry ys) (entry ∷ entries_with left ys) more ∙ (λ i. (sym same i).0 ∷ entries_with (sym same i).1 ys))
         is
 
-pub insert_last : (added : Entry) (entries made : List Entry) (i : ℕ) (left : Entry) → length entries ≤ i → i < length made → take i made ++ inserted left (drop i entries) ≡ inserted added entries
-    → take (i + 1) (set made i left) ≡ inserted added entries
+pub insert_last : (added : Entry) (entries made : List Entry) (i : ℕ) (left : Entry) → length entries ≤ i → i < length made → take i made ++ entries_with left (drop i entries) ≡ entries_with added entries
+    → take (i + 1) (set made i left) ≡ entries_with added entries
 insert_last added entries made i left past room so_far =
-    take_more_set made i left room ∙ ap (λ (l : List Entry). take i made ++ inserted left l) (sym (none entries i past)) ∙ so_far
+    take_more_set made i left room ∙ ap (λ (l : List Entry). take i made ++ entries_with left l) (sym (none entries i past)) ∙ so_far
   where
     none : (xs : List Entry) (k : ℕ) → length xs ≤ k → drop k xs ≡ []
     none [] zero le = refl

@@ -41,12 +41,12 @@ status_with_repair r disk repair = record r { entries = map (entry_with_repair d
 -- ---- a disk more, and a disk less
 
 -- an entry in its place among entries by number: the lesser number comes first, and the greater goes on
-abbrev pub inserted : Entry → List Entry → List Entry
-inserted e [] = e ∷ []
-inserted e (x ∷ xs) = if nat_lt e.number x.number then e ∷ inserted x xs else x ∷ inserted e xs
+abbrev pub entries_with : Entry → List Entry → List Entry
+entries_with e [] = e ∷ []
+entries_with e (x ∷ xs) = if nat_lt e.number x.number then e ∷ entries_with x xs else x ∷ entries_with e xs
 
 abbrev pub status_with_entry : Status → Entry → Status
-status_with_entry r e = record r { entries = inserted e r.entries }
+status_with_entry r e = record r { entries = entries_with e r.entries }
 
 abbrev pub status_without_entry : Status → ℕ → Status
 status_without_entry r disk = record r { entries = filter (λ (e : Entry). not (e.number == disk)) r.entries }

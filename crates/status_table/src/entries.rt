@@ -5,7 +5,7 @@ ghost use Rattle.std.specs.List.{list_all};
 ghost use Rattle.asm_formats.specs.Regions.{most_units};
 ghost use Rattle.asm_formats.specs.Sets.{has_bit};
 ghost use Rattle.asm_formats.specs.Status.{has_entry, is_entry, is_status};
-ghost use Rattle.status_table.specs.Changes.{IsInSomeSet, entries_with_partners, entry_with_partners, has_failgroup, inserted, least_free_failgroup, status_with_entry, status_with_mode, status_with_offline, status_with_partners, status_with_repair, status_with_units, status_without_entry};
+ghost use Rattle.status_table.specs.Changes.{IsInSomeSet, entries_with_partners, entry_with_partners, has_failgroup, entries_with, least_free_failgroup, status_with_entry, status_with_mode, status_with_offline, status_with_partners, status_with_repair, status_with_units, status_without_entry};
 ghost use Rattle.status_table.specs.EntryChanges.{entry_after_change, entry_with, lower_number_first};
 
 use crate::record::{PstEntry, PstRecord};
@@ -236,7 +236,7 @@ fn with_entry_only(status: &PstRecord, entry: PstEntry) -> PstRecord
 #[tactic(auto, using(crate::proofs::Inserted::insert_last))]
 fn entries_and(entries: &[PstEntry], added: PstEntry) -> [PstEntry; 64]
     requires { length entries.now < 64 }
-    ensures { take (length entries.now + 1) result ≡ inserted added entries.now }
+    ensures { take (length entries.now + 1) result ≡ entries_with added entries.now }
 {
     let mut made = [PstEntry::blank(); 64];
     let mut left = added;

@@ -9,7 +9,7 @@ use Rattle.asm_placement.specs.Layout.{has_extent_by_size}
 use Rattle.extent_map.specs.Extents.{extent_at}
 use Rattle.file_directory.specs.Files.{head_at}
 use Rattle.catalog.specs.FilePlans.{IsAttributePlan, IsRemovalPlan, IsSizePlan, MayGrow, is_on_file, with_size}
-use Rattle.catalog.specs.FilePlans.{sized as sized_to, with_removal_pending as removed_from}
+use Rattle.catalog.specs.FilePlans.{tables_with_size as sized_to, with_removal_pending as removed_from}
 use Rattle.catalog_tables.specs.Rules.{HasExtents, has_copies}
 use Rattle.catalog_tables.specs.Tables.{Catalogued, Tables}
 use Rattle.table_tests.specs.Planned.{IsPlanned}

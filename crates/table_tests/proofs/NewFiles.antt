@@ -9,7 +9,7 @@ use Rattle.asm_formats.specs.Items.{Key, Pending}
 use Rattle.asm_base.specs.Records.{DirectoryRecord}
 use Rattle.asm_placement.specs.Layout.{first_of_set, start}
 use Rattle.file_directory.specs.Files.{head_at}
-use Rattle.catalog.specs.NamePlans.{IsFileBeingMade, IsNamePlan, is_within_file, made_file, named, new_head}
+use Rattle.catalog.specs.NamePlans.{IsFileBeingMade, IsNamePlan, is_within_file, made_file, tables_with_name, new_head}
 use Rattle.catalog_tables.specs.Rules.{first_wrong}
 use Rattle.catalog_tables.specs.Tables.{Catalogued}
 use Rattle.table_tests.specs.Planned.{IsPlanned}
@@ -28,4 +28,4 @@ created c op pending kind new within = record {
   is = λ i. record { kind = kind i; file = op.file; kept = op.kept }
 
 pub planned : (c : Catalogued) (path : Path) (size copies : ℕ) (stripe : Stripe) (put : List DirectoryRecord) (gone : List Key) → IsNamePlan c path size copies stripe put gone → IsPlanned c put gone
-planned c path size copies stripe put gone plan = record { tables = named c.tables (made_file c.tables) (new_head c.tables plan.name size copies stripe plan.filing.number) plan.made; plan = plan.plan }
+planned c path size copies stripe put gone plan = record { tables = tables_with_name c.tables (made_file c.tables) (new_head c.tables plan.name size copies stripe plan.filing.number) plan.made; plan = plan.plan }

@@ -6,7 +6,7 @@ use Rattle.asm_group.specs.Group.{Template}
 use Rattle.asm_group.specs.Refusal as r
 use Rattle.asm_formats.specs.Items.{is_redundancy}
 use Rattle.asm_base.specs.declared.refusal.Refusal.{Refusal}
-use Rattle.asm_base.specs.Refusals.{said}
+use Rattle.asm_base.specs.Refusals.{meaning_of}
 use Rattle.template_directory.specs.declared.editing.TemplateEdit.{TemplateEdit}
 use Rattle.template_directory.specs.declared.editing.TemplateEdit.TheVariants as code
 use Rattle.asm_group.specs.Causes.{Causes, first_cause}
@@ -31,7 +31,7 @@ is_template_edit (e.Drop name) = true
 
 -- a refusal as it is said; those of templates name no disk
 abbrev pub refusal_said : Refusal → r.Refusal
-refusal_said cause = said (λ n. []) cause
+refusal_said cause = meaning_of (λ n. []) cause
 
 -- want of memory, or why the edit is refused
 abbrev pub IsTemplateEditRefusal : Result (ByName Template) r.Refusal → Refusal → Type 0

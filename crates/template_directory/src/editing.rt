@@ -69,7 +69,7 @@ impl TemplateTable {
     }
 
     /// Why an edit is refused, or None where it isn't.
-    #[tactic(auto, unfolding(asm_base::specs::Refusals::said))]
+    #[tactic(auto, unfolding(asm_base::specs::Refusals::meaning_of))]
     fn refusal(&self, kind: GroupKind, edit: &TemplateEdit) -> Option<Refusal>
         ensures cause { option_map refusal_said result ≡ listed_cause kind self.now.templates (template_edit_meant edit.now) }
         ensures allowed { is_item (templates_item self.now.templates) ≡ true }
@@ -193,7 +193,7 @@ fn made(name: Name, copies: u8, stripe: Stripe, system: bool) -> Template
 }
 
 /// The refusal of one template more, where there are as many as there may be.
-#[tactic(auto, unfolding(asm_base::specs::Refusals::said))]
+#[tactic(auto, unfolding(asm_base::specs::Refusals::meaning_of))]
 fn full(count: usize) -> Option<Refusal>
     ensures { option_map refusal_said result ≡ (if nat_le 64 count then Some (TooMany Templates 64) else None) }
 {

@@ -7,38 +7,38 @@ use Rattle.asm_grammar.specs.Syntax.{SyntaxRule, Then, Maybe, Many, Value}
 use Rattle.asm_world.specs.Grammar as g
 use Rattle.asm_world.specs.Statement as s
 use Rattle.asm_world.specs.Writing.{after_word, new_disk_value, failgroup_value, failgroup_values, failgroups_value, first_and_others, one_more, quorum_value}
-use Rattle.written_sql.specs.Lines.{Line, put, put_maybe, put_more, list_of, some_disks_value, groups_line, maybe_group_name}
+use Rattle.written_sql.specs.Lines.{Line, with_value, put_maybe, put_more, list_of, some_disks_value, groups_line, maybe_group_name}
 
 -- LISTS
 
 -- the items behind commas
 pub more_put : {A : Type 0} (row : SyntaxRule) (value : A → Value row) (items : List A) (line : Line)
-    → put (Many (Then g.comma row)) (map (λ o. (tt, o)) (map value items)) line ≡ put_more row value items line
+    → with_value (Many (Then g.comma row)) (map (λ o. (tt, o)) (map value items)) line ≡ put_more row value items line
 more_put row value items line =
-    fold-map (λ l v. put (Then g.comma row) v l) (λ o. (tt, o)) line (map value items)
-    ∙ fold-map (λ l w. put row w (put g.comma tt l)) value line items
+    fold-map (λ l v. with_value (Then g.comma row) v l) (λ o. (tt, o)) line (map value items)
+    ∙ fold-map (λ l w. with_value row w (with_value g.comma tt l)) value line items
 
 pub list_put : {A : Type 0} (row : SyntaxRule) (value : A → Value row) (item : A) (others : List A) (line : Line)
-    → Some (put_more row value others (put row (value item) line)) ≡ put_maybe (g.listed row) (list_of value (item ∷ others)) line
-list_put row value item others line = ap (λ z. Some z) (sym (more_put row value others (put row (value item) line)))
+    → Some (put_more row value others (with_value row (value item) line)) ≡ put_maybe (g.listed row) (list_of value (item ∷ others)) line
+list_put row value item others line = ap (λ z. Some z) (sym (more_put row value others (with_value row (value item) line)))
 
 -- FAILURE GROUPS
 
 pub failgroup_put : (f : s.NewFailgroup) (disks : List s.NewDisk) (line : Line)
-    → put_maybe (g.listed g.disk) (list_of new_disk_value disks) (put (g.key (codes "DISK")) tt (put maybe_group_name (after_word f.name) (put (Maybe g.group_word) (quorum_value f.quorum) line)))
+    → put_maybe (g.listed g.disk) (list_of new_disk_value disks) (with_value (g.key (codes "DISK")) tt (with_value maybe_group_name (after_word f.name) (with_value (Maybe g.group_word) (quorum_value f.quorum) line)))
     ≡ put_maybe g.failgroup (failgroup_value f disks) line
 failgroup_put f [] line = refl
 failgroup_put f (d ∷ disks) line = refl
 
 -- the values of groups, of which the first has one
-next_put : (v : Value g.failgroup) (others : Option (List (Value g.failgroup))) (line : Line) → put_maybe (Many g.failgroup) (one_more (Some v) others) line ≡ put_maybe (Many g.failgroup) others (put g.failgroup v line)
+next_put : (v : Value g.failgroup) (others : Option (List (Value g.failgroup))) (line : Line) → put_maybe (Many g.failgroup) (one_more (Some v) others) line ≡ put_maybe (Many g.failgroup) others (with_value g.failgroup v line)
 next_put v None line = refl
 next_put v (Some vs) line = refl
 
 group_by : (o : Option (Value g.failgroup)) (groups : List s.NewFailgroup) (line next : Line) → put_maybe g.failgroup o line ≡ Some next
     → put_maybe (Many g.failgroup) (one_more o (failgroup_values groups)) line ≡ put_maybe (Many g.failgroup) (failgroup_values groups) next
 group_by None groups line next e = absurd cc
-group_by (Some v) groups line next e = let q : put g.failgroup v line ≡ next = cc in next_put v (failgroup_values groups) line ∙ ap (λ l. put_maybe (Many g.failgroup) (failgroup_values groups) l) q
+group_by (Some v) groups line next e = let q : with_value g.failgroup v line ≡ next = cc in next_put v (failgroup_values groups) line ∙ ap (λ l. put_maybe (Many g.failgroup) (failgroup_values groups) l) q
 
 pub no_groups : (groups : List s.NewFailgroup) (i : ℕ) (line : Line) → length groups ≤ i → groups_line (drop i groups) line ≡ Some line
 unfolding groups_line
@@ -71,6 +71,6 @@ failgroups_put (f ∷ groups) line e = first_put (failgroup_value f f.disks) (fa
 -- DISKS BY THEIR NAMES
 
 pub named_put : (names : List (List ℕ)) (line : Line)
-    → put_maybe (g.listed g.name) (list_of (λ n. n) names) (put (g.key (codes "DISK")) tt line) ≡ put_maybe g.some_disks (some_disks_value (s.Named names)) line
+    → put_maybe (g.listed g.name) (list_of (λ n. n) names) (with_value (g.key (codes "DISK")) tt line) ≡ put_maybe g.some_disks (some_disks_value (s.Named names)) line
 named_put [] line = refl
 named_put (n ∷ names) line = refl

@@ -13,7 +13,7 @@ use Rattle.asm_world.specs.Meaning.{Says}
 use Rattle.asm_world.specs.Statement as s
 use Rattle.asm_world.specs.Writing.{statement_value, statement_text, value_text}
 use Rattle.asm_world.proofs.Canon.{said_is_written}
-use Rattle.written_sql.specs.Lines.{Line, empty_line, stands_close, is_opening_mark, add_word, put, put_maybe, statement_line}
+use Rattle.written_sql.specs.Lines.{Line, empty_line, stands_close, is_opening_mark, add_word, with_value, put_maybe, statement_line}
 
 -- PIECES, one behind another
 
@@ -25,14 +25,14 @@ many : {A : Type 0} (f : A → Line → Line) (words : A → List Piece) → ((v
 many f words same [] line = refl
 many f words same (v ∷ vs) line = ap (λ l. fold (λ l v. f v l) l vs) (same v line) ∙ (many f words same vs (fold step line (words v)) ∙ sym (fold-append step line (words v) (flat_map words vs)))
 
-put_pieces : (row : SyntaxRule) (v : Value row) (line : Line) → put row v line ≡ fold step line (pieces row v)
+put_pieces : (row : SyntaxRule) (v : Value row) (line : Line) → with_value row v line ≡ fold step line (pieces row v)
 put_pieces (One w) v line = refl
-put_pieces (Then a b) (v, w) line = ap (λ l. put b w l) (put_pieces a v line) ∙ (put_pieces b w (fold step line (pieces a v)) ∙ sym (fold-append step line (pieces a v) (pieces b w)))
+put_pieces (Then a b) (v, w) line = ap (λ l. with_value b w l) (put_pieces a v line) ∙ (put_pieces b w (fold step line (pieces a v)) ∙ sym (fold-append step line (pieces a v) (pieces b w)))
 put_pieces (Either a b) (inl v) line = put_pieces a v line
 put_pieces (Either a b) (inr w) line = put_pieces b w line
 put_pieces (Maybe a) None line = refl
 put_pieces (Maybe a) (Some v) line = put_pieces a v line
-put_pieces (Many a) vs line = many (λ v l. put a v l) (λ v. pieces a v) (λ v l. put_pieces a v l) vs line
+put_pieces (Many a) vs line = many (λ v l. with_value a v l) (λ v. pieces a v) (λ v l. put_pieces a v l) vs line
 
 -- SPACES
 
@@ -88,10 +88,10 @@ written_is (p ∷ ps) = text_of p ps empty_line ∙ ap (λ b. space_unless b ++ 
 whole_by : (o : Option (Value g.statement)) (line : Line) → Some line ≡ put_maybe g.statement o empty_line → line.bytes ++ 59 ∷ [] ≡ value_text o
 whole_by None line e = absurd cc
 whole_by (Some v) line e =
-    let q : line ≡ put g.statement v empty_line = cc in
+    let q : line ≡ with_value g.statement v empty_line = cc in
     ap (λ (l : Line). l.bytes ++ 59 ∷ []) q ∙ ap (λ z. z ++ 59 ∷ []) (ap (λ (l : Line). l.bytes) (put_pieces g.statement v empty_line) ∙ written_is (pieces g.statement v))
 
-pub whole_text : (x : s.Statement) (line : Line) → Some line ≡ statement_line x empty_line → (put (One (Mark 59)) tt line).bytes ≡ statement_text x
+pub whole_text : (x : s.Statement) (line : Line) → Some line ≡ statement_line x empty_line → (with_value (One (Mark 59)) tt line).bytes ≡ statement_text x
 unfolding statement_line
 whole_text x line e = whole_by (statement_value x) line e
 

@@ -37,22 +37,22 @@ abbrev pub add_word : (w : Word) → Meaning w → Line → Line
 add_word w v line = record { bytes = line.bytes ++ (space_unless (stands_close w || line.close) ++ spell w v); close = is_opening_mark w }
 
 -- the words of a value behind the others
-abbrev pub put : (row : SyntaxRule) → Value row → Line → Line
-put (One w) v line = add_word w v line
-put (Then a b) (v, w) line = put b w (put a v line)
-put (Either a b) (inl v) line = put a v line
-put (Either a b) (inr w) line = put b w line
-put (Maybe a) None line = line
-put (Maybe a) (Some v) line = put a v line
-put (Many a) vs line = fold (λ l v. put a v l) line vs
+abbrev pub with_value : (row : SyntaxRule) → Value row → Line → Line
+with_value (One w) v line = add_word w v line
+with_value (Then a b) (v, w) line = with_value b w (with_value a v line)
+with_value (Either a b) (inl v) line = with_value a v line
+with_value (Either a b) (inr w) line = with_value b w line
+with_value (Maybe a) None line = line
+with_value (Maybe a) (Some v) line = with_value a v line
+with_value (Many a) vs line = fold (λ l v. with_value a v l) line vs
 
 -- the words of a value behind the others, where there is a value
 abbrev pub put_maybe : (row : SyntaxRule) → Option (Value row) → Line → Option Line
-put_maybe row value line = option_map (λ v. put row v line) value
+put_maybe row value line = option_map (λ v. with_value row v line) value
 
 -- items behind commas
 abbrev pub put_more : {A : Type 0} → (row : SyntaxRule) → (A → Value row) → List A → Line → Line
-put_more row value items line = fold (λ l item. put row (value item) (put g.comma tt l)) line items
+put_more row value items line = fold (λ l item. with_value row (value item) (with_value g.comma tt l)) line items
 
 -- an item, and the others behind commas; None where there is no item
 abbrev pub list_of : {A B : Type 0} → (A → B) → List A → Option (B × List (Unit {0} × B))
@@ -73,11 +73,11 @@ abbrev pub maybe_group_name : SyntaxRule
 maybe_group_name = Maybe (g.key (codes "FAILGROUP") ▸ g.name)
 
 -- ( word [word] )
-abbrev pub bracketed : SyntaxRule
-bracketed = g.opening ▸ g.template_words ▸ g.closing
+abbrev pub bracketed_words : SyntaxRule
+bracketed_words = g.opening ▸ g.template_words ▸ g.closing
 
 -- None where no word is said
-abbrev pub bracketed_value : s.TemplateWords → Option (Value bracketed)
+abbrev pub bracketed_value : s.TemplateWords → Option (Value bracketed_words)
 bracketed_value words = option_map (λ v. (tt, (v, tt))) (words_value words.redundancy words.stripe)
 
 -- None where no word is said

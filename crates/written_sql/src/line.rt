@@ -83,20 +83,20 @@ impl Line {
     }
 
     pub fn key(self, word: &[u8]) -> Result<Line, NoMemory>
-        ensures { IfOk result (λ longer. longer ≡ lines.put (g.key word.now) tt self) }
+        ensures { IfOk result (λ longer. longer ≡ lines.with_value (g.key word.now) tt self) }
     {
         self.word(word)
     }
 
     pub fn name(self, name: &Name) -> Result<Line, NoMemory>
-        ensures { IfOk result (λ longer. longer ≡ lines.put g.name name.now self) }
+        ensures { IfOk result (λ longer. longer ≡ lines.with_value g.name name.now self) }
     {
         self.word(name.as_bytes())
     }
 
     /// A path or a text, in quotes.
     pub fn quoted(self, text: &Text) -> Result<Line, NoMemory>
-        ensures { IfOk result (λ longer. longer ≡ lines.put g.path text.now self) }
+        ensures { IfOk result (λ longer. longer ≡ lines.with_value g.path text.now self) }
     {
         let line = self.word(b"'")?;
         let bytes = with_bytes(with_bytes(line.bytes, text.as_slice())?, b"'")?;
@@ -107,21 +107,21 @@ impl Line {
     }
 
     pub fn number(self, number: u64) -> Result<Line, NoMemory>
-        ensures { IfOk result (λ longer. longer ≡ lines.put g.number number self) }
+        ensures { IfOk result (λ longer. longer ≡ lines.with_value g.number number self) }
     {
         self.word(Buffer::new().format(number).as_bytes())
     }
 
     /// A size in bytes, without a letter.
     pub fn size(self, size: u64) -> Result<Line, NoMemory>
-        ensures { IfOk result (λ longer. longer ≡ lines.put g.size size self) }
+        ensures { IfOk result (λ longer. longer ≡ lines.with_value g.size size self) }
     {
         self.word(Buffer::new().format(size).as_bytes())
     }
 
     /// A time in minutes.
     pub fn minutes(self, minutes: u64) -> Result<Line, NoMemory>
-        ensures { IfOk result (λ longer. longer ≡ lines.put g.minutes minutes self) }
+        ensures { IfOk result (λ longer. longer ≡ lines.with_value g.minutes minutes self) }
     {
         let line = self.word(Buffer::new().format(minutes).as_bytes())?;
         let bytes = with_bytes(line.bytes, b"M")?;
@@ -132,7 +132,7 @@ impl Line {
     }
 
     pub fn mark(self, mark: u8) -> Result<Line, NoMemory>
-        ensures { IfOk result (λ longer. longer ≡ lines.put (One (Mark mark)) tt self) }
+        ensures { IfOk result (λ longer. longer ≡ lines.with_value (One (Mark mark)) tt self) }
     {
         let close = stands_close(mark) || self.close;
         let line = Line {

@@ -18,7 +18,7 @@ use std::alloc::Global;
 
 /// A group's kind and REDUNDANCY, where one is said.
 fn write_group_kind(line: Line, kind: Option<GroupKind>) -> Result<Line, NoMemory>
-    ensures { IfOk result (λ longer. longer ≡ lines.put maybe_redundancy (lines.kind_words kind) line) }
+    ensures { IfOk result (λ longer. longer ≡ lines.with_value maybe_redundancy (lines.kind_words kind) line) }
 {
     let word = match kind {
         Some(GroupKind::External) => b"EXTERNAL".as_slice(),
@@ -46,7 +46,7 @@ fn write_listed_attributes(
     first: &Attribute,
     others: &[Attribute],
 ) -> Result<Line, NoMemory>
-    ensures { IfOk result (λ longer. longer ≡ lines.put maybe_attributes (attributes_value (first.now ∷ others.now)) line) }
+    ensures { IfOk result (λ longer. longer ≡ lines.with_value maybe_attributes (attributes_value (first.now ∷ others.now)) line) }
 {
     let line = write_attribute(line.key(b"ATTRIBUTE")?, first)?;
     write_more_attributes(line, others)
@@ -54,7 +54,7 @@ fn write_listed_attributes(
 
 /// ATTRIBUTE and attributes, where there is one.
 fn write_attributes(line: Line, attributes: &[Attribute]) -> Result<Line, NoMemory>
-    ensures { IfOk result (λ longer. longer ≡ lines.put maybe_attributes (attributes_value attributes.now) line) }
+    ensures { IfOk result (λ longer. longer ≡ lines.with_value maybe_attributes (attributes_value attributes.now) line) }
 {
     match attributes {
         [] => Ok(line),

@@ -19,7 +19,7 @@ use group_sql::{
 };
 
 fn write_redundancy(line: Line, redundancy: Redundancy) -> Result<Line, NoMemory>
-    ensures { IfOk result (λ longer. longer ≡ lines.put g.redundancy (redundancy_value (redundancy_said redundancy)) line) }
+    ensures { IfOk result (λ longer. longer ≡ lines.with_value g.redundancy (redundancy_value (redundancy_said redundancy)) line) }
 {
     match redundancy {
         Redundancy::Unprotected => line.key(b"UNPROTECTED"),
@@ -29,7 +29,7 @@ fn write_redundancy(line: Line, redundancy: Redundancy) -> Result<Line, NoMemory
 }
 
 fn write_stripe(line: Line, stripe: Stripe) -> Result<Line, NoMemory>
-    ensures { IfOk result (λ longer. longer ≡ lines.put g.stripe (stripe_value stripe) line) }
+    ensures { IfOk result (λ longer. longer ≡ lines.with_value g.stripe (stripe_value stripe) line) }
 {
     match stripe {
         Stripe::Coarse => line.key(b"COARSE"),
@@ -55,7 +55,7 @@ fn write_words(line: Line, words: &TemplateWords) -> Result<Option<Line>, NoMemo
 /// The words of a template in brackets. None where no word is said.
 #[tactic(auto, using(crate::proofs::Wholes::bracketed_put))]
 fn write_bracketed(line: Line, words: &TemplateWords) -> Result<Option<Line>, NoMemory>
-    ensures { IfOk result (λ longer. longer ≡ lines.put_maybe lines.bracketed (lines.bracketed_value words.now) line) }
+    ensures { IfOk result (λ longer. longer ≡ lines.put_maybe lines.bracketed_words (lines.bracketed_value words.now) line) }
 {
     let Some(line) = write_words(line.mark(b'(')?, words)? else {
         return Ok(None);
@@ -74,7 +74,7 @@ fn write_template(line: Line, name: &Name, words: &TemplateWords) -> Result<Opti
 
 /// An attribute's name and its value.
 pub fn write_attribute(line: Line, attribute: &Attribute) -> Result<Line, NoMemory>
-    ensures { IfOk result (λ longer. longer ≡ lines.put g.attribute (attribute_value attribute.now) line) }
+    ensures { IfOk result (λ longer. longer ≡ lines.with_value g.attribute (attribute_value attribute.now) line) }
 {
     let line = line.quoted(&attribute.name)?.mark(b'=')?;
     line.quoted(&attribute.value)

@@ -15,21 +15,21 @@ use group_sql::{Disks, DroppedDisk, FailgroupKind, NewDisk, NewFailgroup, Rebala
 
 /// FORCE, where it is said.
 pub fn write_force(line: Line, force: bool) -> Result<Line, NoMemory>
-    ensures { IfOk result (λ longer. longer ≡ lines.put g.forced (forced_value force) line) }
+    ensures { IfOk result (λ longer. longer ≡ lines.with_value g.forced (forced_value force) line) }
 {
     if force { line.key(b"FORCE") } else { Ok(line) }
 }
 
 /// WAIT, where it is said.
 pub fn write_wait(line: Line, wait: bool) -> Result<Line, NoMemory>
-    ensures { IfOk result (λ longer. longer ≡ lines.put g.waiting (forced_value wait) line) }
+    ensures { IfOk result (λ longer. longer ≡ lines.with_value g.waiting (forced_value wait) line) }
 {
     if wait { line.key(b"WAIT") } else { Ok(line) }
 }
 
 /// SIZE and a size in bytes, where one is said.
 pub fn write_size(line: Line, size: Option<u64>) -> Result<Line, NoMemory>
-    ensures { IfOk result (λ longer. longer ≡ lines.put maybe_size (after_word size) line) }
+    ensures { IfOk result (λ longer. longer ≡ lines.with_value maybe_size (after_word size) line) }
 {
     match size {
         Some(size) => line.key(b"SIZE")?.size(size),
@@ -39,7 +39,7 @@ pub fn write_size(line: Line, size: Option<u64>) -> Result<Line, NoMemory>
 
 /// DROP AFTER and minutes, where they are said.
 pub fn write_after(line: Line, minutes: Option<u64>) -> Result<Line, NoMemory>
-    ensures { IfOk result (λ longer. longer ≡ lines.put maybe_after (after_value minutes) line) }
+    ensures { IfOk result (λ longer. longer ≡ lines.with_value maybe_after (after_value minutes) line) }
 {
     match minutes {
         Some(minutes) => line.key(b"DROP")?.key(b"AFTER")?.minutes(minutes),
@@ -49,7 +49,7 @@ pub fn write_after(line: Line, minutes: Option<u64>) -> Result<Line, NoMemory>
 
 /// POWER and a number, where one is said.
 fn write_power(line: Line, power: Option<u64>) -> Result<Line, NoMemory>
-    ensures { IfOk result (λ longer. longer ≡ lines.put maybe_power (after_word power) line) }
+    ensures { IfOk result (λ longer. longer ≡ lines.with_value maybe_power (after_word power) line) }
 {
     match power {
         Some(power) => line.key(b"POWER")?.number(power),
@@ -59,7 +59,7 @@ fn write_power(line: Line, power: Option<u64>) -> Result<Line, NoMemory>
 
 /// REBALANCE and its options.
 pub fn write_rebalance(line: Line, rebalance: Rebalance) -> Result<Line, NoMemory>
-    ensures { IfOk result (λ longer. longer ≡ lines.put g.rebalance (rebalance_value rebalance) line) }
+    ensures { IfOk result (λ longer. longer ≡ lines.with_value g.rebalance (rebalance_value rebalance) line) }
 {
     let line = write_power(line.key(b"REBALANCE")?, rebalance.power)?;
     write_wait(line, rebalance.wait)
@@ -67,7 +67,7 @@ pub fn write_rebalance(line: Line, rebalance: Rebalance) -> Result<Line, NoMemor
 
 /// REBALANCE and its options, where it is said.
 pub fn write_rebalanced(line: Line, rebalance: Option<Rebalance>) -> Result<Line, NoMemory>
-    ensures { IfOk result (λ longer. longer ≡ lines.put (Maybe g.rebalance) (maybe_rebalance rebalance) line) }
+    ensures { IfOk result (λ longer. longer ≡ lines.with_value (Maybe g.rebalance) (maybe_rebalance rebalance) line) }
 {
     match rebalance {
         Some(rebalance) => write_rebalance(line, rebalance),
@@ -77,7 +77,7 @@ pub fn write_rebalanced(line: Line, rebalance: Option<Rebalance>) -> Result<Line
 
 /// NAME and a name, where one is said.
 fn write_named(line: Line, name: &Option<Name>) -> Result<Line, NoMemory>
-    ensures { IfOk result (λ longer. longer ≡ lines.put maybe_name (after_word name.now) line) }
+    ensures { IfOk result (λ longer. longer ≡ lines.with_value maybe_name (after_word name.now) line) }
 {
     match name {
         Some(name) => line.key(b"NAME")?.name(name),
@@ -87,7 +87,7 @@ fn write_named(line: Line, name: &Option<Name>) -> Result<Line, NoMemory>
 
 /// A disk's path and its options.
 fn write_disk(line: Line, disk: &NewDisk) -> Result<Line, NoMemory>
-    ensures { IfOk result (λ longer. longer ≡ lines.put g.disk (new_disk_value disk.now) line) }
+    ensures { IfOk result (λ longer. longer ≡ lines.with_value g.disk (new_disk_value disk.now) line) }
 {
     let line = write_named(line.quoted(&disk.path)?, &disk.name)?;
     let line = write_size(line, disk.size)?;
@@ -118,7 +118,7 @@ fn write_disks(line: Line, disks: &[NewDisk]) -> Result<Option<Line>, NoMemory>
 
 /// QUORUM, where it is said.
 fn write_quorum(line: Line, quorum: bool) -> Result<Line, NoMemory>
-    ensures { IfOk result (λ longer. longer ≡ lines.put (Maybe g.group_word) (quorum_value quorum) line) }
+    ensures { IfOk result (λ longer. longer ≡ lines.with_value (Maybe g.group_word) (quorum_value quorum) line) }
 {
     if quorum {
         line.key(b"QUORUM")
@@ -129,7 +129,7 @@ fn write_quorum(line: Line, quorum: bool) -> Result<Line, NoMemory>
 
 /// FAILGROUP and a name, where one is said.
 fn write_group_name(line: Line, name: &Option<Name>) -> Result<Line, NoMemory>
-    ensures { IfOk result (λ longer. longer ≡ lines.put lines.maybe_group_name (after_word name.now) line) }
+    ensures { IfOk result (λ longer. longer ≡ lines.with_value lines.maybe_group_name (after_word name.now) line) }
 {
     match name {
         Some(name) => line.key(b"FAILGROUP")?.name(name),
@@ -174,7 +174,7 @@ pub fn write_failgroups(line: Line, groups: &[NewFailgroup]) -> Result<Option<Li
 
 /// A dropped disk's name, and FORCE where it is said.
 fn write_dropped(line: Line, disk: &DroppedDisk) -> Result<Line, NoMemory>
-    ensures { IfOk result (λ longer. longer ≡ lines.put dropped_disk (dropped_value disk.now) line) }
+    ensures { IfOk result (λ longer. longer ≡ lines.with_value dropped_disk (dropped_value disk.now) line) }
 {
     write_force(line.name(&disk.name)?, disk.force)
 }
@@ -225,7 +225,7 @@ fn write_names(line: Line, names: &[Name]) -> Result<Option<Line>, NoMemory>
 
 /// The kind of a failure group, where one is said.
 fn write_kind(line: Line, kind: Option<FailgroupKind>) -> Result<Line, NoMemory>
-    ensures { IfOk result (λ longer. longer ≡ lines.put (Maybe g.group_word) (option_map group_word_value (maybe_kind_said kind)) line) }
+    ensures { IfOk result (λ longer. longer ≡ lines.with_value (Maybe g.group_word) (option_map group_word_value (maybe_kind_said kind)) line) }
 {
     match kind {
         Some(FailgroupKind::Quorum) => line.key(b"QUORUM"),
@@ -240,7 +240,7 @@ pub fn write_in_failgroup(
     kind: Option<FailgroupKind>,
     name: &Name,
 ) -> Result<Line, NoMemory>
-    ensures { IfOk result (λ longer. longer ≡ lines.put g.in_failgroup (lines.in_group_value (maybe_kind_said kind) name.now) line) }
+    ensures { IfOk result (λ longer. longer ≡ lines.with_value g.in_failgroup (lines.in_group_value (maybe_kind_said kind) name.now) line) }
 {
     let line = write_kind(line.key(b"IN")?, kind)?;
     line.key(b"FAILGROUP")?.name(name)

@@ -3,11 +3,11 @@
 ghost use Rattle.std.specs.Prelude.{◌≡◌, ◌⊎◌, ◌<◌, ◌≤◌, ◌^◌, ◌+◌, ◌++◌, ◌∷◌, [], Err, IfErr, IfOk, IsTrue, List as Items, None, Ok, OnOk, Some, ℕ, is_some, length, map, true};
 ghost use Rattle.std.specs.List.{All};
 ghost use Rattle.asm_formats.specs.Items.{Node as FormatNode, file_item, is_item, node_item, settings_item};
-ghost use Rattle.asm_base.specs.Refusals.{said};
+ghost use Rattle.asm_base.specs.Refusals.{meaning_of};
 ghost use Rattle.asm_base.specs.Tables.{item_record};
 ghost use Rattle.asm_group.specs.Refusal.{NoMemory as OutOfMemory};
 ghost use Rattle.plan_records.specs.alias_edits.Edits.{IsRefusal, are_parts};
-ghost use Rattle.plan_records.specs.alias_edits.Filing.{IsFiling, filed, nodes_missing, with_nodes};
+ghost use Rattle.plan_records.specs.alias_edits.Filing.{IsFiling, tree_with_file, nodes_missing, with_nodes};
 ghost use Rattle.plan_records.specs.alias_tree.Nodes.{IsNodeTable, Numbered, node_at, record_of_node as node_entry};
 ghost use Rattle.plan_records.specs.alias_tree.Trees.{tree_of};
 ghost use Rattle.plan_records.specs.file_directory.Files.{record_of_file as file_entry};
@@ -74,7 +74,7 @@ impl Catalog {
         requires pending { IsTrue (is_some self.now.tables.operations.pending) }
         requires parts { HasParts (name_meant name) }
         ensures nodes { IfOk result (λ made. AreNewNodes self.now.tables.nodes made.items (system_path self.now.tables (name_meant name.entry)) (made_file self.now.tables)) }
-        ensures refused { IfErr result (λ e. (said (λ n. []) e ≡ OutOfMemory) ⊎ (filed (tree_of self.now.tables.nodes) (system_path self.now.tables (name_meant name.entry)) (made_file self.now.tables) ≡ Err (said (λ n. []) e))) }
+        ensures refused { IfErr result (λ e. (meaning_of (λ n. []) e ≡ OutOfMemory) ⊎ (tree_with_file (tree_of self.now.tables.nodes) (system_path self.now.tables (name_meant name.entry)) (made_file self.now.tables) ≡ Err (meaning_of (λ n. []) e))) }
     {
         let file = self.made_file();
         let incarnation = self.settings().incarnation;
@@ -97,14 +97,14 @@ impl Catalog {
     ) -> Result<Vec<(u32, Node)>, TreeError>
         requires parts { IsTrue (are_parts path.now.parts) }
         requires three { length path.now.parts ≡ 3 }
-        ensures done { IfOk result (λ made. filed (tree_of self.now.tables.nodes) path.now.parts file ≡ Ok (tree_of (with_nodes self.now.tables.nodes made.items))) }
+        ensures done { IfOk result (λ made. tree_with_file (tree_of self.now.tables.nodes) path.now.parts file ≡ Ok (tree_of (with_nodes self.now.tables.nodes made.items))) }
         ensures nodes { IfOk result (λ made. IsFiling self.now.tables.nodes made.items path.now.parts file) }
         ensures table { IfOk result (λ made. IsNodeTable (with_nodes self.now.tables.nodes made.items)) }
         ensures fresh { IfOk result (λ made. All (λ (x : Numbered). node_at self.now.tables.nodes x.0 ≡ None) made.items) }
         ensures items { IfOk result (λ made. All (λ (x : Numbered). is_item (node_item x.0 x.1) ≡ true) made.items) }
         ensures count { IfOk result (λ made. length made.items ≡ nodes_missing (tree_of self.now.tables.nodes) path.now.parts) }
         ensures few { IfOk result (λ made. length made.items ≤ length path.now.parts) }
-        ensures refused { IfErr result (IsRefusal (filed (tree_of self.now.tables.nodes) path.now.parts file)) }
+        ensures refused { IfErr result (IsRefusal (tree_with_file (tree_of self.now.tables.nodes) path.now.parts file)) }
     {
         plan_file(&self.parts.tree, alloc, path, file)
     }

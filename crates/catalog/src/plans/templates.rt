@@ -16,7 +16,7 @@ use std::alloc::Global;
 impl Catalog {
     /// The change that an edit of the templates is. It is refused as TemplateTable::edit refuses it. The name is one of the
     /// grammar, and copies that are said are one, two or three.
-    #[tactic(auto, using(crate::proofs::TemplatePlans::edit_planned), unfolding(asm_base::specs::Refusals::said))]
+    #[tactic(auto, using(crate::proofs::TemplatePlans::edit_planned), unfolding(asm_base::specs::Refusals::meaning_of))]
     pub fn plan_template(&self, alloc: Global, edit: &TemplateEdit) -> Result<Change, Refusal>
         requires edit { IsTrue (is_template_edit (template_edit_meant edit.now)) }
         ensures planned { IfOk result (λ change. IsTemplatePlan self.now (template_edit_meant edit.now) change.put change.gone) }

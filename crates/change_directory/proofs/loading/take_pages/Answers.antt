@@ -1,6 +1,6 @@
 use Rattle.std.proofs.Common.{◌≡◌, ◌+◌, ◌∷◌, [], ℕ, Some}
 use Rattle.std.proofs.lemmas.Result.{err_from_is_err_and}
-use Rattle.change_directory.specs.Slots.{all_slots, cut, damaged_page}
+use Rattle.change_directory.specs.Slots.{all_slots, blocks_of, damaged_page}
 use Rattle.change_directory.proofs.PageRows.{damage_next, taken_start, taken_next}
 use Rattle.change_directory.proofs.Orders.{goes_nowhere, page_goes_on}
 use Rattle.change_directory.proofs.LoadAnswers.{damage_of_err}
@@ -27,6 +27,6 @@ returns-in_err-take_page-clause-damage c =
     let home = c.block_at-home.result.bytes in
     let e = err_from_is_err_and c.from_residual.result c.from_residual.ensures.1 in
     rw (e.1, e.2)
-    (damage_of_err c.in_err-take_page.field-0.0 (λ (block : ℕ). damaged_page slots (c.args.first + c.loop-i.i) (home ∷ []) ≡ Some block) (λ (block : ℕ). damaged_page slots c.args.first (cut c.args.count c.args.bytes.now) ≡ Some block)
+    (damage_of_err c.in_err-take_page.field-0.0 (λ (block : ℕ). damaged_page slots (c.args.first + c.loop-i.i) (home ∷ []) ≡ Some block) (λ (block : ℕ). damaged_page slots c.args.first (blocks_of c.args.count c.args.bytes.now) ≡ Some block)
     (λ block damage. damage_next slots c.args.first c.loop-i.i c.args.count block c.args.bytes.now home _ _ c.loop-i-test.true c.block_at-home.ensures c.loop-i.invariant.taken damage)
     c.in_err-take_page.ensures.damage)

@@ -1,15 +1,15 @@
 use Rattle.std.proofs.Common.{refl}
-use Rattle.asm_base.specs.Refusals.{said}
+use Rattle.asm_base.specs.Refusals.{meaning_of}
 use Rattle.disk_joining.proofs.joining.checked.Goals as goal
 
 pub returns-in-Err-clause-refused : goal.returns-in-Err-clause-refused
-unfolding said
+unfolding meaning_of
 returns-in-Err-clause-refused c = refl
 
 pub returns-then-not-may_join-clause-refused : goal.returns-then-not-may_join-clause-refused
-unfolding said
+unfolding meaning_of
 returns-then-not-may_join-clause-refused c = refl
 
 pub returns-then-not-are_asked-clause-refused : goal.returns-then-not-are_asked-clause-refused
-unfolding said
+unfolding meaning_of
 returns-then-not-are_asked-clause-refused c = refl

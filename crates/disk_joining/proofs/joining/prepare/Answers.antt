@@ -2,7 +2,7 @@ use Rattle.std.proofs.Common.{◌≡◌, ℕ, [], List, length, map, true, refl,
 use Rattle.std.specs.String.{string_bytes}
 use Rattle.std.proofs.lemmas.List.{length-map}
 use Rattle.std.proofs.lemmas.Result.{IfErr-weaker, IfOk-weaker}
-use Rattle.asm_base.specs.Refusals.{said}
+use Rattle.asm_base.specs.Refusals.{meaning_of}
 use Rattle.asm_world.specs.NewDisks.{PlannedDisk}
 use Rattle.new_groups.proofs.Formed.{looks_none}
 use Rattle.disk_joining.specs.AddCauses.IsNotPrepared.{by_too_many, by_lack_of_memory}
@@ -36,10 +36,10 @@ returns-in-Ok-look_at_images-clause-asked g c =
 pub returns-in-Ok-look_at_images-clause-refused : goal.returns-in-Ok-look_at_images-clause-refused
 returns-in-Ok-look_at_images-clause-refused g c =
     IfErr-weaker c.planned.result _ _
-    (λ refusal is. look_refused c.args.known.now c.args.m.now (map string_bytes c.args.paths.now) c.args.groups.now c.in-Ok.asked c.in-Ok-look_at_images.looked.items c.deref.result.now (said (λ any. []) refusal) (g.B.Bay.state c.args.bay.now) (g.B.Bay.state c.look_at_images.new.bay)
+    (λ refusal is. look_refused c.args.known.now c.args.m.now (map string_bytes c.args.paths.now) c.args.groups.now c.in-Ok.asked c.in-Ok-look_at_images.looked.items c.deref.result.now (meaning_of (λ any. []) refusal) (g.B.Bay.state c.args.bay.now) (g.B.Bay.state c.look_at_images.new.bay)
     c.in-Ok.ensures.disks c.in-Ok.ensures.terms c.deref.ensures.value (c.in-Ok-look_at_images.ensures.count ∙ sym (length-map c.args.paths.now string_bytes)) c.in-Ok-look_at_images.ensures.each is)
     c.planned.ensures.refused
 
 pub returns-clause-refused : goal.returns-clause-refused
-unfolding said
+unfolding meaning_of
 returns-clause-refused g c = by_lack_of_memory refl

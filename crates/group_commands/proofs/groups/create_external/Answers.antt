@@ -1,5 +1,5 @@
 use Rattle.std.proofs.Common.{refl, sym, ◌∙◌}
-use Rattle.asm_base.specs.Refusals.{said}
+use Rattle.asm_base.specs.Refusals.{meaning_of}
 use Rattle.session.proofs.Desks.{from-same}
 use Rattle.group_commands.proofs.Named.{too_many, exists_already}
 use Rattle.group_commands.proofs.groups.create_external.Goals as goal
@@ -20,7 +20,7 @@ returns-then-is_full g c = record {
 }
 
 pub returns-then-has : goal.returns-then-has
-unfolding said
+unfolding meaning_of
 returns-then-has g c = record {
   answers = record {
     paths = refl;

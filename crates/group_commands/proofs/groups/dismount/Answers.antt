@@ -1,5 +1,5 @@
 use Rattle.std.proofs.Common.{◌≡◌, List, length, ap, subst, refl, sym, ◌∙◌, is_some, true, false}
-use Rattle.asm_base.specs.Refusals.{said}
+use Rattle.asm_base.specs.Refusals.{meaning_of}
 use Rattle.asm_world.specs.Command.{Said}
 use Rattle.asm_world.specs.Statement.{Alter, Dismount}
 use Rattle.asm_world.specs.World.{SessionEntry, entry_in, without_entry}
@@ -14,7 +14,7 @@ use Rattle.session.proofs.Ready.{left_ready}
 use Rattle.group_commands.proofs.groups.dismount.Goals as goal
 
 pub returns-then-not-leave : goal.returns-then-not-leave
-unfolding said
+unfolding meaning_of
 returns-then-not-leave g c =
     let says : meaning c.args.text.now ≡ Said (Alter c.args.name (Dismount c.args._force)) = meaning_is c.args.text.now _ c.requires.asked in
     record {

@@ -4,7 +4,7 @@ use Rattle.std.proofs.lemmas.List.{length-map}
 use Rattle.std.specs.Prelude.{IfSome, IsSome}
 use Rattle.std.proofs.lemmas.Option.{IfSome_then}
 use Rattle.asm_group.specs.Refusal as r
-use Rattle.asm_base.specs.Refusals.{said}
+use Rattle.asm_base.specs.Refusals.{meaning_of}
 use Rattle.asm_world.specs.Reply.{Done, Refused}
 use Rattle.session.specs.group_disks.Found.{IsEarly, RefusalCause, counts_of}
 use Rattle.session.specs.Sessions.{SessionView}
@@ -68,7 +68,7 @@ returns-in-Err g c =
     let made = c.create_group-made.result.0 in
     let n = length c.deref.result.now in
     let seen = map string_bytes c.deref.result.now in
-    let why = said (λ _. []) c.in-Err.refusal in
+    let why = meaning_of (λ _. []) c.in-Err.refusal in
     let fresh : IfSome made (λ id. old.given ≤ id) = IfSome_then made c.create_group-made.ensures.floor (λ id above. omega (arith, above, c.next_id-floor.ensures.floor)) in
     record {
       answers = answered-found c.args.text.now _ c.args.desk.now _ c.create_group-made.new.ids.items made seen (Refused [] why) refl refl
@@ -76,8 +76,8 @@ returns-in-Err g c =
           (ap (map string_bytes) c.deref.ensures.value) refl refl
           (λ w below knows. was_refused seen c.args.text.now c.args.name c.args.path.now c.requires.says c.create_group-made.new.ids.items (λ slot. slot < n) old below w knows (c.requires.room w knows.entries_are) c.requires.absent
           c.next_id-floor.ensures.given s t c.create_group-made.ensures.ids (is_ok c.create_group-made.result.1) (g.met.B.Bay.sound c.args.desk.now.bay) c.create_group-made.ensures.attached made c.gave.new.self why
-          (of_err (λ refusal. IsEarly (said (λ _. []) refusal) → made ≡ None) c.create_group-made.result.1 c.in-Err.refusal c.in-Err.is c.create_group-made.ensures.early)
-          (of_err (λ refusal. RefusalCause seen c.args.path.now (said (λ _. []) refusal) (counts_of s) (counts_of t)) c.create_group-made.result.1 c.in-Err.refusal c.in-Err.is c.create_group-made.ensures.cause)
+          (of_err (λ refusal. IsEarly (meaning_of (λ _. []) refusal) → made ≡ None) c.create_group-made.result.1 c.in-Err.refusal c.in-Err.is c.create_group-made.ensures.early)
+          (of_err (λ refusal. RefusalCause seen c.args.path.now (meaning_of (λ _. []) refusal) (counts_of s) (counts_of t)) c.create_group-made.result.1 c.in-Err.refusal c.in-Err.is c.create_group-made.ensures.cause)
           fresh c.create_group-made.ensures.above_read
           (as_many (λ slot. slot < n) n (length seen) c.args.name (is_ok c.create_group-made.result.1) s t made (sym (length-map c.deref.result.now string_bytes)) c.create_group-made.ensures.moments)
           (ap (λ (v : SessionView). v.given) c.gave.ensures) (ap (λ (v : SessionView). v.entries) c.gave.ensures) (ap (λ (v : SessionView). v.groups) c.gave.ensures) (ap (λ (v : SessionView). v.place) c.gave.ensures));

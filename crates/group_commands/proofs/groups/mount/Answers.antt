@@ -1,5 +1,5 @@
 use Rattle.std.proofs.Common.{◌≡◌, List, Result, ap, refl, subst, sym, ◌∙◌}
-use Rattle.asm_base.specs.Refusals.{said}
+use Rattle.asm_base.specs.Refusals.{meaning_of}
 use Rattle.asm_base.specs.declared.refusal.Refusal.{Refusal}
 use Rattle.asm_world.specs.Causes.{is_mounted_as}
 use Rattle.asm_world.specs.Command.{Said}
@@ -14,7 +14,7 @@ use Rattle.group_commands.proofs.MountDesks.{any_refused_answers, done_answers}
 use Rattle.group_commands.proofs.groups.mount.Goals as goal
 
 pub returns-then-has_mounted : goal.returns-then-has_mounted
-unfolding said
+unfolding meaning_of
 returns-then-has_mounted g c =
     let says : meaning c.args.text.now ≡ Said (Alter c.args.group (Mount c.args.force)) = meaning_is c.args.text.now _ c.requires.asked in
     record {

@@ -5,7 +5,7 @@ use Rattle.std.proofs.lemmas.Bool.{false≢true}
 use Rattle.std.proofs.lemmas.Grind.{common_steps}
 use Rattle.std.proofs.lemmas.List.{length-map}
 use Rattle.std.proofs.lemmas.Result.{IfErr-weaker, IfOk-weaker}
-use Rattle.asm_base.specs.Refusals.{said}
+use Rattle.asm_base.specs.Refusals.{meaning_of}
 use Rattle.group_disks.specs.Creating.{made_group}
 use Rattle.group_disks.specs.Found.{counts_of}
 use Rattle.group_disks.proofs.Causes.{memory_cause, memory_is_late}
@@ -36,7 +36,7 @@ returns-in-Err g c =
     }
 
 pub returns-then-is_held : goal.returns-then-is_held
-unfolding said
+unfolding meaning_of
 returns-then-is_held g c =
     let looks = c.prepare.ensures.looks in
     record {
@@ -71,11 +71,11 @@ returns-in-Ok-form g c =
     record {
       ids = ids_later s m t c.form.ensures.runs ids looks.ids;
       cause = IfErr-weaker c.mount_new.result _ _
-          (λ refusal is. memory_cause paths c.args.path.now (counts_of s) (counts_of t) (said (λ any. []) refusal) is)
+          (λ refusal is. memory_cause paths c.args.path.now (counts_of s) (counts_of t) (meaning_of (λ any. []) refusal) is)
           c.mount_new.ensures.err;
       given = first_of (search rules, grind (arith, common_steps));
       early = IfErr-weaker c.mount_new.result _ _
-          (λ refusal is early. absurd (memory_is_late (said (λ any. []) refusal) is early))
+          (λ refusal is early. absurd (memory_is_late (meaning_of (λ any. []) refusal) is early))
           c.mount_new.ensures.err;
       above = plan_above s t paths n ids _ group c.group.view_is (length-map c.args.paths.now string_bytes)
           (all_later s m t c.form.ensures.runs n ids (λ at below. c.form.ensures.attached.same at) c.in-Ok.ensures.looks.all) ready.above;

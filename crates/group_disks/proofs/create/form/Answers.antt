@@ -1,6 +1,6 @@
 use Rattle.std.proofs.Common.{rules, arith}
 use Rattle.std.proofs.lemmas.Grind.{common_steps}
-use Rattle.asm_base.specs.Refusals.{said}
+use Rattle.asm_base.specs.Refusals.{meaning_of}
 use Rattle.group_disks.proofs.FirstMounts.{forms_says}
 use Rattle.group_disks.proofs.Moments.{forms_creates, forms_founds}
 use Rattle.group_disks.proofs.create.form.Goals as goal
@@ -21,7 +21,7 @@ returns-in-Err-Fault g c =
     record { attached = first_of (search rules, grind (arith, common_steps)); runs = runs; done = tt; says = tt; store = tt; cause = first_of (search rules, grind (arith, common_steps)) }
 
 pub returns-in-Err-NoMemory : goal.returns-in-Err-NoMemory
-unfolding said
+unfolding meaning_of
 returns-in-Err-NoMemory g c =
     let room = c.requires.room in
     let runs = forms_creates c.args.slot room.size c.args.group.now (g.met.B.Bay.sound c.args.bay.now) room.attached c.requires.plan room.inside c.give_parts.ensures.gives.runs in

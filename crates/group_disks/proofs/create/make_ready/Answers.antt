@@ -1,11 +1,11 @@
 use Rattle.std.proofs.Common.{refl}
-use Rattle.asm_base.specs.Refusals.{said}
+use Rattle.asm_base.specs.Refusals.{meaning_of}
 use Rattle.group_disks.proofs.create.make_ready.Goals as goal
 
 pub returns-in_default-clause-err : goal.returns-in_default-clause-err
-unfolding said
+unfolding meaning_of
 returns-in_default-clause-err c = refl
 
 pub returns-in_default-first_bodies-clause-err : goal.returns-in_default-first_bodies-clause-err
-unfolding said
+unfolding meaning_of
 returns-in_default-first_bodies-clause-err c = refl

@@ -3,7 +3,7 @@ use Rattle.std.proofs.lemmas.Grind.{common_steps}
 use Rattle.std.proofs.lemmas.List.{length-map}
 use Rattle.std.proofs.lemmas.Result.{IfErr-weaker, IfOk-weaker}
 use Rattle.std.specs.String.{string_bytes}
-use Rattle.asm_base.specs.Refusals.{said}
+use Rattle.asm_base.specs.Refusals.{meaning_of}
 use Rattle.bay.specs.Counts.{last_count}
 use Rattle.bay.specs.State.{BayState}
 use Rattle.bay.proofs.Calls.{started}
@@ -32,11 +32,11 @@ pub returns-in_default : goal.returns-in_default
 returns-in_default g c = record { looks = nothing_read _ _ _ _ c.requires.none; ready = tt; cause = first_of (search rules, grind (arith, common_steps)) }
 
 pub returns-in_default-first_disk_name : goal.returns-in_default-first_disk_name
-unfolding said
+unfolding meaning_of
 returns-in_default-first_disk_name g c = record { looks = nothing_read _ _ _ _ c.requires.none; ready = tt; cause = tt }
 
 pub returns-in_default-look_at_all : goal.returns-in_default-look_at_all
-unfolding said
+unfolding meaning_of
 returns-in_default-look_at_all g c =
     let looks = c.look_at_all.ensures.looks in
     record { looks = record { runs = looks.runs; calls = looks.calls; stays = looks.stays; ids = looks.ids; all = tt }; ready = tt; cause = tt }
@@ -45,7 +45,7 @@ pub returns-in-Err : goal.returns-in-Err
 returns-in-Err g c =
     let looks = c.look_at_all.ensures.looks in
     let cause = unusable_cause (map string_bytes c.args.paths.now) c.args.path.now c.in-Ok.disk c.in-Some.slot c.in-Some.ensures (counts_of (g.B.Bay.state c.args.bay.now)) (counts_of (g.B.Bay.state c.look_at_all.new.bay))
-    c.in-Ok-look_at_all.probe c.in-Ok-look_at_all.ensures.shown (said (λ any. []) c.in-Err.refusal) c.in-Err.ensures.cause in
+    c.in-Ok-look_at_all.probe c.in-Ok-look_at_all.ensures.shown (meaning_of (λ any. []) c.in-Err.refusal) c.in-Err.ensures.cause in
     record { looks = record { runs = looks.runs; calls = looks.calls; stays = looks.stays; ids = looks.ids; all = tt }; ready = tt; cause = cause }
 
 pub returns-in-Ok-usable_units : goal.returns-in-Ok-usable_units
@@ -84,6 +84,6 @@ returns-in-Ok-usable_units g c =
           })
           made;
       cause = IfErr-weaker c.make_ready.result _ _
-          (λ refusal is. memory_cause (map string_bytes c.args.paths.now) c.args.path.now (counts_of s) (counts_of t) (said (λ any. []) refusal) is)
+          (λ refusal is. memory_cause (map string_bytes c.args.paths.now) c.args.path.now (counts_of s) (counts_of t) (meaning_of (λ any. []) refusal) is)
           c.make_ready.ensures.err;
     }

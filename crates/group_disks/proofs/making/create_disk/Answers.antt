@@ -3,7 +3,7 @@ use Rattle.std.specs.String.{string_bytes}
 use Rattle.std.proofs.lemmas.List.{length-map}
 use Rattle.std.proofs.lemmas.Result.{err_from_is_err_and}
 use Rattle.bay.specs.declared.fault.BayError.{BayError}
-use Rattle.asm_base.specs.Refusals.{said}
+use Rattle.asm_base.specs.Refusals.{meaning_of}
 use Rattle.group_disks.specs.Found.{counts_of}
 use Rattle.group_disks.proofs.Makes.{failed_cause, held_cause, is_made, looked_held, looked_spares, looks_stay, made_spares, made_spares_held, made_stays, no_slot_cause, not_free, nothing_changed, nothing_held, nothing_made, was_free}
 use Rattle.group_disks.proofs.Spared.{free_of}
@@ -15,7 +15,7 @@ bounds-paths-slot g c =
 
 pub returns-in_default-clause-cause : goal.returns-in_default-clause-cause
 returns-in_default-clause-cause g c =
-    no_slot_cause (map string_bytes c.args.paths.now) c.args.path.now c.args.held.now (said (λ any. []) c.no_disk.result) (counts_of (g.B.Bay.state c.args.bay.now)) c.in_default.ensures c.no_disk.ensures
+    no_slot_cause (map string_bytes c.args.paths.now) c.args.path.now c.args.held.now (meaning_of (λ any. []) c.no_disk.result) (counts_of (g.B.Bay.state c.args.bay.now)) c.in_default.ensures c.no_disk.ensures
 
 pub returns-in_default-clause-attached : goal.returns-in_default-clause-attached
 returns-in_default-clause-attached g c =
@@ -31,7 +31,7 @@ returns-in_default-clause-held g c =
 
 pub returns-then-is_held-clause-cause : goal.returns-then-is_held-clause-cause
 returns-then-is_held-clause-cause g c =
-    held_cause (map string_bytes c.args.paths.now) c.args.path.now c.args.held.now c.in-Some.slot c.in-Some.ensures (said (λ any. []) c.disk_taken.result) (counts_of (g.B.Bay.state c.args.bay.now)) c.is_held.result c.is_held.ensures c.if-is_held.true c.disk_taken.ensures
+    held_cause (map string_bytes c.args.paths.now) c.args.path.now c.args.held.now c.in-Some.slot c.in-Some.ensures (meaning_of (λ any. []) c.disk_taken.result) (counts_of (g.B.Bay.state c.args.bay.now)) c.is_held.result c.is_held.ensures c.if-is_held.true c.disk_taken.ensures
 
 pub returns-then-is_held-clause-attached : goal.returns-then-is_held-clause-attached
 returns-then-is_held-clause-attached g c =
@@ -46,7 +46,7 @@ returns-then-is_held-clause-held g c =
     nothing_held (map string_bytes c.args.paths.now) c.args.path.now c.args.held.now (length c.args.paths.now) (g.B.Bay.state c.args.bay.now)
 
 pub returns-in_default-look_at-clause-cause : goal.returns-in_default-look_at-clause-cause
-unfolding said
+unfolding meaning_of
 returns-in_default-look_at-clause-cause g c = tt
 
 pub returns-in_default-look_at-clause-attached : goal.returns-in_default-look_at-clause-attached
@@ -64,7 +64,7 @@ returns-in_default-look_at-clause-held g c =
 pub returns-in_err-check_free-clause-cause : goal.returns-in_err-check_free-clause-cause
 returns-in_err-check_free-clause-cause g c =
     let f = err_from_is_err_and c.from_residual.result c.from_residual.ensures.1 in
-    rw (f.1, f.2) (not_free (map string_bytes c.args.paths.now) c.args.path.now c.args.held.now c.in-Some.slot c.in-Some.ensures (g.B.Bay.state c.args.bay.now) (g.B.Bay.state c.look_at.new.bay) c.in-Ok.looked (said (λ any. []) c.in_err-check_free.field-0.0) (g.met.B.Bay.sound c.look_at.new.bay) c.look_at.ensures.looks c.in-Ok.ensures.looked c.in_err-check_free.ensures.cause)
+    rw (f.1, f.2) (not_free (map string_bytes c.args.paths.now) c.args.path.now c.args.held.now c.in-Some.slot c.in-Some.ensures (g.B.Bay.state c.args.bay.now) (g.B.Bay.state c.look_at.new.bay) c.in-Ok.looked (meaning_of (λ any. []) c.in_err-check_free.field-0.0) (g.met.B.Bay.sound c.look_at.new.bay) c.look_at.ensures.looks c.in-Ok.ensures.looked c.in_err-check_free.ensures.cause)
 
 pub returns-in_err-check_free-clause-attached : goal.returns-in_err-check_free-clause-attached
 returns-in_err-check_free-clause-attached g c =
@@ -98,7 +98,7 @@ returns-in-Ok-make-clause-held g c =
 
 pub returns-in-Err-Fault-clause-cause : goal.returns-in-Err-Fault-clause-cause
 returns-in-Err-Fault-clause-cause g c =
-    failed_cause (map string_bytes c.args.paths.now) c.args.path.now c.args.held.now c.in-Some.slot c.in-Some.ensures (said (λ any. []) c.no_disk-in-Err-Fault.result) (g.B.Bay.state c.args.bay.now) (g.B.Bay.state c.look_at.new.bay) (g.B.Bay.state c.make.new.self) c.look_at.ensures.looks (c.in-Err-Fault.ensures.cause (ap (λ (e : BayError). Err e) c.in-Err-Fault.field-0-is)) c.no_disk-in-Err-Fault.ensures
+    failed_cause (map string_bytes c.args.paths.now) c.args.path.now c.args.held.now c.in-Some.slot c.in-Some.ensures (meaning_of (λ any. []) c.no_disk-in-Err-Fault.result) (g.B.Bay.state c.args.bay.now) (g.B.Bay.state c.look_at.new.bay) (g.B.Bay.state c.make.new.self) c.look_at.ensures.looks (c.in-Err-Fault.ensures.cause (ap (λ (e : BayError). Err e) c.in-Err-Fault.field-0-is)) c.no_disk-in-Err-Fault.ensures
 
 pub returns-in-Err-Fault-clause-attached : goal.returns-in-Err-Fault-clause-attached
 returns-in-Err-Fault-clause-attached g c =
@@ -113,7 +113,7 @@ returns-in-Err-Fault-clause-held g c =
     made_spares_held (map string_bytes c.args.paths.now) c.args.path.now c.args.held.now c.in-Some.slot c.in-Some.ensures (free_of c.args.held.now c.in-Some.slot c.is_held.result c.is_held.ensures c.if-is_held.false) (length c.args.paths.now) (omega (arith, c.in-Some.ensures.below, length-map c.args.paths.now string_bytes)) c.look_at.ensures.looks c.make.ensures.runs
 
 pub returns-in-Err-NoMemory-clause-cause : goal.returns-in-Err-NoMemory-clause-cause
-unfolding said
+unfolding meaning_of
 returns-in-Err-NoMemory-clause-cause g c = tt
 
 pub returns-in-Err-NoMemory-clause-attached : goal.returns-in-Err-NoMemory-clause-attached

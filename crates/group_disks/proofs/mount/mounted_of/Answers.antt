@@ -1,5 +1,5 @@
 use Rattle.std.proofs.Common.{List, Option, sym, ap, subst, ◌∙◌}
-use Rattle.group_engine.specs.Making.{made}
+use Rattle.group_engine.specs.Making.{group_of_parts}
 use Rattle.group_engine.specs.Mounts.{IsWhole}
 use Rattle.group_engine.specs.declared.attached.Attached.{Attached}
 use Rattle.group_disks.specs.Mounting.{HaveDiskNumbers, by_number}
@@ -10,8 +10,8 @@ by_number-disks-requires c = subst HaveDiskNumbers (sym c.deref.ensures.value) c
 
 pub new-requires : goal.new-requires
 new-requires c =
-    subst (λ (l : List (Option Attached)). IsWhole (made c.args.parts.name c.args.parts.catalog c.args.parts.store c.args.parts.register l)) (sym (c.by_number-disks.ensures ∙ ap by_number c.deref.ensures.value)) c.requires.whole
+    subst (λ (l : List (Option Attached)). IsWhole (group_of_parts c.args.parts.name c.args.parts.catalog c.args.parts.store c.args.parts.register l)) (sym (c.by_number-disks.ensures ∙ ap by_number c.deref.ensures.value)) c.requires.whole
 
 pub returns : goal.returns
 returns c =
-    c.new.ensures ∙ ap (λ (l : List (Option Attached)). made c.args.parts.name c.args.parts.catalog c.args.parts.store c.args.parts.register l) (c.by_number-disks.ensures ∙ ap by_number c.deref.ensures.value)
+    c.new.ensures ∙ ap (λ (l : List (Option Attached)). group_of_parts c.args.parts.name c.args.parts.catalog c.args.parts.store c.args.parts.register l) (c.by_number-disks.ensures ∙ ap by_number c.deref.ensures.value)

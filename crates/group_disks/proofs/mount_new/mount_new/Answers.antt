@@ -1,6 +1,6 @@
 use Rattle.std.proofs.Common.{sym, ap, subst, refl}
 use Rattle.std.specs.Prelude.{IsTrue}
-use Rattle.asm_base.specs.Refusals.{said}
+use Rattle.asm_base.specs.Refusals.{meaning_of}
 use Rattle.asm_formats.specs.Status.{Status, is_status}
 use Rattle.group_mount.specs.catalog_tables.Faults.{IsCatalogOf}
 use Rattle.group_disks.specs.Planned.{Plan}
@@ -9,7 +9,7 @@ use Rattle.group_disks.proofs.FirstMount.{first_mounted, first_slots, first_whol
 use Rattle.group_disks.proofs.mount_new.mount_new.Goals as goal
 
 pub returns-in_default-clause-err : goal.returns-in_default-clause-err
-unfolding said
+unfolding meaning_of
 returns-in_default-clause-err g c = refl
 
 pub standing-register-requires-clause-status : goal.standing-register-requires-clause-status

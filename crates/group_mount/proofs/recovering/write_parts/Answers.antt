@@ -1,7 +1,7 @@
 use Rattle.std.proofs.Common.{◌≡◌, ◌∙◌, List, Some, None, sym, ap, subst}
 use Rattle.asm_formats.specs.Status.{Status}
-use Rattle.status_register.specs.Holders.{numbered}
-use Rattle.status_register.specs.Registered.{registered}
+use Rattle.status_register.specs.Holders.{with_next_number}
+use Rattle.status_register.specs.Registered.{register_of}
 use Rattle.status_register.specs.Surveys.{missing}
 use Rattle.status_register.specs.Writes.{first_register}
 use Rattle.status_register.specs.declared.member.Member.{Member}
@@ -26,7 +26,7 @@ pub returns-in-Ok-clause-parts : goal.returns-in-Ok-clause-parts
 returns-in-Ok-clause-parts g c = λ now is.
     let q = c.args.quorate in
     parts_are q (g.B.Bay.state c.args.bay.now) c.requires.quorum now c.args.anew is c.in-Ok.register
-    (c.in-Ok.ensures.register ∙ ap (λ (l : List Member). first_register (numbered (registered q.survey) c.args.anew.next) l) (c.deref.ensures.value ∙ is.members))
+    (c.in-Ok.ensures.register ∙ ap (λ (l : List Member). first_register (with_next_number (register_of q.survey) c.args.anew.next) l) (c.deref.ensures.value ∙ is.members))
     (g.B.Bay.state c.write_register.new.bay) c.in-Ok.ensures.stands c.write_register.ensures.attached c.write_register.ensures.front
 
 pub returns-in-Ok-clause-runs : goal.returns-in-Ok-clause-runs
@@ -52,7 +52,7 @@ returns-in-Ok-clause-leaves g c = λ groups may.
     record {
       moments = left_moments q s c.requires.quorum now c.args.anew is groups may t c.write_register.ensures.groups;
       one = leaves_one q s c.requires.quorum now c.args.anew is groups may c.in-Ok.register
-          (c.in-Ok.ensures.register ∙ ap (λ (l : List Member). first_register (numbered (registered q.survey) c.args.anew.next) l) (c.deref.ensures.value ∙ is.members))
+          (c.in-Ok.ensures.register ∙ ap (λ (l : List Member). first_register (with_next_number (register_of q.survey) c.args.anew.next) l) (c.deref.ensures.value ∙ is.members))
           t c.write_register.ensures.attached c.write_register.ensures.front c.in-Ok.ensures.held c.in-Ok.ensures.history;
     }
 

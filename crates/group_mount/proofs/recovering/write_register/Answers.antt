@@ -1,9 +1,9 @@
 use Rattle.std.proofs.Common.{◌≡◌, ◌∙◌, Some, sym, ap, subst, IsTrue}
 use Rattle.asm_formats.specs.Content.{Content}
 use Rattle.asm_formats.specs.Status.{Status, is_status}
-use Rattle.status_register.specs.Holders.{numbered}
+use Rattle.status_register.specs.Holders.{with_next_number}
 use Rattle.status_register.specs.Keeping.{KeepsStanding}
-use Rattle.status_register.specs.Registered.{Registered, registered}
+use Rattle.status_register.specs.Registered.{Registered, register_of}
 use Rattle.status_register.specs.Surveys.{missing}
 use Rattle.status_register.specs.Writes.{first_register}
 use Rattle.group_mount.specs.Writing.{KeepsAnyRegister, KeepsRegister, mount_of}
@@ -29,7 +29,7 @@ returns-in-Ok-clause-history g c =
     let next = c.args.next.now in
     let ms = c.args.members.now in
     let renewed = c.in-Ok.ensures.register in
-    let same : c.standing.result ≡ first_register (numbered (registered survey) next) ms =
+    let same : c.standing.result ≡ first_register (with_next_number (register_of survey) next) ms =
     c.standing.ensures.register ∙ ap (λ (r : Status). first_register r ms) (c.value.ensures ∙ ap (λ (x : Registered). x.value) renewed) in
     subst (λ (x : Registered). (content : Content) → KeepsAnyRegister (mount_of survey next content) x s t) (sym same)
     (any_register s t survey next ms (subst (λ (x : Registered). (content : Content) → KeepsRegister (mount_of survey next content) x s t) renewed c.in-Ok.ensures.history)

@@ -1,7 +1,7 @@
 use Rattle.std.proofs.Common.{arith}
 use Rattle.asm_formats.specs.Status.{status_spelling}
 use Rattle.asm_formats.proofs.Orders.{same_sets_follow}
-use Rattle.status_register.specs.Holders.{attached_to, numbered}
+use Rattle.status_register.specs.Holders.{attached_to, with_next_number}
 use Rattle.status_register.specs.Slots.{status_gate}
 use Rattle.status_register.proofs.Ordering.{row_runs}
 use Rattle.status_register.proofs.Taking.{kept_among}
@@ -26,7 +26,7 @@ returns-in-Ok-clause-answer g c =
     (a.0, kept_among (RoseAt s t) (attached_to c.args.register.members c.args.next.now) a.0 a.1, a.2, a.3.0, c.in-Ok.ensures.register)
 
 pub returns-in-Ok-clause-runs : goal.returns-in-Ok-clause-runs
-returns-in-Ok-clause-runs g c = row_runs (status_gate c.args.register.id) (attached_to c.args.register.members c.args.next.now) (status_spelling (numbered c.args.register c.args.next.now)) (g.B.Bay.state c.args.bay.now) (g.B.Bay.state c.write.new.bay) c.write.ensures.calls.runs
+returns-in-Ok-clause-runs g c = row_runs (status_gate c.args.register.id) (attached_to c.args.register.members c.args.next.now) (status_spelling (with_next_number c.args.register c.args.next.now)) (g.B.Bay.state c.args.bay.now) (g.B.Bay.state c.write.new.bay) c.write.ensures.calls.runs
 
 pub returns-in-Err-clause-runs : goal.returns-in-Err-clause-runs
-returns-in-Err-clause-runs g c = row_runs (status_gate c.args.register.id) (attached_to c.args.register.members c.args.next.now) (status_spelling (numbered c.args.register c.args.next.now)) (g.B.Bay.state c.args.bay.now) (g.B.Bay.state c.write.new.bay) c.write.ensures.calls.runs
+returns-in-Err-clause-runs g c = row_runs (status_gate c.args.register.id) (attached_to c.args.register.members c.args.next.now) (status_spelling (with_next_number c.args.register c.args.next.now)) (g.B.Bay.state c.args.bay.now) (g.B.Bay.state c.write.new.bay) c.write.ensures.calls.runs

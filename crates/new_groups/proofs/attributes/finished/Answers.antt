@@ -1,7 +1,7 @@
 use Rattle.std.proofs.Common.{inr, refl}
-use Rattle.asm_base.specs.Refusals.{said}
+use Rattle.asm_base.specs.Refusals.{meaning_of}
 use Rattle.new_groups.proofs.attributes.finished.Goals as goal
 
 pub returns-then-not-is_allowed-clause-refused : goal.returns-then-not-is_allowed-clause-refused
-unfolding said
+unfolding meaning_of
 returns-then-not-is_allowed-clause-refused c = inr refl

@@ -2,7 +2,7 @@ use Rattle.std.proofs.Common.{[], length, map, sym, ap}
 use Rattle.std.specs.String.{string_bytes}
 use Rattle.std.proofs.lemmas.List.{length-map}
 use Rattle.std.proofs.lemmas.Result.{IfErr-weaker, IfOk-weaker}
-use Rattle.asm_base.specs.Refusals.{said}
+use Rattle.asm_base.specs.Refusals.{meaning_of}
 use Rattle.new_groups.specs.Preparing.{not_formed}
 use Rattle.new_groups.specs.declared.preparing.Ready.{Ready}
 use Rattle.new_groups.proofs.Formed.{looks_spare, looks_stay, newly_as, work_spares, works_stay}
@@ -33,5 +33,5 @@ returns-in-Ok-clause-cause g c =
     IfErr-weaker c.form_ready-made.result _ _
     (λ refusal is. not_formed
     (form_failed (length c.args.paths.now) (length (map string_bytes c.args.paths.now)) c.args.known.now.held.items c.in-Ok.ready.draft.disks.items (g.B.Bay.state c.args.bay.now) (g.B.Bay.state c.prepare.new.bay) (g.B.Bay.state c.form_ready-made.new.bay)
-    (sym (length-map c.args.paths.now string_bytes)) c.in-Ok.ensures.free c.prepare.ensures.looks.runs (said (λ any. []) refusal) is))
+    (sym (length-map c.args.paths.now string_bytes)) c.in-Ok.ensures.free c.prepare.ensures.looks.runs (meaning_of (λ any. []) refusal) is))
     c.form_ready-made.ensures.cause

@@ -1,4 +1,4 @@
-use Rattle.asm_base.specs.Refusals.{said}
+use Rattle.asm_base.specs.Refusals.{meaning_of}
 use Rattle.new_groups.proofs.Formed.{disks_stay, disks_there, newly}
 use Rattle.new_groups.proofs.create.form_ready.Goals as goal
 
@@ -18,5 +18,5 @@ returns-in-Ok-mount_formed-clause-mounted g c =
     c.in-Ok.ensures.formed c.in-Ok-mount_formed.ensures.made c.in-Ok-mount_formed.ensures.whole
 
 pub returns-in-Ok-clause-cause : goal.returns-in-Ok-clause-cause
-unfolding said
+unfolding meaning_of
 returns-in-Ok-clause-cause g c = tt

@@ -1,6 +1,6 @@
-use Rattle.asm_base.specs.Refusals.{said}
+use Rattle.asm_base.specs.Refusals.{meaning_of}
 use Rattle.new_groups.proofs.forming.+fault_of.Goals as goal
 
 pub returns-in_default : goal.returns-in_default
-unfolding said
+unfolding meaning_of
 returns-in_default t c = tt

@@ -1,7 +1,7 @@
 use Rattle.std.proofs.Common.{refl}
-use Rattle.asm_base.specs.Refusals.{said}
+use Rattle.asm_base.specs.Refusals.{meaning_of}
 use Rattle.new_groups.proofs.forming.refusal_of.Goals as goal
 
 pub returns-in-NoMemory : goal.returns-in-NoMemory
-unfolding said
+unfolding meaning_of
 returns-in-NoMemory c = rw c.in-NoMemory.is refl

@@ -1,7 +1,7 @@
 use Rattle.std.proofs.Common.{List, Option, sym, ap, subst, ◌∙◌}
 use Rattle.asm_formats.specs.Among.{IsAmong}
 use Rattle.group_disks.specs.Mounting.{by_number}
-use Rattle.group_disks.specs.group_engine.Making.{made}
+use Rattle.group_disks.specs.group_engine.Making.{group_of_parts}
 use Rattle.group_disks.specs.group_engine.Mounts.{IsWhole}
 use Rattle.group_disks.specs.group_engine.declared.attached.Attached.{Attached}
 use Rattle.group_disks.specs.group_mount.declared.finding.Headed.{Headed}
@@ -20,7 +20,7 @@ new-requires g c =
 
 pub returns-clause-made : goal.returns-clause-made
 returns-clause-made g c =
-    c.new.ensures ∙ ap (λ (l : List (Option Attached)). made c.args.draft.name c.args.catalog c.args.formed.store c.args.formed.register l) (c.by_number-disks.ensures ∙ ap (λ (l : List Headed). by_number (disk_list l)) c.deref.ensures.value)
+    c.new.ensures ∙ ap (λ (l : List (Option Attached)). group_of_parts c.args.draft.name c.args.catalog c.args.formed.store c.args.formed.register l) (c.by_number-disks.ensures ∙ ap (λ (l : List Headed). by_number (disk_list l)) c.deref.ensures.value)
 
 pub returns-clause-whole : goal.returns-clause-whole
 returns-clause-whole g c =

@@ -1,8 +1,8 @@
 use Rattle.std.proofs.Common.{inl, sym, ◌∙◌}
-use Rattle.asm_base.specs.Refusals.{said}
+use Rattle.asm_base.specs.Refusals.{meaning_of}
 use Rattle.new_groups.proofs.Refused.{names_clash}
 use Rattle.new_groups.proofs.preparing.check_names.Goals as goal
 
 pub returns-then-is_name_taken-clause-refused : goal.returns-then-is_name_taken-clause-refused
-unfolding said
+unfolding meaning_of
 returns-then-is_name_taken-clause-refused c = inl (names_clash c.args.disks.now (sym c.is_name_taken.ensures ∙ c.if-is_name_taken.true))

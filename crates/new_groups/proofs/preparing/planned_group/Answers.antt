@@ -1,11 +1,11 @@
 use Rattle.std.proofs.Common.{inr, refl}
-use Rattle.asm_base.specs.Refusals.{said}
+use Rattle.asm_base.specs.Refusals.{meaning_of}
 use Rattle.new_groups.proofs.preparing.planned_group.Goals as goal
 
 pub returns-in-Ok-None-clause-refused : goal.returns-in-Ok-None-clause-refused
-unfolding said
+unfolding meaning_of
 returns-in-Ok-None-clause-refused c = inr refl
 
 pub returns-clause-refused : goal.returns-clause-refused
-unfolding said
+unfolding meaning_of
 returns-clause-refused c = inr refl

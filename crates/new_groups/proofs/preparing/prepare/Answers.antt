@@ -2,7 +2,7 @@ use Rattle.std.proofs.Common.{[], length, map, sym, ◌∙◌, refl}
 use Rattle.std.specs.String.{string_bytes}
 use Rattle.std.proofs.lemmas.List.{length-map}
 use Rattle.std.proofs.lemmas.Result.{IfErr-weaker, IfOk-weaker}
-use Rattle.asm_base.specs.Refusals.{said}
+use Rattle.asm_base.specs.Refusals.{meaning_of}
 use Rattle.group_disks.specs.attribute_values.Creations.{creation_meant}
 use Rattle.new_groups.proofs.Formed.{looks_none}
 use Rattle.new_groups.proofs.Passing.{prepared_above, prepared_agrees, prepared_free}
@@ -39,14 +39,14 @@ returns-in-Err-planned_disks-clause-cause g c =
     count_refused (map string_bytes c.args.paths.now) c.args.asked.now c.args.known.now (g.B.Bay.state c.args.bay.now) (g.B.Bay.state c.args.bay.now) c.as_slice-2.result.now _ c.as_slice-2.ensures c.in-Err-planned_disks.ensures.refused
 
 pub returns-in-Err-look-clause-cause : goal.returns-in-Err-look-clause-cause
-unfolding said
+unfolding meaning_of
 returns-in-Err-look-clause-cause g c = by_memory refl
 
 pub returns-clause-cause : goal.returns-clause-cause
 returns-clause-cause g c =
     IfErr-weaker c.planned_group-ready.result _ _
     (λ refusal is. look_refused (map string_bytes c.args.paths.now) c.args.asked.now c.args.known.now (g.B.Bay.state c.args.bay.now) (g.B.Bay.state c.look.new.bay) c.as_slice.result.now c.as_slice-2.result.now
-    (creation_meant c.in-Ok.creation) c.in-Ok-look.looked.items c.deref-2.result.now c.in-Ok-planned_disks.planned.disks.items c.in-Ok-planned_disks.planned.terms.items (said (λ any. []) refusal)
+    (creation_meant c.in-Ok.creation) c.in-Ok-look.looked.items c.deref-2.result.now c.in-Ok-planned_disks.planned.disks.items c.in-Ok-planned_disks.planned.terms.items (meaning_of (λ any. []) refusal)
     c.as_slice.ensures c.as_slice-2.ensures c.in-Ok.ensures.given c.deref-2.ensures.value (c.in-Ok-look.ensures.count ∙ sym (length-map c.args.paths.now string_bytes)) c.in-Ok-look.ensures.each
     c.in-Ok-planned_disks.ensures.planned c.in-Ok-planned_disks.ensures.terms is)
     c.planned_group-ready.ensures.refused

@@ -1,11 +1,11 @@
 use Rattle.std.proofs.Common.{refl}
-use Rattle.asm_base.specs.Refusals.{said}
+use Rattle.asm_base.specs.Refusals.{meaning_of}
 use Rattle.new_groups.proofs.preparing.ready_draft.Goals as goal
 
 pub returns-then-draft-id-clause-refused : goal.returns-then-draft-id-clause-refused
-unfolding said
+unfolding meaning_of
 returns-then-draft-id-clause-refused c = refl
 
 pub returns-in-Err-clause-refused : goal.returns-in-Err-clause-refused
-unfolding said
+unfolding meaning_of
 returns-in-Err-clause-refused c = refl

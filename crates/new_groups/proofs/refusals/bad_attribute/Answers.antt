@@ -1,12 +1,12 @@
 use Rattle.std.proofs.Common.{inl, inr, ℕ, List, refl, ap}
 use Rattle.asm_group.specs.Refusal.{BadAttribute}
-use Rattle.asm_base.specs.Refusals.{said}
+use Rattle.asm_base.specs.Refusals.{meaning_of}
 use Rattle.new_groups.proofs.refusals.bad_attribute.Goals as goal
 
 pub returns-in-Ok : goal.returns-in-Ok
-unfolding said
+unfolding meaning_of
 returns-in-Ok c = inl (ap (λ (t : List ℕ). BadAttribute t) c.in-Ok.ensures)
 
 pub returns-in-Err : goal.returns-in-Err
-unfolding said
+unfolding meaning_of
 returns-in-Err c = inr refl

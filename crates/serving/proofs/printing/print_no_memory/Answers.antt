@@ -1,12 +1,12 @@
 use Rattle.std.proofs.Common.{refl}
 use Rattle.std.specs.Fmt.{digits}
-use Rattle.asm_base.specs.Refusals.{said}
+use Rattle.asm_base.specs.Refusals.{meaning_of}
 use Rattle.serving.proofs.printing.print_no_memory.Goals as goal
 
 pub returns-clause-reply : goal.returns-clause-reply
-unfolding said
+unfolding meaning_of
 returns-clause-reply g c = refl
 
 pub returns-clause-bytes : goal.returns-clause-bytes
-unfolding said digits
+unfolding meaning_of digits
 returns-clause-bytes g c = c.write_all.ensures.bytes

@@ -1,7 +1,7 @@
 use Rattle.std.proofs.Common.{refl}
-use Rattle.asm_base.specs.Refusals.{said}
+use Rattle.asm_base.specs.Refusals.{meaning_of}
 use Rattle.session.proofs.refusing.too_many_groups.Goals as goal
 
 pub returns : goal.returns
-unfolding said
+unfolding meaning_of
 returns c = refl

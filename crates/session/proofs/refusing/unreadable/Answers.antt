@@ -1,12 +1,12 @@
 use Rattle.std.proofs.Common.{refl}
-use Rattle.asm_base.specs.Refusals.{said}
+use Rattle.asm_base.specs.Refusals.{meaning_of}
 use Rattle.asm_world.specs.Command.{Unreadable}
 use Rattle.session.proofs.Languages.{meaning_is}
 use Rattle.session.proofs.Outcomes.{unreadable}
 use Rattle.session.proofs.refusing.unreadable.Goals as goal
 
 pub returns : goal.returns
-unfolding said
+unfolding meaning_of
 returns g c = record {
   answers = record {
     paths = refl;

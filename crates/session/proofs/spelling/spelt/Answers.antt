@@ -1,7 +1,7 @@
 use Rattle.std.proofs.Common.{inr, refl}
-use Rattle.asm_base.specs.Refusals.{said}
+use Rattle.asm_base.specs.Refusals.{meaning_of}
 use Rattle.session.proofs.spelling.spelt.Goals as goal
 
 pub returns-in-Err : goal.returns-in-Err
-unfolding said
+unfolding meaning_of
 returns-in-Err c = inr refl

@@ -1,5 +1,5 @@
 use Rattle.std.proofs.Common.{ap}
-use Rattle.asm_base.specs.Refusals.{said}
+use Rattle.asm_base.specs.Refusals.{meaning_of}
 use Rattle.asm_group.specs.Names.{Bytes}
 use Rattle.asm_group.specs.Refusal as r
 use Rattle.session.specs.Entries.{disk_name}
@@ -8,7 +8,7 @@ use Rattle.session.proofs.spelling.spelt_refusal.Goals as goal
 use Rattle.session.proofs.spelling.spelt_refusal.Goals.{in-NoDisk+in_ok-spelt_disk-in-NoDisk, in-TooSmall+in_ok-spelt_disk-in-TooSmall, in-MissingDisks+in_ok-spelt_disk-in-MissingDisks, in-ReadFault+in_ok-spelt_disk-in-ReadFault, in-WriteFault+in_ok-spelt_disk-in-WriteFault, in-Dismounted+in_ok-spelt_disk-in-Dismounted, in-DiskState+in_ok-spelt_disk-in-DiskState, in-HoldsStatus+in_ok-spelt_disk-in-HoldsStatus, in-HoldsDirectories+in_ok-spelt_disk-in-HoldsDirectories, in_default}
 
 pub returns : goal.returns
-unfolding said
+unfolding meaning_of
 returns c = elim c.match-refusal.branch [
   | in-NoDisk+in_ok-spelt_disk-in-NoDisk w ↦ rw (w.result-is, w.in-NoDisk.is) (ap (λ (n : Bytes). r.NoDisk n) w.in_ok-spelt_disk-in-NoDisk.ensures)
   | in-TooSmall+in_ok-spelt_disk-in-TooSmall w ↦ rw (w.result-is, w.in-TooSmall.is) (ap (λ (n : Bytes). r.TooSmall n w.in-TooSmall.need) w.in_ok-spelt_disk-in-TooSmall.ensures)

@@ -1,11 +1,11 @@
 use Rattle.std.proofs.Common.{inr, refl}
-use Rattle.asm_base.specs.Refusals.{said}
+use Rattle.asm_base.specs.Refusals.{meaning_of}
 use Rattle.session.proofs.Carrying.{carries_none}
 use Rattle.session.proofs.Telling.{no_memory_out}
 use Rattle.session.proofs.session.Session.join.Goals as goal
 
 pub returns-in-Err : goal.returns-in-Err
-unfolding said
+unfolding meaning_of
 returns-in-Err g c = record {
   found = tt;
   out = inr (inr refl);

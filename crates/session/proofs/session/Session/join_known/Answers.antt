@@ -1,6 +1,6 @@
 use Rattle.std.proofs.Common.{◌≡◌, ⊎_elim, inl, inr, map, refl, sym}
 use Rattle.std.specs.Map.{set_value}
-use Rattle.asm_base.specs.Refusals.{said}
+use Rattle.asm_base.specs.Refusals.{meaning_of}
 use Rattle.asm_base.specs.declared.refusal.Refusal.TheVariants.{NoGroup}
 use Rattle.session.specs.declared.entry.Entry.{Entry}
 use Rattle.session.specs.Entries.{entry_view}
@@ -14,7 +14,7 @@ use Rattle.session.proofs.session.Session.join_known.Goals as goal
 use Rattle.session.proofs.session.Session.join_known.Goals.{in-Ok, in-Err}
 
 pub returns-in_default : goal.returns-in_default
-unfolding said
+unfolding meaning_of
 returns-in_default g c =
     let ready = rw (← c.self.view_is) at c.requires.ready in
     rw (c.get_mut.follows.holds-at-none, ← c.self.view_is) (record {

@@ -1,6 +1,6 @@
 use Rattle.std.proofs.Common.{refl, sym, ap, ◌∙◌}
 use Rattle.std.specs.Prelude.{is_none}
-use Rattle.asm_base.specs.Refusals.{said}
+use Rattle.asm_base.specs.Refusals.{meaning_of}
 use Rattle.asm_base.specs.declared.refusal.Refusal.TheVariants.{NoGroup}
 use Rattle.group_contents.specs.group_engine.Making.{dismounted_by}
 use Rattle.group_contents.specs.group_engine.declared.access.Access.{Access}
@@ -9,7 +9,7 @@ use Rattle.session.proofs.Outs.{absent_out, shut_out}
 use Rattle.session.proofs.session.Session.mounted.Goals as goal
 
 pub returns-in_default-clause-cause : goal.returns-in_default-clause-cause
-unfolding said
+unfolding meaning_of
 returns-in_default-clause-cause c = rw (← c.self.view_is) (absent_out c.args.name.now c.self.inside.groups.entries NoGroup (sym c.in_default.ensures.value) refl)
 
 pub returns-in-Ok-clause-found : goal.returns-in-Ok-clause-found

@@ -1,7 +1,7 @@
 use Rattle.std.proofs.Common.{◌≡◌, ◌∙◌, Ok, Err, IsTrue, false, sym, ap, subst, List, Option}
 use Rattle.bay.specs.State.{BayState}
 use Rattle.asm_formats.specs.Status.{Status, is_status, status_spelling}
-use Rattle.status_register.specs.Holders.{HoldSlots, attached_to, next_turn, numbered}
+use Rattle.status_register.specs.Holders.{HoldSlots, attached_to, next_turn, with_next_number}
 use Rattle.status_register.specs.Keeping.{KeepsOn}
 use Rattle.status_register.specs.Reaching.{Reaches}
 use Rattle.status_register.specs.Registered.{Registered}
@@ -24,10 +24,10 @@ use Rattle.status_register.proofs.register.Register.write.Goals as goal
 turn_is : (g : Over) (c : After-renumbered-status g) → c.saturating_add-turn.result ≡ next_turn c.args.self.now.turn
 turn_is g c = c.saturating_add-turn.ensures ∙ ap (λ (r : Registered). next_turn r.turn) c.self.view_is
 
-status_is : (g : Over) (c : After-renumbered-status g) → c.renumbered-status.result ≡ numbered c.args.self.now c.args.next.now
+status_is : (g : Over) (c : After-renumbered-status g) → c.renumbered-status.result ≡ with_next_number c.args.self.now c.args.next.now
 status_is g c = c.renumbered-status.ensures.value ∙ (λ i. record c.args.next.now { epoch = (c.self.view_is i).epoch; turn = turn_is g c i })
 
-allowed : (g : Over) (c : After-renumbered-status g) → IsTrue (is_status (numbered c.args.self.now c.args.next.now))
+allowed : (g : Over) (c : After-renumbered-status g) → IsTrue (is_status (with_next_number c.args.self.now c.args.next.now))
 allowed g c = subst (λ (r : Status). IsTrue (is_status r)) (status_is g c) (c.renumbered-status.ensures.kept c.requires.status)
 
 given : (g : Over) (c : After-renumbered-status g) (t : BayState)
@@ -54,7 +54,7 @@ returns-in-Err g c =
     let said = given g place t in
     let calls = said.calls c.write_record.ensures.calls in
     let answer = said.answer (Err c.in-Err.dead) c.in-Err.ensures.answer in
-    let run = row_runs (status_gate old.id) (attached_to old.members next) (status_spelling (numbered old next)) s t calls.runs in
+    let run = row_runs (status_gate old.id) (attached_to old.members next) (status_spelling (with_next_number old next)) s t calls.runs in
     let made : Registered = record { id = c.self.inside.id; members = c.self.inside.members; value = c.self.inside.value; epoch = c.self.inside.epoch; turn = c.saturating_add-turn.result; is_fresh = c.self.inside.is_fresh } in
     let made_is : made ≡ after_write old next (Err c.in-Err.dead) = λ i. record (c.self.view_is i) { turn = turn_is g place i } in
     record {
@@ -80,12 +80,12 @@ returns-in-Ok g c =
     let said = given g place t in
     let calls = said.calls c.write_record.ensures.calls in
     let answer = said.answer (Ok c.in-Ok.failed) c.in-Ok.ensures.answer in
-    let run = row_runs (status_gate old.id) ms (status_spelling (numbered old next)) s t calls.runs in
+    let run = row_runs (status_gate old.id) ms (status_spelling (with_next_number old next)) s t calls.runs in
     let made : Registered = record { id = c.self.inside.id; members = c.self.inside.members; value = c.renumbered-status.result; epoch = c.self.inside.epoch; turn = c.saturating_add-turn.result; is_fresh = false } in
     let made_is : made ≡ after_write old next (Ok c.in-Ok.failed) = λ i. record (c.self.view_is i) { value = status_is g place i; turn = turn_is g place i; is_fresh = false } in
     record {
       answer = answer;
-      shown = show_but s t (numbered old next) ms answer.0 c.in-Ok.failed (λ m h. (are_holders old.members next m h).0) answer.2 answer.3.1;
+      shown = show_but s t (with_next_number old next) ms answer.0 c.in-Ok.failed (λ m h. (are_holders old.members next m h).0) answer.2 answer.3.1;
       failed = failed_alone s t ms answer.0 c.in-Ok.failed answer.1 answer.3.1;
       register = made_is;
       allowed = allowed g place;

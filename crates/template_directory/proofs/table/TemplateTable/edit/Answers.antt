@@ -1,5 +1,5 @@
 use Rattle.std.proofs.Common.{inl, refl}
-use Rattle.asm_base.specs.Refusals.{said}
+use Rattle.asm_base.specs.Refusals.{meaning_of}
 use Rattle.template_directory.specs.Meant.{template_edit_meant}
 use Rattle.template_directory.proofs.EditLaws.{done_is, refused_is}
 use Rattle.template_directory.proofs.table.TemplateTable.edit.Goals as goal
@@ -12,5 +12,5 @@ returns-in-Ok-clause-done c =
     done_is c.args.kind c.args.self.now.templates c.apply.new.self.templates (template_edit_meant c.args.edit.now) c.refusal.ensures.allowed c.in_default.ensures.cause c.in-Ok.ensures.ok
 
 pub returns-in-Err-clause-refused : goal.returns-in-Err-clause-refused
-unfolding said
+unfolding meaning_of
 returns-in-Err-clause-refused c = inl refl
