@@ -10,9 +10,8 @@ ghost use Rattle.record_values.specs.Values.{node_reading};
 ghost use Rattle.alias_tree.specs.Readings.{is_node_key};
 
 use crate::node::Node;
-use asm_base::{
-    Key, NoMemory, Reader, Value, is_at_end, record_kind, take_name, take_node_kind, take_u32,
-};
+use asm_base::{Key, NoMemory, Reader, Value, is_at_end, record_kind, take_name, take_u32};
+use byte_codes::take_node_kind;
 use std::alloc::Global;
 
 /// The node that a record says, or None where it isn't of the formats.

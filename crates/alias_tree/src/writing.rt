@@ -7,9 +7,8 @@ ghost use Rattle.asm_base.specs.Cursors.{PutsField};
 ghost use Rattle.asm_base.specs.Tables.{item_record};
 
 use crate::node::Node;
-use asm_base::{
-    Block, Key, NoMemory, Value, Writer, put_name, put_node_kind, put_u32, record_kind,
-};
+use asm_base::{Block, Key, NoMemory, Value, Writer, put_name, put_u32, record_kind};
+use byte_codes::put_node_kind;
 use std::alloc::Global;
 
 /// The record of a node of this number.

@@ -9,9 +9,7 @@ pub mod Decoding
 pub mod FrameLaws
 pub mod Lists
 pub mod ItemTables
-pub mod RefusalTexts
 pub mod PathLaws
-pub mod WordLaws
 pub mod Copying
 pub mod Chunks
 pub mod asm_formats

@@ -5,10 +5,7 @@ pub mod Tables
 pub mod Names
 pub mod Homes
 pub mod Frames
-pub mod Refusals
-pub mod RefusalText
 pub mod Paths
-pub mod Words
 pub mod Chunks
 pub mod Parts
 pub mod Blocks

@@ -11,14 +11,8 @@ mod name;
 mod path;
 pub mod record_kind;
 mod records;
-mod refusal;
-mod refusal_text;
-mod word;
 
-pub use block::{
-    BLOCK, BLOCK_SIZE, Block, FIRST_CLAIM, FIRST_STATUS, LEAST_SIZE, REGION_START, SECOND_CLAIM,
-    SECOND_STATUS,
-};
+pub use block::Block;
 pub use cursor::{
     Reader, Writer, are_zeros, finish, has_only_zeros, is_at_end, put_bytes, put_flag, put_set,
     put_u8, put_u16, put_u32, put_u64, put_zeros, take_fixed, take_flag, take_set, take_u8,
@@ -38,10 +32,4 @@ pub use name::{
 pub use path::Path;
 pub use records::{
     Change, Key, PENDING_KEY, REBALANCE_KEY, Records, SETTINGS_KEY, TEMPLATES_KEY, Value,
-};
-pub use refusal::{DiskRef, Limited, Refusal};
-pub use refusal_text::no_memory_line;
-pub use word::{
-    put_kind, put_mode, put_node_kind, put_pending_kind, put_stripe, take_kind, take_mode,
-    take_node_kind, take_pending_kind, take_stripe,
 };

@@ -10,8 +10,8 @@ ghost use Rattle.change_directory.specs.CopyCalls.{FormatsCopy};
 
 use crate::copy::{DirCopy, LogSlot, log_place, other_slot};
 use crate::spare::spare_slot;
-use asm_base::BLOCK;
 use bay::{Bay, Fault};
+use disk_regions::BLOCK;
 use gate_slot::close_gate;
 
 /// The most bytes that one write of zeros takes.

@@ -11,8 +11,9 @@ ghost use Rattle.change_directory.specs.CopyCalls.{BringsHome};
 
 use crate::copy::DirCopy;
 use crate::pages::gather;
-use asm_base::{BLOCK, Block, REGION_START};
+use asm_base::Block;
 use bay::{Bay, Fault};
+use disk_regions::{BLOCK, REGION_START};
 
 /// The most pages in one write.
 const RUN_PAGES: usize = 64;

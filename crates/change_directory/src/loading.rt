@@ -13,9 +13,10 @@ ghost use Rattle.change_directory.specs.declared.loading.LoadFault.TheVariants.{
 use crate::copy::{DirCopy, LogSlot};
 use crate::open_log::{OpenLog, OpenLogs};
 use crate::slots::{block_at, counted_image, in_order, read_log};
-use asm_base::{BLOCK, Block, NoMemory, REGION_START};
+use asm_base::{Block, NoMemory};
 use bay::{Bay, Fault};
 use directory_page::is_page;
+use disk_regions::{BLOCK, REGION_START};
 use std::alloc::Global;
 
 /// The most pages that one read takes.

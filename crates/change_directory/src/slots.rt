@@ -13,9 +13,10 @@ use crate::copy::{DirCopy, LogSlot, gate_block, log_place};
 use crate::loading::LoadFault;
 use crate::numbers::{head_number, head_pages};
 use crate::open_log::{OpenLog, OpenLogs};
-use asm_base::{BLOCK, Block, NoMemory};
+use asm_base::{Block, NoMemory};
 use bay::{Bay, Fault};
 use directory_page::is_page;
+use disk_regions::BLOCK;
 use gate_slot::is_open;
 use std::alloc::Global;
 

@@ -8,7 +8,7 @@ use Rattle.asm_base.specs.asm_group.declared.Stripe.{Stripe}
 use Rattle.asm_base.specs.asm_group.Group.{Template}
 use Rattle.asm_base.specs.asm_formats.Items.{names_ascend, precedes}
 use Rattle.asm_base.specs.Readings.{both, byte_reading, flag_reading, repeated, text_reading}
-use Rattle.asm_base.specs.Words.{stripe_reading}
+use Rattle.byte_codes.specs.Words.{stripe_reading}
 use Rattle.asm_base.specs.Parts.{TemplateParts, to_template}
 use Rattle.asm_base.proofs.Exact.{bind_some, some_is, test_some}
 use Rattle.record_values.specs.Values.{copies_reading, named_reading, template_reading, templates_reading}

@@ -7,7 +7,7 @@ use Rattle.asm_base.specs.asm_formats.Items.{file_item, chunk_item, disk_item, r
 use Rattle.asm_base.specs.asm_formats.Values.{decoded_item}
 use Rattle.asm_base.specs.Parts.{home_reading, to_disk, to_pending, to_node, to_settings}
 use Rattle.asm_base.specs.Readings.{number_reading, name_reading, text_reading}
-use Rattle.asm_base.specs.Words.{stripe_reading, node_kind_reading, pending_kind_reading}
+use Rattle.byte_codes.specs.Words.{stripe_reading, node_kind_reading, pending_kind_reading}
 use Rattle.asm_base.proofs.Exact.{IsBytes}
 use Rattle.record_values.specs.Values.{copies_reading, named_reading, system_reading, to_file, file_reading, extent_reading, chunk_reading, disk_reading, pending_reading, node_reading, settings_reading}
 use Rattle.record_values.proofs.Files.{file_decoded}

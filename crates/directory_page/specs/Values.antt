@@ -8,7 +8,7 @@ use Rattle.asm_base.specs.asm_group.Group.{Template}
 use Rattle.asm_base.specs.asm_formats.Sets.{most_disks}
 use Rattle.asm_base.specs.asm_formats.Items.{chunk_len, disks_kind, files_kind, marks_kind, most_templates, nodes_kind, operations_kind, precedes, settings_kind, templates_kind}
 use Rattle.asm_base.specs.Readings.{Reading, byte_reading, flag_reading, number_reading, name_reading, text_reading}
-use Rattle.asm_base.specs.Words.{stripe_reading, node_kind_reading, pending_kind_reading}
+use Rattle.byte_codes.specs.Words.{stripe_reading, node_kind_reading, pending_kind_reading}
 use Rattle.asm_base.specs.Parts.{home_reading}
 use Rattle.record_values.specs.Values.{copies_reading, named_reading, system_reading}
 use Rattle.directory_page.specs.Checks.{Check, check_of, checks_in_turn, times, is_all}

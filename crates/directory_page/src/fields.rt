@@ -1,11 +1,12 @@
 // Fields that stand for a word or a small number.
 ghost use Rattle.asm_base.specs.Readings.{flag_reading};
-ghost use Rattle.asm_base.specs.Words.{stripe_reading, node_kind_reading, pending_kind_reading};
+ghost use Rattle.byte_codes.specs.Words.{stripe_reading, node_kind_reading, pending_kind_reading};
 ghost use Rattle.directory_page.specs.Checks.{Passes, check_of};
 ghost use Rattle.asm_base.specs.Parts.{home_reading};
 ghost use Rattle.record_values.specs.Values.{copies_reading, system_reading};
 
-use asm_base::{Reader, take_flag, take_node_kind, take_pending_kind, take_stripe};
+use asm_base::{Reader, take_flag};
+use byte_codes::{take_node_kind, take_pending_kind, take_stripe};
 use record_values::{take_copies, take_home, take_system};
 
 /// Passes over a number of copies: 1 to 3.

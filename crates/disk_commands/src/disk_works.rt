@@ -4,8 +4,9 @@ ghost use Rattle.session.specs.disk_joining.Taking.{IsApart, TakesIn};
 ghost use Rattle.session.specs.group_engine.Mounts.{Takes};
 ghost use Rattle.session.specs.group_engine.Members.{LetsGo};
 
-use asm_base::{DiskSet, MOST_DISKS, Name, NoMemory, Refusal};
+use asm_base::{DiskSet, MOST_DISKS, Name, NoMemory};
 use bay::Bay;
+use command_refusals::Refusal;
 use group_sql::{DroppedDisk, FailgroupKind, NewFailgroup, Rebalance};
 use session::{
     Attaching, DropDisk, GroupSort, GroupWork, Known, Mounted, add_disks, disk_named,

@@ -1,7 +1,7 @@
 // Statements on disks, and what they wait for: rebalances and resyncs to their ends, with their lines.
 ghost use Rattle.std.specs.Prelude.{◌≡◌, ◌⊎◌, ⊤, ◌≤◌, [], length, IfErr, IfOk, IfSome, Some};
-ghost use Rattle.asm_base.specs.Refusals.{meaning_of};
-ghost use Rattle.asm_base.specs.declared.refusal.Refusal.TheVariants as cause;
+ghost use Rattle.command_refusals.specs.Refusals.{meaning_of};
+ghost use Rattle.command_refusals.specs.declared.refusal.Refusal.TheVariants as cause;
 ghost use Rattle.disk_commands.specs.Waits.{HasShortCause, HasWaited, IsNoShortfall, ReplyWaited, WaitCause, WaitsForRebalance, refusal_in, refused_after, refusal_of_rebalance};
 ghost use Rattle.session.specs.group_engine.Mounts.{Takes};
 ghost use Rattle.session.specs.group_engine.Own.{KeepsGroup};
@@ -10,8 +10,9 @@ ghost use Rattle.session.specs.Naming.{CarriesOn};
 ghost use Rattle.session.specs.Sessions.{AreReady};
 
 use crate::disk_works::{ChangeDisks, Chosen, DiskChange, Joining, checked_power};
-use asm_base::{DiskSet, List, MOST_DISKS, Name, NoMemory, Refusal, Text};
+use asm_base::{DiskSet, List, MOST_DISKS, Name, NoMemory, Text};
 use bay::Bay;
+use command_refusals::Refusal;
 use event_lines::Event;
 use group_sql::NewFailgroup;
 use line_buffer::LineBuffer;

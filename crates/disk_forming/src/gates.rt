@@ -6,8 +6,8 @@ ghost use Rattle.disk_forming.specs.Places.{other_gates};
 ghost use Rattle.disk_forming.specs.Gates.{HasAttachedRegion, GatesOf, ShutsGates, MayCloseAll, ClosesAll};
 
 use crate::places::{block_slot, header_slot};
-use asm_base::{FIRST_CLAIM, FIRST_STATUS, SECOND_CLAIM, SECOND_STATUS};
 use bay::{Bay, Fault};
+use disk_regions::{FIRST_CLAIM, FIRST_STATUS, SECOND_CLAIM, SECOND_STATUS};
 use gate_slot::close_gate;
 
 /// Closes every gate of a disk of a group, that of the header first.

@@ -16,7 +16,7 @@ use Rattle.asm_formats.proofs.Fields.{passes_if_all}
 use Rattle.asm_base.specs.Readings.{both, whole_reading, name_reading}
 use Rattle.asm_base.proofs.Exact.{IsBytes, IsExact, both_exact, as_exact, fits_exact}
 use Rattle.asm_base.proofs.Numbers.{number_exact}
-use Rattle.asm_base.proofs.WordLaws.{kind_exact}
+use Rattle.byte_codes.proofs.WordLaws.{kind_exact}
 use Rattle.asm_base.proofs.FieldLaws.{byte_exact, flag_exact, fixed_exact}
 use Rattle.asm_base.proofs.NameLaws.{name_exact, name_is_part, name_is_short}
 use Rattle.asm_base.proofs.Decoding.{block_is_decoded}

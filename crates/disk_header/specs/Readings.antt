@@ -7,7 +7,7 @@ use Rattle.asm_group.specs.Names.{Bytes, is_name}
 use Rattle.asm_group.specs.Shape.{is_shape}
 use Rattle.asm_formats.specs.Header.{Header, form}
 use Rattle.asm_base.specs.Readings.{Reading, both, as_a, byte_reading, number_reading, flag_reading, name_reading, fixed_reading}
-use Rattle.asm_base.specs.Words.{kind_reading}
+use Rattle.byte_codes.specs.Words.{kind_reading}
 use Rattle.disk_header.specs.declared.reading.Ids.{Ids}
 use Rattle.disk_header.specs.declared.reading.Sizes.{Sizes}
 

@@ -1,7 +1,8 @@
 //! The header of a disk, which makes it a member of a group, and its one spelling in a block.
 #![tactic(auto)]
 
-pub use asm_base::{BLOCK, Block, LEAST_SIZE, NoMemory, Shape};
+pub use asm_base::{Block, NoMemory, Shape};
+pub use disk_regions::{BLOCK, LEAST_SIZE};
 
 mod header;
 mod reading;

@@ -8,9 +8,10 @@ ghost use Rattle.disk_header.specs.Readings.{ids_reading, sizes_reading, header_
 
 use crate::header::Header;
 use asm_base::{
-    Block, GroupKind, NoMemory, Reader, Shape, has_only_zeros, take_fixed, take_flag, take_kind,
-    take_name, take_u8, take_u16, take_u32, take_u64,
+    Block, GroupKind, NoMemory, Reader, Shape, has_only_zeros, take_fixed, take_flag, take_name,
+    take_u8, take_u16, take_u32, take_u64,
 };
+use byte_codes::take_kind;
 use std::alloc::Global;
 
 /// The header that the block is the spelling of, or None where it isn't that of any.

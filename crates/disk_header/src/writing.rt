@@ -6,9 +6,9 @@ ghost use Rattle.asm_base.specs.Cursors.{PutsField};
 
 use crate::header::Header;
 use asm_base::{
-    Block, Writer, finish, put_bytes, put_flag, put_kind, put_name, put_u8, put_u16, put_u32,
-    put_u64,
+    Block, Writer, finish, put_bytes, put_flag, put_name, put_u8, put_u16, put_u32, put_u64,
 };
+use byte_codes::put_kind;
 
 /// Fills the block with the header. Its values are such as a header may have.
 #[tactic(auto, unfolding(asm_formats::specs::Header::header_spelling))]

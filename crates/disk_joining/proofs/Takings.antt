@@ -6,9 +6,9 @@ use Rattle.bay.specs.Moments.{Runs}
 use Rattle.bay.specs.State.{BayState}
 use Rattle.bay.proofs.Calls.{goes_on, on_more, started, stops, widened}
 use Rattle.bay.proofs.Images.{same-refl}
-use Rattle.asm_base.specs.declared.refusal.DiskRef.TheVariants as disk
-use Rattle.asm_base.specs.declared.refusal.Refusal.{Refusal}
-use Rattle.asm_base.specs.declared.refusal.Refusal.TheVariants as refusal
+use Rattle.command_refusals.specs.declared.refusal.DiskRef.TheVariants as disk
+use Rattle.command_refusals.specs.declared.refusal.Refusal.{Refusal}
+use Rattle.command_refusals.specs.declared.refusal.Refusal.TheVariants as refusal
 use Rattle.disk_images.specs.Looks.{Looks}
 use Rattle.new_groups.specs.group_disks.Holding.{SameHeld}
 use Rattle.new_groups.proofs.group_disks.Spared.{change_held, held_trans, same_held}

@@ -2,10 +2,10 @@
 use Rattle.std.specs.Prelude.{◌≡◌, ◌⊎◌, ⊤, ℕ, ◌+◌, ◌-◌, ◌<◌, nat_lt, List, [], ◌∷◌, ◌++◌, length, Option, Some, None, if◌then◌else◌}
 use Rattle.bay.specs.Counts.{Rose}
 use Rattle.bay.specs.State.{BayState}
-use Rattle.asm_base.specs.Refusals.{meaning_of}
-use Rattle.asm_base.specs.declared.refusal.DiskRef.TheVariants as disk
-use Rattle.asm_base.specs.declared.refusal.Refusal.{Refusal}
-use Rattle.asm_base.specs.declared.refusal.Refusal.TheVariants as refusal
+use Rattle.command_refusals.specs.Refusals.{meaning_of}
+use Rattle.command_refusals.specs.declared.refusal.DiskRef.TheVariants as disk
+use Rattle.command_refusals.specs.declared.refusal.Refusal.{Refusal}
+use Rattle.command_refusals.specs.declared.refusal.Refusal.TheVariants as refusal
 use Rattle.asm_formats.specs.Status.{Entry}
 use Rattle.asm_group.specs.Names.{Bytes}
 use Rattle.asm_group.specs.Refusal as r

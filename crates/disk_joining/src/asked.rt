@@ -1,7 +1,7 @@
 //! The disks that an ADD names, each with its number and what is said of it.
 ghost use Rattle.std.specs.Prelude.{◌≡◌, ◌<◌, ◌≤◌, ◌+◌, ◌++◌, ◌∷◌, [], IfErr, IfOk, OnOk, length};
 ghost use Rattle.std.specs.Bool.{OnFalse};
-ghost use Rattle.asm_base.specs.Refusals.{meaning_of};
+ghost use Rattle.command_refusals.specs.Refusals.{meaning_of};
 ghost use Rattle.asm_formats.specs.Status.{has_entry};
 ghost use Rattle.asm_world.specs.NewDisks.{planned_disk};
 ghost use Rattle.new_groups.specs.Causes.{terms_in, terms_of};
@@ -10,7 +10,8 @@ ghost use Rattle.disk_joining.specs.AddCauses.{IsTooManyMore};
 ghost use Rattle.disk_joining.specs.Asking.{asked_disks, asked_from, asked_in, free_number, given_from, given_in, given_numbers, number_after};
 
 use crate::recording::entry_of;
-use asm_base::{Limited, NoMemory, Refusal};
+use asm_base::NoMemory;
+use command_refusals::{Limited, Refusal};
 use file_extents::Mounted;
 use new_groups::{NewDisk, NewFailgroup, PlannedDisk, Terms, disks_within, planned_disk};
 use status_table::PstRecord;

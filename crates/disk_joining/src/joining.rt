@@ -1,7 +1,7 @@
 //! What new disks become before anything is written: their headers, their records, and their units.
 ghost use Rattle.std.specs.Prelude.{◌≡◌, ◌≤◌, ◌<◌, ◌*◌, [], IfErr, IfOk, IsTrue, length, map, true};
 ghost use Rattle.std.specs.String.{string_bytes};
-ghost use Rattle.asm_base.specs.Refusals.{meaning_of};
+ghost use Rattle.command_refusals.specs.Refusals.{meaning_of};
 ghost use Rattle.asm_group.specs.Refusal.{NoMemory as NoMemoryLeft};
 ghost use Rattle.asm_group.specs.Shape.{is_shape};
 ghost use Rattle.disk_images.specs.Looks.{Looks};
@@ -13,8 +13,9 @@ ghost use Rattle.disk_joining.specs.Joiners.{CanJoin, are_asked, may_join};
 use crate::asked::{Asked, asked_disks};
 use crate::checking::{are_asked, may_join};
 use crate::looking::{Fitting, fit_disks, known_with};
-use asm_base::{NoMemory, Refusal};
+use asm_base::NoMemory;
 use bay::Bay;
+use command_refusals::Refusal;
 use disk_header::Header;
 use disk_images::{Looked, look_at_images};
 use file_extents::{DiskInfo, Mounted};

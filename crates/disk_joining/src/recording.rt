@@ -5,8 +5,8 @@ ghost use Rattle.file_extents.specs.group_engine.Mounts.{Takes};
 ghost use Rattle.file_extents.specs.group_engine.Pending.{GoesOn};
 ghost use Rattle.status_register.specs.Holders.{with_next_number};
 
-use asm_base::Refusal;
 use bay::Bay;
+use command_refusals::Refusal;
 use file_extents::Mounted;
 use status_table::{PstEntry, PstRecord};
 use std::alloc::Global;

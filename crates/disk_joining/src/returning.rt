@@ -8,8 +8,9 @@ ghost use Rattle.disk_joining.specs.Joiners.{AreJoiners};
 ghost use Rattle.disk_joining.specs.Taking.{IsApart, TakesIn};
 
 use crate::heading::take_headers;
-use asm_base::{DiskRef, NoMemory, Refusal, Text};
+use asm_base::{NoMemory, Text};
 use bay::Bay;
+use command_refusals::{DiskRef, Refusal};
 use file_extents::Mounted;
 use new_groups::Headed;
 use std::alloc::Global;

@@ -7,8 +7,9 @@ ghost use Rattle.disk_modes.specs.declared.changing.Changes.TheVariants as chang
 ghost use Rattle.disk_modes.specs.Stops.{CommitsRebalance, MayMakeChanges, MayPutModes, StaysHeld};
 
 use crate::records::{NewModes, next_record};
-use asm_base::{NoMemory, Refusal};
+use asm_base::NoMemory;
 use bay::Bay;
+use command_refusals::Refusal;
 use record_laws::Mounted;
 use std::alloc::Global;
 

@@ -7,7 +7,8 @@ ghost use Rattle.disk_modes.specs.Losing.{LosingCause};
 ghost use Rattle.disk_modes.specs.Modes.{TakesEachDisk, GroupsCause, ModeStateCause, groups_needed, other, takes};
 
 use crate::losing::{Counted, first_losing};
-use asm_base::{DiskRef, DiskSet, GroupKind, Mode, Refusal};
+use asm_base::{DiskSet, GroupKind, Mode};
+use command_refusals::{DiskRef, Refusal};
 use group_reports::{Catalog, serving_groups};
 use status_table::{PstEntry, PstRecord};
 

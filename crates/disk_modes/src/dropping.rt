@@ -20,8 +20,9 @@ use crate::checking::{
 use crate::finding::with_number;
 use crate::losing::Counted;
 use crate::records::{NewModes, with_modes};
-use asm_base::{DiskSet, GroupKind, Mode, Refusal};
+use asm_base::{DiskSet, GroupKind, Mode};
 use bay::Bay;
+use command_refusals::Refusal;
 use record_laws::Mounted;
 use status_table::PstEntry;
 use std::alloc::Global;

@@ -11,8 +11,9 @@ ghost use Rattle.disk_modes.specs.Stops.{CommitsRebalance, HasTwoTurns, StaysHel
 use crate::changing::{Changes, change_disks, put_rebalance};
 use crate::finding::with_number;
 use crate::records::NewModes;
-use asm_base::{DiskSet, Refusal};
+use asm_base::DiskSet;
 use bay::Bay;
+use command_refusals::Refusal;
 use group_reports::expiring;
 use record_laws::Mounted;
 use std::alloc::Global;

@@ -14,8 +14,9 @@ use crate::checking::{Statement, check_directories, check_extents, check_modes, 
 use crate::finding::attached_disks;
 use crate::losing::Counted;
 use crate::records::NewModes;
-use asm_base::{DiskSet, Refusal};
+use asm_base::DiskSet;
 use bay::Bay;
+use command_refusals::Refusal;
 use record_laws::Mounted;
 use std::alloc::Global;
 

@@ -7,7 +7,8 @@ ghost use Rattle.disk_modes.specs.Causes.{AreLargeEnough, IsFirstSmall, IsLargeE
 ghost use Rattle.disk_modes.specs.Ends.{AreUsedTo, HasEnds, IsChunkEnd, IsCopyEnd, IsHomeEnd, IsUsedTo};
 ghost use Rattle.disk_modes.specs.Sizes.{image_units, units_asked, whole_units_in};
 
-use asm_base::{DiskRef, DiskSet, Home, Homes, LEAST_USER_UNITS, MOST_UNITS, Refusal, Shape};
+use asm_base::{DiskSet, Home, Homes, LEAST_USER_UNITS, MOST_UNITS, Shape};
+use command_refusals::{DiskRef, Refusal};
 use group_reports::{Catalog, units_of};
 use record_laws::Mounted;
 

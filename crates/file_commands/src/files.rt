@@ -13,9 +13,10 @@ ghost use Rattle.file_commands.specs.Writing.{AsksWrite};
 ghost use Rattle.file_commands.specs.Reading.{AsksRead, HasRead, IsLinesCause, IsNoSpan, IsFileReadCause, OpensSpan, PutsRead, ReadsLines, ReadsOnly, ShowsBytes};
 
 use crate::works::{Create, OnFile};
-use asm_base::{List, Name, NoMemory, Path, Refusal, Text};
+use asm_base::{List, Name, NoMemory, Path, Text};
 use asmcmd::Runs;
 use bay::{Bay, Host};
+use command_refusals::Refusal;
 use report_laws::{FileBy, NewFile, path_to};
 use session::{
     Answer, Desk, FileWork, Mounted, OpenFile, Session, answer_lines, answer_of, buffer,

@@ -7,8 +7,8 @@ ghost use Rattle.session.specs.file_extents.Filling.{PutCause};
 ghost use Rattle.session.specs.group_contents.Creating.{BeginCause, NamesFile};
 ghost use Rattle.session.specs.group_contents.Works.{WorkDoes};
 
-use asm_base::Refusal;
 use bay::Bay;
+use command_refusals::Refusal;
 use report_laws::NewFile;
 use session::{
     Contents, FileWork, Filling, GroupWork, Mounted, begin_new, create, finish_new, give_up,

@@ -9,9 +9,8 @@ ghost use Rattle.record_values.specs.Values.{file_reading};
 ghost use Rattle.file_directory.specs.Files.{file_of_item, is_key_of_file};
 
 use crate::head::FileHead;
-use asm_base::{
-    Key, NoMemory, Reader, Value, is_at_end, take_name, take_stripe, take_u32, take_u64,
-};
+use asm_base::{Key, NoMemory, Reader, Value, is_at_end, take_name, take_u32, take_u64};
+use byte_codes::take_stripe;
 use record_values::{take_copies, take_system};
 use std::alloc::Global;
 

@@ -8,9 +8,9 @@ ghost use Rattle.file_directory.specs.Files.{record_of_file};
 
 use crate::head::FileHead;
 use asm_base::{
-    Block, Key, NoMemory, Value, Writer, put_name, put_stripe, put_u8, put_u32, put_u64,
-    record_kind,
+    Block, Key, NoMemory, Value, Writer, put_name, put_u8, put_u32, put_u64, record_kind,
 };
+use byte_codes::put_stripe;
 use std::alloc::Global;
 
 /// The record of a file with this head.

@@ -15,9 +15,10 @@ ghost use Rattle.file_extents.specs.Appending.{AreMarks, HasAllExtents, IsOwner,
 
 use crate::placing::{copy_units, place_row};
 use crate::rows::{CHUNK, MOST_EXTENTS};
-use asm_base::{ExtentId, Home, Homes, NoMemory, Refusal};
+use asm_base::{ExtentId, Home, Homes, NoMemory};
 use bay::Bay;
 use catalog_tables::{are_on_disks, are_within};
+use command_refusals::Refusal;
 use group_pieces::{Catalog, Mounted};
 use std::alloc::Global;
 

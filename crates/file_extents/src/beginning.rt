@@ -8,9 +8,9 @@ ghost use Rattle.file_extents.specs.Beginning.{Begins, HomesCause};
 use crate::committing::{give_back, is_at_rest, shut};
 use crate::filling::{Filling, choose_all, open_part};
 use crate::rows::NewExtents;
-use asm_base::Refusal;
 use bay::Bay;
 use catalog_tables::{Pending, PendingKind};
+use command_refusals::Refusal;
 use group_pieces::Mounted;
 use std::alloc::Global;
 

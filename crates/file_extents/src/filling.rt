@@ -13,9 +13,10 @@ use crate::committing::{give_back, or_shut};
 use crate::layout::{LONGEST_PIECE, Piece, bytes_before, first_piece, layout_of};
 use crate::rows::{ABSENT, CHUNK, MOST_EXTENTS, NewExtents, choose_row_of};
 use crate::sparing::{Filled, are_all_marked, fill_copies};
-use asm_base::{DiskRef, DiskSet, Homes, NoMemory, Refusal, Stripe};
+use asm_base::{DiskSet, Homes, NoMemory, Stripe};
 use bay::Bay;
 use catalog_tables::Layout;
+use command_refusals::{DiskRef, Refusal};
 use group_pieces::Mounted;
 use std::alloc::Global;
 

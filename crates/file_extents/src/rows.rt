@@ -4,8 +4,9 @@ ghost use Rattle.group_pieces.specs.group_engine.Mounts.{IsWhole};
 ghost use Rattle.file_extents.specs.Rows.{ChoiceCause, SpaceCause};
 
 use crate::placing::copy_units;
-use asm_base::{ExtentId, Homes, Refusal};
+use asm_base::{ExtentId, Homes};
 use catalog_tables::{Units, choose_row};
+use command_refusals::Refusal;
 use group_pieces::Mounted;
 use std::alloc::Global;
 

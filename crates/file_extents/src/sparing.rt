@@ -8,9 +8,10 @@ ghost use Rattle.group_pieces.specs.Spare.{IsRunOf};
 ghost use Rattle.file_extents.specs.Filling.{FailsMore, HasFailedWrite};
 
 use crate::layout::Piece;
-use asm_base::{BLOCK, DiskSet, Home, Homes, Shape};
+use asm_base::{DiskSet, Home, Homes, Shape};
 use bay::{Bay, Fault};
 use catalog_tables::units_of;
+use disk_regions::BLOCK;
 use group_pieces::{Mounted, write_spare};
 
 /// Units of a disk that hold no bytes of files. None where a unit has no bytes.

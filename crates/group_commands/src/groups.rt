@@ -14,8 +14,9 @@ ghost use Rattle.session.specs.Groups.{only, plain_path, path_in_group, external
 ghost use Rattle.session.specs.Meaning.{meaning};
 
 use crate::mounting::{mount_named, option_of};
-use asm_base::{GroupKind, List, Name, NoMemory, Refusal, Text};
+use asm_base::{GroupKind, List, Name, NoMemory, Text};
 use bay::{Bay, Host};
+use command_refusals::Refusal;
 use group_sql::{Attribute, NewDisk, NewFailgroup};
 use session::{
     Answer, Desk, FoundIds, GroupAsked, GroupWork, Known, Mounted, Reply,

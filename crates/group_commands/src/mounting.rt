@@ -1,12 +1,13 @@
 // A group is mounted into the session.
 ghost use Rattle.std.specs.Prelude.{◌≡◌, [], IfOk, get_or, map};
 ghost use Rattle.std.specs.String.{string_bytes};
-ghost use Rattle.asm_base.specs.Refusals.{referred_disk_name, meaning_of};
+ghost use Rattle.command_refusals.specs.Refusals.{referred_disk_name, meaning_of};
 ghost use Rattle.group_commands.specs.Mounting.{MountsInto, mount_said, option_of};
 ghost use Rattle.session.specs.Sessions.{AreReady};
 
-use asm_base::{DiskRef, Name, NoMemory, Refusal, Text};
+use asm_base::{Name, NoMemory, Text};
 use bay::{Bay, Host};
+use command_refusals::{DiskRef, Refusal};
 use group_mount::{MountError, MountOption};
 use session::{Desk, mount_group};
 use std::alloc::Global;

@@ -2,7 +2,7 @@
 ghost use Rattle.std.specs.Bool.{OnTrue};
 ghost use Rattle.std.specs.Option.{option_copied};
 ghost use Rattle.std.specs.Prelude.{◌≡◌, ◌⊎◌, IfErr, IfOk, None, OnOk};
-ghost use Rattle.asm_base.specs.declared.refusal.Refusal.TheVariants.{NoTemplate};
+ghost use Rattle.command_refusals.specs.declared.refusal.Refusal.TheVariants.{NoTemplate};
 ghost use Rattle.file_extents.specs.catalog.NamePlans.{IsFileBeingMade, made_file};
 ghost use Rattle.file_extents.specs.group_engine.Commits.{StatusCause};
 ghost use Rattle.file_extents.specs.group_engine.Mounts.{IsMounted, MountedGroup, Takes};
@@ -14,8 +14,9 @@ ghost use Rattle.group_contents.specs.Files.{WriteCause};
 
 use crate::buffers::buffer;
 use crate::chunks::chunks_of;
-use asm_base::{Name, NoMemory, Path, Refusal, Stripe};
+use asm_base::{Name, NoMemory, Path, Stripe};
 use bay::Bay;
+use command_refusals::Refusal;
 use file_extents::{
     Catalog, Contents, FileBy, Filling, LONGEST_PIECE, Mounted, NewExtents, NewFile, PendingKind,
     begin_operation, copies_for, give_back, give_homes, has_all, is_within_file, layout_of,

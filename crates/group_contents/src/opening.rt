@@ -5,7 +5,8 @@ ghost use Rattle.file_extents.specs.group_pieces.Usable.{HasNoUsableCopy};
 ghost use Rattle.asm_group.specs.Shape.{is_shape};
 ghost use Rattle.group_contents.specs.Files.{AtFile, IsOpened, IsSpan, LostFileCause, LostIn, OpenCause, SpanCause, are_sectors, named_file_number};
 
-use asm_base::{ExtentId, NodeKind, Path, Refusal, Stripe};
+use asm_base::{ExtentId, NodeKind, Path, Stripe};
+use command_refusals::Refusal;
 use file_extents::{Catalog, Mounted, first_piece, is_lost, layout_of};
 use striping::Layout;
 

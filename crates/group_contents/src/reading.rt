@@ -13,8 +13,9 @@ ghost use Rattle.group_contents.specs.Files.{AtFile, ReadCause, SpanCause};
 ghost use Rattle.group_contents.specs.Reading.{ShowsFile, KeepsMounted, WhereMounted};
 
 use crate::opening::{OpenFile, open_span};
-use asm_base::{DiskRef, Path, Refusal, Span};
+use asm_base::{Path, Span};
 use bay::Bay;
+use command_refusals::{DiskRef, Refusal};
 use file_extents::{Mounted, Piece, ReadError, first_piece, layout_of, read_piece};
 use striping::Layout;
 

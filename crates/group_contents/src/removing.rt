@@ -12,8 +12,9 @@ ghost use Rattle.group_contents.specs.Files.{OpenCause};
 ghost use Rattle.group_contents.specs.Removing.{DropsDirectory, IsRemoved, RemoveCause, RemovesPath, RemovesFile, leads_to_directory};
 
 use crate::opening::open;
-use asm_base::{Change, NoMemory, NodeKind, Path, Refusal};
+use asm_base::{Change, NoMemory, NodeKind, Path};
 use bay::Bay;
+use command_refusals::Refusal;
 use file_extents::{Catalog, Mounted, TreeEdit, is_at_rest};
 use std::alloc::Global;
 

@@ -15,8 +15,9 @@ use crate::buffers::buffer;
 use crate::chunks::chunks_of;
 use crate::opening::{OpenFile, first_lost, is_sectors, open};
 use crate::writing::fill_span;
-use asm_base::{DiskRef, NoMemory, Path, Refusal};
+use asm_base::{NoMemory, Path};
 use bay::Bay;
+use command_refusals::{DiskRef, Refusal};
 use file_extents::{
     Catalog, Contents, Filling, LONGEST_PIECE, Mounted, NewExtents, PendingKind, begin_operation,
     bytes_before, give_back, give_homes, has_all, is_at_rest, layout_of, or_shut, prepare,

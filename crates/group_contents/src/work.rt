@@ -7,8 +7,9 @@ ghost use Rattle.group_contents.specs.Works.{WorkCause, WorkDoes, WorkDone};
 use crate::removing::{remove, remove_file};
 use crate::resizing::resize;
 use crate::writing::{fill, write};
-use asm_base::{Path, Refusal, Text};
+use asm_base::{Path, Text};
 use bay::Bay;
+use command_refusals::Refusal;
 use file_extents::Mounted;
 use std::alloc::Global;
 

@@ -11,8 +11,8 @@ use Rattle.bay.proofs.Calls.{attached-trans, goes_on, on_more, started, stops, w
 use Rattle.bay.proofs.Images.{changes-same, changes-trans, changes-within, same-refl}
 use Rattle.gate_slot.specs.Slot.{GateOf, MayClose}
 use Rattle.gate_slot.specs.declared.place.Place.{Place}
-use Rattle.asm_base.specs.declared.refusal.Refusal.{Refusal}
-use Rattle.asm_base.specs.declared.refusal.Refusal.TheVariants as refusal
+use Rattle.command_refusals.specs.declared.refusal.Refusal.{Refusal}
+use Rattle.command_refusals.specs.declared.refusal.Refusal.TheVariants as refusal
 use Rattle.asm_group.specs.Shape.{Shape, is_dir_blocks, is_sector, is_shape, is_step, is_unit_size}
 use Rattle.asm_formats.specs.Metadata.{header_of}
 use Rattle.asm_images.specs.Kept.{header_in}

@@ -3,12 +3,13 @@ ghost use Rattle.std.specs.Prelude.{◌≡◌, ◌==◌, ◌≤◌, ◌<◌, ◌
 ghost use Rattle.std.specs.List.{list_any};
 ghost use Rattle.bay.specs.Counts.{last_count};
 ghost use Rattle.asm_group.specs.Names.{is_name};
-ghost use Rattle.asm_base.specs.Refusals.{meaning_of};
+ghost use Rattle.command_refusals.specs.Refusals.{meaning_of};
 ghost use Rattle.asm_group.specs.Refusal.{NoDisk, DiskTaken, TooSmall, WriteFault};
 ghost use Rattle.group_disks.specs.Probes.{IsUsableProbe, IsUnusable, SaysRefusal, size_shown};
 
 use crate::find::Probe;
-use asm_base::{DiskRef, MOST_UNITS, Name, NoMemory, Refusal, Text};
+use asm_base::{MOST_UNITS, Name, NoMemory, Text};
+use command_refusals::{DiskRef, Refusal};
 use std::alloc::Global;
 
 /// The bytes of a unit.

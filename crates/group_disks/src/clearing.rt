@@ -4,8 +4,8 @@ ghost use Rattle.group_disks.specs.Clearing.{CleansUp, HaveDropped, IsDead, IsRe
 ghost use Rattle.group_engine.specs.Mounts.{IsMounted, Takes};
 ghost use Rattle.group_engine.specs.Pending.{EndsOn};
 
-use asm_base::{DiskRef, Refusal};
 use bay::Bay;
+use command_refusals::{DiskRef, Refusal};
 use group_engine::Mounted;
 use group_mount::{Catalog, MountError};
 use status_register::{Member, is_of_entry};

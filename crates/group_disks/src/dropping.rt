@@ -4,8 +4,8 @@ ghost use Rattle.group_disks.specs.Dropping.{ClosesHeaders, ClosesHeaderAt, HasF
 ghost use Rattle.group_disks.specs.GroupCalls.{DropsGroup};
 ghost use Rattle.group_engine.specs.Mounts.{Takes};
 
-use asm_base::Refusal;
 use bay::Bay;
+use command_refusals::Refusal;
 use group_engine::Mounted;
 use group_mount::close_header;
 

@@ -1,7 +1,7 @@
 //! An image is made anew, of zeros.
 ghost use Rattle.std.specs.Prelude.{◌≤◌, [], IfErr, OnOk, length, map};
 ghost use Rattle.std.specs.String.{string_bytes};
-ghost use Rattle.asm_base.specs.Refusals.{meaning_of};
+ghost use Rattle.command_refusals.specs.Refusals.{meaning_of};
 ghost use Rattle.asm_group.specs.Refusal.{ReadFault};
 ghost use Rattle.group_disks.specs.FirstParts.{SparesAllBut};
 ghost use Rattle.group_disks.specs.Found.{counts_of};
@@ -11,8 +11,9 @@ ghost use Rattle.group_disks.specs.Probes.{SaysRefusal};
 
 use crate::choose::{disk_taken, is_held, no_disk};
 use crate::find::slot_of;
-use asm_base::{DiskRef, NoMemory, Refusal, Text};
+use asm_base::{NoMemory, Text};
 use bay::{Bay, BayError};
+use command_refusals::{DiskRef, Refusal};
 use group_mount::{Looked, look_at};
 use std::alloc::Global;
 

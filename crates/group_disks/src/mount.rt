@@ -8,8 +8,9 @@ ghost use Rattle.group_disks.specs.Taking.{TakesOver};
 
 use crate::bringing::{bring_all, named_disks};
 use crate::clearing::{clean_up, refusal_of_commit};
-use asm_base::{DiskSet, Name, Refusal};
+use asm_base::{DiskSet, Name};
 use bay::Bay;
+use command_refusals::Refusal;
 use group_engine::{Attached, Mounted};
 use group_mount::{Found, MountError, MountOption, Parts};
 use status_register::Member;

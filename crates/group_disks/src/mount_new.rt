@@ -1,6 +1,6 @@
 // A new group is mounted as it was created: its parts are what was written.
 ghost use Rattle.std.specs.Prelude.{◌≡◌, [], Some, IfErr, IfOk};
-ghost use Rattle.asm_base.specs.Refusals.{meaning_of};
+ghost use Rattle.command_refusals.specs.Refusals.{meaning_of};
 ghost use Rattle.asm_group.specs.Refusal.{NoMemory as WithoutMemory};
 ghost use Rattle.group_mount.specs.catalog_tables.Faults.{IsCatalogOf};
 ghost use Rattle.group_mount.specs.directory_store.Stores.{AreFirst};
@@ -9,8 +9,9 @@ ghost use Rattle.group_disks.specs.FirstParts.{IsFirstStore, IsMountedOnSlot, fi
 ghost use Rattle.group_disks.specs.Planned.{IsGroupPlan, first_entries, record_of_plan};
 
 use crate::new_group::{NewGroup, first_status};
-use asm_base::{GroupKind, NoMemory, Refusal, Shape};
+use asm_base::{GroupKind, NoMemory, Shape};
 use bay::Bay;
+use command_refusals::Refusal;
 use group_engine::{Attached, Mounted};
 use group_mount::{Catalog, CatalogError, Store};
 use status_register::{Member, Register};

@@ -8,8 +8,9 @@ ghost use Rattle.group_engine.specs.Searches.{IsPlanIn, WasSearchOf};
 
 use crate::mounted::Mounted;
 use crate::search::Search;
-use asm_base::{Change, ExtentId, Refusal};
+use asm_base::{Change, ExtentId};
 use bay::Bay;
+use command_refusals::Refusal;
 use std::alloc::Global;
 
 impl Mounted {

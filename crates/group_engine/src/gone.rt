@@ -11,8 +11,9 @@ ghost use Rattle.group_engine.specs.Own.{KeepsGroup};
 use crate::access::Access;
 use crate::mounted::Mounted;
 use crate::search::Search;
-use asm_base::{DiskRef, DiskSet, Refusal};
+use asm_base::DiskSet;
 use bay::Bay;
+use command_refusals::{DiskRef, Refusal};
 use status_register::{Dead, Register, with_gone};
 
 /// Writes the record that holds, marked gone.

@@ -9,8 +9,8 @@ ghost use Rattle.group_engine.specs.Pending.{GoesOn};
 ghost use Rattle.group_engine.specs.Statuses.{IsNextOf};
 
 use crate::mounted::Mounted;
-use asm_base::Refusal;
 use bay::Bay;
+use command_refusals::Refusal;
 use status_register::{PstRecord, with_dirs, without_entry};
 use std::alloc::Global;
 

@@ -16,8 +16,9 @@ ghost use Rattle.group_engine.specs.Pending.{EndsOn, HasAtMost, StandsThrough, S
 
 use crate::access::Access;
 use crate::mounted::Mounted;
-use asm_base::{DiskRef, ExtentId, Refusal, Shape};
+use asm_base::{ExtentId, Shape};
 use bay::Bay;
+use command_refusals::{DiskRef, Refusal};
 use rebalance::{Catalog, FileHead, Layout, extents_for};
 use std::alloc::Global;
 

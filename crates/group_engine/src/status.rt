@@ -15,8 +15,8 @@ use crate::access::Access;
 use crate::forgetting::forget_others;
 use crate::mounted::Mounted;
 use crate::search::Search;
-use asm_base::{DiskRef, Refusal};
 use bay::Bay;
+use command_refusals::{DiskRef, Refusal};
 use status_register::PstRecord;
 use std::alloc::Global;
 

@@ -4,8 +4,9 @@ ghost use Rattle.group_engine.specs.Mounts.{Takes};
 ghost use Rattle.group_engine.specs.Own.{KeepsGroup};
 ghost use Rattle.group_files.specs.Edits.{Edits};
 
-use asm_base::{Name, Refusal};
+use asm_base::Name;
 use bay::Bay;
+use command_refusals::Refusal;
 use group_engine::Mounted;
 use std::alloc::Global;
 

@@ -10,8 +10,9 @@ ghost use Rattle.group_files.specs.GroupEdits.{IsEditPlan, IsEditRefusal, is_gro
 use crate::attributes::edit_attribute;
 use crate::names::edit_tree;
 use crate::templates::edit_template;
-use asm_base::{Name, Refusal, Text};
+use asm_base::{Name, Text};
 use bay::Bay;
+use command_refusals::Refusal;
 use group_engine::{Mounted, TreeEdit};
 use std::alloc::Global;
 use template_directory::TemplateEdit;

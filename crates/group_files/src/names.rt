@@ -6,8 +6,8 @@ ghost use Rattle.group_engine.specs.Mounts.{Takes};
 ghost use Rattle.group_engine.specs.Own.{KeepsGroup};
 ghost use Rattle.group_files.specs.Edits.{Edits};
 
-use asm_base::Refusal;
 use bay::Bay;
+use command_refusals::Refusal;
 use group_engine::{Mounted, TreeEdit};
 use std::alloc::Global;
 

@@ -8,8 +8,8 @@ ghost use Rattle.group_engine.specs.Own.{KeepsGroup};
 ghost use Rattle.group_files.specs.Edits.{Edits, IsTemplateRefusal};
 ghost use Rattle.template_directory.specs.Meant.{template_edit_meant, is_template_edit};
 
-use asm_base::Refusal;
 use bay::Bay;
+use command_refusals::Refusal;
 use group_engine::Mounted;
 use std::alloc::Global;
 use template_directory::TemplateEdit;

@@ -9,8 +9,9 @@ ghost use Rattle.group_mount.specs.NamedCopies.{directory_copy_of, is_named_copy
 use crate::choosing::{has_slot, member_of};
 use crate::finding::Headed;
 use crate::missing::has_units;
-use asm_base::{BLOCK, NoMemory};
+use asm_base::NoMemory;
 use directory_store::DirCopy;
+use disk_regions::BLOCK;
 use status_register::{Member, is_of_entry};
 use status_table::PstRecord;
 use std::alloc::Global;

@@ -8,8 +8,9 @@ ghost use Rattle.record_laws.specs.group_engine.Pending.{GoesOn};
 ghost use Rattle.group_pieces.specs.Failing.{AreOffline, CostsFaults, FailsModes, FewerServe, is_dropping_in, status_failed};
 ghost use Rattle.group_pieces.specs.Held.{FailedHeld};
 
-use asm_base::{DiskSet, Mode, NoMemory, Refusal};
+use asm_base::{DiskSet, Mode, NoMemory};
 use bay::Bay;
+use command_refusals::Refusal;
 use record_laws::{
     Mounted, PstEntry, PstRecord, partners_of as partners, with_offline, with_partners,
 };

@@ -10,8 +10,9 @@ ghost use Rattle.group_pieces.specs.Marking.{AreMarked, MarksMore, bit_if, is_le
 
 use crate::copies::Place;
 use crate::usable::{extent_of, place};
-use asm_base::{DiskSet, ExtentId, Refusal};
+use asm_base::{DiskSet, ExtentId};
 use bay::Bay;
+use command_refusals::Refusal;
 use record_laws::{Extent, Mounted};
 use std::alloc::Global;
 

@@ -17,8 +17,9 @@ use crate::failing::take_offline;
 use crate::marking::mark_left;
 use crate::moving::follow_move;
 use crate::writing::{WriteError, write_usable};
-use asm_base::{DiskRef, DiskSet, ExtentId, Refusal};
+use asm_base::{DiskSet, ExtentId};
 use bay::Bay;
+use command_refusals::{DiskRef, Refusal};
 use record_laws::Mounted;
 use std::alloc::Global;
 

@@ -2,7 +2,7 @@
 
 ghost use Rattle.std.specs.Prelude.{◌≡◌, ◌++◌, false, true, IfErr, IfOk, IfSome, IsSomeAnd, MatchOption, OnOk};
 ghost use Rattle.std.specs.Option.{option_map, option_to_list};
-ghost use Rattle.asm_base.specs.declared.refusal.Refusal.TheVariants as cause;
+ghost use Rattle.command_refusals.specs.declared.refusal.Refusal.TheVariants as cause;
 ghost use Rattle.asm_group.specs.TreeEdits.{last_part, up};
 ghost use Rattle.asm_world.specs.Listings.{has_star};
 ghost use Rattle.asm_world.specs.Reports.{AliasName, Directory, ListedSystemName};
@@ -13,9 +13,10 @@ ghost use Rattle.group_reports.specs.Places.{directory_in, node_named};
 use crate::places::{directory_in, is_directory, node_named, path_at};
 use crate::words::{copies_text, stripe_text};
 use alias_tree::Node;
-use asm_base::{List, Name, NoMemory, NodeKind, Refusal, Text};
+use asm_base::{List, Name, NoMemory, NodeKind, Text};
 use asmcmd::{LsRow, path_text};
 use catalog_laws::Catalog;
+use command_refusals::Refusal;
 use file_directory::FileHead;
 use std::alloc::Global;
 use verb_paths::{has_star, is_match};

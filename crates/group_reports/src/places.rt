@@ -5,8 +5,9 @@ ghost use Rattle.asm_group.specs.Names.{folded_path, all_parts};
 ghost use Rattle.asm_group.specs.TreeEdits.{is_under};
 ghost use Rattle.group_reports.specs.Places.{directory_at, directory_in, is_directory_at, node_named, path_at, path_below};
 
-use asm_base::{List, Name, NoMemory, NodeKind, Path, Refusal, Text};
+use asm_base::{List, Name, NoMemory, NodeKind, Path, Text};
 use catalog_laws::Catalog;
+use command_refusals::Refusal;
 use std::alloc::Global;
 
 /// Whether a node is a directory. The root is 0.

@@ -6,8 +6,8 @@ ghost use Rattle.group_turns.specs.Turns.{BeforeText, IsLineOf, OnEvent, OnIdle,
 
 use crate::failure::{Failure, failure_of, shown_name};
 use crate::taking::Turned;
-use asm_base::Refusal;
 use bay::Bay;
+use command_refusals::Refusal;
 use disk_modes::{Mounted, expire, expiring_disk as expiring};
 use event_lines::Event;
 use line_buffer::LineBuffer;

@@ -3,7 +3,8 @@ ghost use Rattle.std.specs.Prelude.{◌≡◌, Option};
 ghost use Rattle.std.specs.Option.{option_copied};
 ghost use Rattle.group_turns.specs.Slices.{failure_by, failure_of, fault_by, shown_name};
 
-use asm_base::{DiskRef, Name, Refusal};
+use asm_base::Name;
+use command_refusals::{DiskRef, Refusal};
 use disk_modes::Mounted;
 
 /// Why an expiry or a slice ended early, with the disk by its number.

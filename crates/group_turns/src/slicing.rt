@@ -10,8 +10,8 @@ ghost use Rattle.group_turns.specs.Turns.{AfterReply, IsLineOf, OnEvent, OnIdle,
 
 use crate::failure::{Failure, failure_of, shown_name};
 use crate::taking::Turned;
-use asm_base::Refusal;
 use bay::Bay;
+use command_refusals::Refusal;
 use disk_modes::Mounted;
 use event_lines::{Event, Rebalanced, Resynced};
 use line_buffer::LineBuffer;

@@ -15,8 +15,9 @@ ghost use Rattle.name_commands.specs.NameEdits.{edit_at, edit_between};
 ghost use Rattle.session.specs.Sessions.{AreReady};
 
 use alias_edits::TreeEdit;
-use asm_base::{Name, NoMemory, Path, Refusal, Text};
+use asm_base::{Name, NoMemory, Path, Text};
 use bay::{Bay, Host};
+use command_refusals::Refusal;
 use session::{Answer, Desk, GroupEdit, answer_of, no_memory, path_in, path_of_verb, refused};
 use std::alloc::Global;
 use verb_paths::target;

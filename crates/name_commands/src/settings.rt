@@ -9,8 +9,9 @@ ghost use Rattle.session.specs.Desks.{IsAnswered};
 ghost use Rattle.session.specs.Sessions.{AreReady};
 
 use crate::names::{edit_named, refused_in};
-use asm_base::{Name, NoMemory, Redundancy, Refusal, Stripe};
+use asm_base::{Name, NoMemory, Redundancy, Stripe};
 use bay::{Bay, Host};
+use command_refusals::Refusal;
 use group_sql::{Attribute, TemplateWords};
 use session::{Answer, Desk, GroupEdit, no_memory};
 use template_directory::TemplateEdit;

@@ -8,8 +8,8 @@ use Rattle.bay.specs.State.{BayState}
 use Rattle.asm_group.specs.declared.GroupKind.{GroupKind}
 use Rattle.asm_world.specs.NewDisks.{PlannedDisk, is_name_taken, needed_groups, regular_groups}
 use Rattle.asm_group.specs.Refusal as r
-use Rattle.asm_base.specs.Refusals.{meaning_of}
-use Rattle.asm_base.specs.declared.refusal.Refusal.{Refusal}
+use Rattle.command_refusals.specs.Refusals.{meaning_of}
+use Rattle.command_refusals.specs.declared.refusal.Refusal.{Refusal}
 use Rattle.group_disks.specs.Probes.{SaysRefusal}
 use Rattle.group_disks.proofs.group_mount.Told.{rose_before}
 use Rattle.group_disks.specs.group_mount.declared.finding.Headed.{Headed}

@@ -1,13 +1,14 @@
 //! The attributes of a creation.
 ghost use Rattle.std.specs.Prelude.{◌≡◌, [], IfErr, IfOk, IsTrue, Ok, Some};
-ghost use Rattle.asm_base.specs.Refusals.{meaning_of};
+ghost use Rattle.command_refusals.specs.Refusals.{meaning_of};
 ghost use Rattle.asm_group.specs.Shape.{is_shape};
 ghost use Rattle.asm_world.specs.Settings.{created_with, creation, with_creation_attribute};
 ghost use Rattle.group_disks.specs.attribute_values.Creations.{IsNewCreation, creation_meant};
 ghost use Rattle.new_groups.specs.Refusing.{IsNotTaken, IsRefusedAs};
 
 use crate::refusals::bad_attribute;
-use asm_base::{GroupKind, NoMemory, Refusal};
+use asm_base::{GroupKind, NoMemory};
+use command_refusals::Refusal;
 use group_disks::Creation;
 use new_disks::Attribute;
 use std::alloc::Global;

@@ -2,7 +2,7 @@
 
 ghost use Rattle.std.specs.Prelude.{◌≤◌, ◌<◌, [], All, IfErr, IfOk, IfSome, IsSome, OnOk, Some, length, map};
 ghost use Rattle.std.specs.String.{string_bytes};
-ghost use Rattle.asm_base.specs.Refusals.{meaning_of};
+ghost use Rattle.command_refusals.specs.Refusals.{meaning_of};
 ghost use Rattle.bay.specs.Counts.{last_count};
 ghost use Rattle.group_disks.specs.FirstParts.{IsNewlyMounted};
 ghost use Rattle.group_disks.specs.Holding.{SparesHeld};
@@ -15,8 +15,9 @@ use crate::asked::{GroupAsked, Known};
 use crate::forming::form;
 use crate::mounting::mount_formed;
 use crate::preparing::{Ready, prepare};
-use asm_base::{NoMemory, Refusal};
+use asm_base::NoMemory;
 use bay::Bay;
+use command_refusals::Refusal;
 use group_disks::Mounted;
 use std::alloc::Global;
 

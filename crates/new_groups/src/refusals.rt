@@ -2,7 +2,8 @@
 ghost use Rattle.asm_group.specs.Refusal.{BadAttribute, TooSmall};
 ghost use Rattle.group_disks.specs.Probes.{SaysRefusal};
 
-use asm_base::{DiskRef, Name, NoMemory, Refusal, Text};
+use asm_base::{Name, NoMemory, Text};
+use command_refusals::{DiskRef, Refusal};
 use std::alloc::Global;
 
 /// The attribute isn't one, or can't have the value.

@@ -1,6 +1,6 @@
 //! The units of the disks of a creation.
 ghost use Rattle.std.specs.Prelude.{◌≡◌, ◌+◌, [], IfErr, IsTrue, None, OnOk};
-ghost use Rattle.asm_base.specs.Refusals.{meaning_of};
+ghost use Rattle.command_refusals.specs.Refusals.{meaning_of};
 ghost use Rattle.asm_formats.specs.Regions.{reserved_units, units_in};
 ghost use Rattle.asm_group.specs.Shape.{is_shape};
 ghost use Rattle.new_groups.specs.Causes.{IsThisRefusal, creation_disk, creation_disks, first_refused, small_refusal, units_of_new_disk};
@@ -8,7 +8,8 @@ ghost use Rattle.new_groups.specs.Causes.{IsThisRefusal, creation_disk, creation
 use crate::places::Place;
 use crate::planned::Terms;
 use crate::refusals::too_small;
-use asm_base::{LEAST_USER_UNITS, MOST_UNITS, Refusal, Shape};
+use asm_base::{LEAST_USER_UNITS, MOST_UNITS, Shape};
+use command_refusals::Refusal;
 use new_disks::PlannedDisk;
 use std::alloc::Global;
 

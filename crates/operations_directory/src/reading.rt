@@ -11,7 +11,8 @@ ghost use Rattle.record_values.specs.Values.{pending_reading};
 ghost use Rattle.operations_directory.specs.Readings.{operation_of, read_operation};
 
 use crate::pending::Pending;
-use asm_base::{Key, Reader, is_at_end, take_pending_kind, take_u16, take_u32, take_u64};
+use asm_base::{Key, Reader, is_at_end, take_u16, take_u32, take_u64};
+use byte_codes::take_pending_kind;
 
 /// What one record says.
 #[derive(Clone, Copy)]

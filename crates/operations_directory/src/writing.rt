@@ -7,9 +7,8 @@ ghost use Rattle.asm_base.specs.Cursors.{PutsField};
 ghost use Rattle.asm_base.specs.Tables.{item_record};
 
 use crate::pending::Pending;
-use asm_base::{
-    Block, Key, NoMemory, Value, Writer, put_pending_kind, put_u16, put_u32, put_u64, record_kind,
-};
+use asm_base::{Block, Key, NoMemory, Value, Writer, put_u16, put_u32, put_u64, record_kind};
+use byte_codes::put_pending_kind;
 use std::alloc::Global;
 
 /// The record of an active rebalance of a power.

@@ -9,7 +9,7 @@ use Rattle.asm_base.specs.asm_formats.Values.{value, decoded_item, item_by, file
 use Rattle.asm_base.specs.Records.{all_of}
 use Rattle.asm_base.proofs.Exact.{IsExact, both_exact, as_exact, fits_exact}
 use Rattle.asm_base.proofs.Numbers.{number_exact}
-use Rattle.asm_base.proofs.WordLaws.{stripe_exact}
+use Rattle.byte_codes.proofs.WordLaws.{stripe_exact}
 use Rattle.asm_base.proofs.NameLaws.{name_exact}
 use Rattle.record_values.specs.Values.{FileParts, to_file, file_reading}
 use Rattle.record_values.proofs.Decoded.{value_decoded}

@@ -10,7 +10,7 @@ use Rattle.asm_base.specs.Parts.{NodeParts, to_node}
 use Rattle.asm_base.specs.Records.{all_of}
 use Rattle.asm_base.proofs.Exact.{IsExact, both_exact, as_exact, fits_exact}
 use Rattle.asm_base.proofs.Numbers.{number_exact}
-use Rattle.asm_base.proofs.WordLaws.{node_kind_exact}
+use Rattle.byte_codes.proofs.WordLaws.{node_kind_exact}
 use Rattle.asm_base.proofs.NameLaws.{name_exact}
 use Rattle.record_values.specs.Values.{node_reading}
 use Rattle.record_values.proofs.Decoded.{value_decoded}

@@ -12,7 +12,7 @@ use Rattle.asm_base.specs.Readings.{number_reading}
 use Rattle.asm_base.specs.Records.{all_of}
 use Rattle.asm_base.proofs.Exact.{IsExact, both_exact, as_exact, fits_exact}
 use Rattle.asm_base.proofs.Numbers.{number_exact}
-use Rattle.asm_base.proofs.WordLaws.{pending_kind_exact}
+use Rattle.byte_codes.proofs.WordLaws.{pending_kind_exact}
 use Rattle.record_values.specs.Values.{pending_reading}
 use Rattle.record_values.proofs.Decoded.{value_decoded}
 

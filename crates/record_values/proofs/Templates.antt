@@ -12,7 +12,7 @@ use Rattle.asm_base.specs.Parts.{TemplateParts, to_template}
 use Rattle.asm_base.specs.Records.{all_of}
 use Rattle.asm_base.proofs.Exact.{IsExact, both_exact, as_exact, tested_exact, fits_exact}
 use Rattle.asm_base.proofs.FieldLaws.{flag_exact, counted_exact}
-use Rattle.asm_base.proofs.WordLaws.{stripe_exact}
+use Rattle.byte_codes.proofs.WordLaws.{stripe_exact}
 use Rattle.record_values.specs.Values.{template_reading, templates_reading}
 use Rattle.record_values.proofs.Decoded.{value_decoded}
 use Rattle.record_values.proofs.FieldLaws.{copies_exact, few_copies, named_exact}

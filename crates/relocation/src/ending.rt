@@ -8,8 +8,9 @@ ghost use Rattle.relocation.specs.Endings.{ClosesOn, FinishesRebalance, is_disk_
 ghost use Rattle.relocation.specs.Shortfalls.{EndsActive, IsSliceShort};
 
 use crate::asking::Slice;
-use asm_base::{Mode, Refusal};
+use asm_base::Mode;
 use bay::Bay;
+use command_refusals::Refusal;
 use disk_images::close_header;
 use resync::{Attached, Mounted, PstRecord, entry_of};
 use std::alloc::Global;

@@ -8,8 +8,9 @@ ghost use Rattle.relocation.specs.Slices.{Goes, SliceCause};
 use crate::asking::{Asked, Slice, ask};
 use crate::ending::end_with;
 use crate::steps::{add_directory, copy_step, move_tables};
-use asm_base::{NoMemory, Refusal};
+use asm_base::NoMemory;
 use bay::Bay;
+use command_refusals::Refusal;
 use resync::{Flight, Mounted, items_say_tables, piece_buffer, tables_have_items};
 use std::alloc::Global;
 

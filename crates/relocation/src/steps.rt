@@ -8,8 +8,9 @@ ghost use Rattle.relocation.specs.Slices.{Goes, HasCopyFault};
 ghost use Rattle.resync.specs.Copying.{refusal_of};
 
 use crate::fitting::is_in_place;
-use asm_base::{Change, DiskSet, ExtentId, Home, Refusal};
+use asm_base::{Change, DiskSet, ExtentId, Home};
 use bay::Bay;
+use command_refusals::Refusal;
 use resync::{
     Catalog, CopyError, Flight, Mounted, PstRecord, copy_piece, extent_bytes, piece_len,
     planned_moves_change_one_chunk, refusal_of, with_holders, with_next_holders,

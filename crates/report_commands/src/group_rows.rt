@@ -2,8 +2,9 @@
 ghost use Rattle.std.specs.Prelude.{◌≡◌, IfErr, IfOk};
 ghost use Rattle.report_commands.specs.GroupRows.{AreGroupsTold, AreLinesOf, AreAskedRows, IsNoGroup, IsRowOf, is_asked, is_group_there};
 
-use asm_base::{List, Name, NoMemory, Refusal, Text};
+use asm_base::{List, Name, NoMemory, Text};
 use asmcmd::{GroupRow, group_lines};
+use command_refusals::Refusal;
 use group_reports::{dismounted_row, group_row};
 use session::{Entry, GroupName, Session};
 use std::alloc::Global;

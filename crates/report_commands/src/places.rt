@@ -1,6 +1,6 @@
 // Where the session stands: cd and pwd.
 ghost use Rattle.std.specs.Prelude.{◌≡◌, ◌⊎◌, ◌++◌, ◌∷◌, [], Err, IfErr, IfOk, OnOk};
-ghost use Rattle.asm_base.specs.declared.refusal.Refusal.TheVariants.{NoMemory as WantOfMemory};
+ghost use Rattle.command_refusals.specs.declared.refusal.Refusal.TheVariants.{NoMemory as WantOfMemory};
 ghost use Rattle.asm_world.specs.Command.{Asked, Cd, Pwd};
 ghost use Rattle.asm_world.specs.Language.{command_of};
 ghost use Rattle.asm_world.specs.Paths.{path_text};
@@ -9,9 +9,10 @@ ghost use Rattle.group_reports.specs.Places.{directory_at};
 ghost use Rattle.report_commands.specs.Going.{IsDirectoryOf, IsGoingCause, IsGoingCauseBy, IsLed, IsLedBy, place_of_directory};
 ghost use Rattle.session.specs.Sessions.{AreReady};
 
-use asm_base::{List, Name, NoMemory, Path, Refusal, Text};
+use asm_base::{List, Name, NoMemory, Path, Text};
 use asmcmd::path_text;
 use bay::{Bay, Host};
+use command_refusals::Refusal;
 use group_reports::directory_at;
 use session::{Answer, Desk, Mounted, Reply, Session, no_memory, refused};
 use std::alloc::Global;

@@ -10,8 +10,9 @@ ghost use Rattle.report_commands.specs.Told.{AsksForReport};
 use crate::group_rows::groups_told;
 use crate::listing::{listed, parts_led};
 use crate::shown::{Report, directory_led, found, told, used};
-use asm_base::{Name, Refusal, Text};
+use asm_base::{Name, Text};
 use bay::{Bay, Host};
+use command_refusals::Refusal;
 use session::{Answer, Desk, answer_lines, no_memory, refused};
 use verb_paths::target;
 

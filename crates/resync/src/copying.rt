@@ -6,8 +6,9 @@ ghost use Rattle.file_extents.specs.group_pieces.Usable.{FitsExtent};
 ghost use Rattle.resync.specs.Copying.{CopyCause, refusal_of, copy_error_of};
 
 use crate::runs::{extent_bytes, piece_len};
-use asm_base::{DiskRef, ExtentId, Home, NoMemory, Refusal};
+use asm_base::{ExtentId, Home, NoMemory};
 use bay::{Bay, Fault};
+use command_refusals::{DiskRef, Refusal};
 use file_extents::{LONGEST_PIECE, Mounted, ReadError, is_run, read_piece, units_of, write_spare};
 use std::alloc::Global;
 

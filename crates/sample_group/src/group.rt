@@ -2,8 +2,9 @@
 
 use asm_base::{
     Block, DiskSet, GroupKind, Key, Mode, Name, NodeKind, PendingKind, Records, Shape, Stripe,
-    Value, Writer, put_node_kind, put_pending_kind, put_text, put_u32, put_u64, record_kind,
+    Value, Writer, put_text, put_u32, put_u64, record_kind,
 };
+use byte_codes::{put_node_kind, put_pending_kind};
 use catalog_laws::Catalog;
 use catalog_tables::CatalogError;
 use file_directory::{FileHead, record_of};

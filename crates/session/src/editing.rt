@@ -7,8 +7,9 @@ ghost use Rattle.session.specs.Sessions.{AreReady};
 
 use crate::naming::GroupWork;
 use crate::session::Session;
-use asm_base::{Name, Refusal};
+use asm_base::Name;
 use bay::Bay;
+use command_refusals::Refusal;
 use group_contents::Mounted;
 use session_claims::{GroupEdit, edit_group};
 use std::alloc::Global;

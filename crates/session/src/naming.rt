@@ -12,8 +12,9 @@ ghost use Rattle.session.specs.Works.{Doing, WorksOn};
 use crate::group_name::SoughtName;
 use crate::session::Session;
 use crate::spelling::spelt;
-use asm_base::{Name, Refusal};
+use asm_base::Name;
 use bay::Bay;
+use command_refusals::Refusal;
 use group_contents::Mounted;
 use std::alloc::Global;
 

@@ -4,7 +4,8 @@ ghost use Rattle.std.specs.Option.{option_map};
 ghost use Rattle.asm_world.specs.Paths.{clause_path};
 ghost use Rattle.session.specs.Leading.{IsLedTo, IsNoTarget};
 
-use asm_base::{Name, NoMemory, Path, Refusal};
+use asm_base::{Name, NoMemory, Path};
+use command_refusals::Refusal;
 use group_turns::{clause_path, target};
 use std::alloc::Global;
 

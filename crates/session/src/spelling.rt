@@ -1,10 +1,11 @@
 // Refusals in which each disk is spelt.
 ghost use Rattle.std.specs.Prelude.{◌≡◌, ◌⊎◌, [], IfOk};
-ghost use Rattle.asm_base.specs.Refusals.{referred_disk_name as name_of, meaning_of};
+ghost use Rattle.command_refusals.specs.Refusals.{referred_disk_name as name_of, meaning_of};
 ghost use Rattle.asm_group.specs.Refusal.{NoMemory as WantOfMemory};
 ghost use Rattle.session.specs.Entries.{disk_name};
 
-use asm_base::{DiskRef, NoMemory, Refusal, Text};
+use asm_base::{NoMemory, Text};
+use command_refusals::{DiskRef, Refusal};
 use group_contents::Mounted;
 use std::alloc::Global;
 

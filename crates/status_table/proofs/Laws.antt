@@ -14,7 +14,7 @@ use Rattle.asm_base.specs.Readings.{whole_reading}
 use Rattle.asm_base.proofs.Exact.{IsBytes, IsBytes-none, IsExact, Begins, bind_some, test_some, some_is, both_exact, as_exact, decoded_exact, fits_exact}
 use Rattle.asm_base.proofs.Numbers.{number_exact}
 use Rattle.asm_base.proofs.Tables.{are_bytes_is}
-use Rattle.asm_base.proofs.WordLaws.{mode_exact}
+use Rattle.byte_codes.proofs.WordLaws.{mode_exact}
 use Rattle.asm_base.proofs.FieldLaws.{byte_exact, flag_exact, fixed_exact, counted_exact, whole_takes, whole_again}
 use Rattle.status_table.specs.declared.reading.Version.{Version}
 use Rattle.status_table.specs.declared.reading.Version.TheVariants.{One, Two}

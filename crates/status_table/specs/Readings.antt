@@ -7,7 +7,7 @@ use Rattle.asm_formats.specs.Codes.{flag}
 use Rattle.asm_formats.specs.Claim.{Claim}
 use Rattle.asm_formats.specs.Status.{Entry, Status, entry_fields}
 use Rattle.asm_base.specs.Readings.{Reading, both, as_a, counted_reading, byte_reading, number_reading, flag_reading, fixed_reading}
-use Rattle.asm_base.specs.Words.{mode_reading}
+use Rattle.byte_codes.specs.Words.{mode_reading}
 use Rattle.status_table.specs.declared.reading.Version.{Version}
 use Rattle.status_table.specs.declared.reading.Version.TheVariants.{One, Two}
 

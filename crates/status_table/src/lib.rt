@@ -2,7 +2,8 @@
 //! their spellings in a block. No call takes memory.
 #![tactic(auto)]
 
-pub use asm_base::{BLOCK, Block, DiskSet, FIRST_CLAIM, FIRST_STATUS, SECOND_CLAIM, SECOND_STATUS};
+pub use asm_base::{Block, DiskSet};
+pub use disk_regions::{BLOCK, FIRST_CLAIM, FIRST_STATUS, SECOND_CLAIM, SECOND_STATUS};
 
 mod changes;
 mod claim;

@@ -10,9 +10,10 @@ ghost use Rattle.status_table.specs.Readings.{tag_of, entry_reading, next_readin
 use crate::record::{PstEntry, PstRecord};
 use crate::rules::is_status;
 use asm_base::{
-    Block, DiskSet, Reader, has_only_zeros, take_fixed, take_flag, take_mode, take_set, take_u8,
-    take_u32, take_u64,
+    Block, DiskSet, Reader, has_only_zeros, take_fixed, take_flag, take_set, take_u8, take_u32,
+    take_u64,
 };
+use byte_codes::take_mode;
 
 /// The version of a spelling.
 #[derive(Clone, Copy)]

@@ -9,9 +9,8 @@ ghost use Rattle.status_table.specs.declared.reading.Version.TheVariants.{Two};
 ghost use Rattle.status_table.specs.Readings.{status_fields};
 
 use crate::record::{PstEntry, PstRecord};
-use asm_base::{
-    Block, Writer, finish, put_bytes, put_flag, put_mode, put_set, put_u8, put_u32, put_u64,
-};
+use asm_base::{Block, Writer, finish, put_bytes, put_flag, put_set, put_u8, put_u32, put_u64};
+use byte_codes::put_mode;
 
 /// Fills the block with the record, in version 2.
 #[tactic(auto, using(crate::proofs::Laws::spelling_is))]

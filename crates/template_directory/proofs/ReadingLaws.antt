@@ -16,7 +16,7 @@ use Rattle.asm_base.specs.Tables.{entry_of_record, item_record}
 use Rattle.asm_base.proofs.Exact.{IsBytes, IsExact, bind_some, some_is, both_exact, as_exact, fits_exact}
 use Rattle.asm_base.proofs.Numbers.{number_exact}
 use Rattle.asm_base.proofs.FieldLaws.{byte_exact, flag_exact, counted_exact}
-use Rattle.asm_base.proofs.WordLaws.{stripe_exact}
+use Rattle.byte_codes.proofs.WordLaws.{stripe_exact}
 use Rattle.asm_base.proofs.NameLaws.{name_exact, text_exact, name_is_part}
 use Rattle.asm_base.proofs.Tables.{bytes_are, are_bytes_is}
 use Rattle.template_directory.specs.Tables.{Table, IsTemplateTable, records_of_templates, settings_said, table_of, templates_said}

@@ -15,9 +15,10 @@ ghost use Rattle.record_values.specs.Values.{template_reading, templates_reading
 use crate::settings::Settings;
 use crate::template::Template;
 use asm_base::{
-    Key, List, NoMemory, Reader, Value, is_at_end, record_kind, take_flag, take_stripe, take_text,
-    take_u8, take_u64,
+    Key, List, NoMemory, Reader, Value, is_at_end, record_kind, take_flag, take_text, take_u8,
+    take_u64,
 };
+use byte_codes::take_stripe;
 use record_values::{take_copies, take_named};
 use std::alloc::Global;
 

@@ -8,9 +8,8 @@ ghost use Rattle.std.specs.List.{list_all};
 
 use crate::settings::Settings;
 use crate::template::Template;
-use asm_base::{
-    Block, NoMemory, Value, Writer, put_flag, put_name, put_stripe, put_text, put_u8, put_u64,
-};
+use asm_base::{Block, NoMemory, Value, Writer, put_flag, put_name, put_text, put_u8, put_u64};
+use byte_codes::put_stripe;
 use std::alloc::Global;
 
 /// The value of the record of some templates, of which there are at most 64, by folded name.

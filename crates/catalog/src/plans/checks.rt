@@ -7,7 +7,8 @@ ghost use Rattle.plan_records.specs.NewNames.{HasParts, name_meant};
 use crate::catalog::Catalog;
 use crate::new_file::NewFile;
 use crate::plans::refusals::no_memory;
-use asm_base::{Name, Refusal};
+use asm_base::Name;
+use command_refusals::Refusal;
 use plan_records::{NameParts, new_name, refusal_of, system_path};
 use std::alloc::Global;
 

@@ -2,7 +2,7 @@
 
 ghost use Rattle.std.specs.Prelude.{◌≡◌, ◌<◌, ◌/◌, ◌%◌, ◌^◌, [], IfErr, IfOk, Some, get_or, slice_set};
 ghost use Rattle.asm_formats.specs.Sets.{has_bit};
-ghost use Rattle.asm_base.specs.declared.refusal.Refusal.TheVariants.{NoMemory as WithoutMemory};
+ghost use Rattle.command_refusals.specs.declared.refusal.Refusal.TheVariants.{NoMemory as WithoutMemory};
 ghost use Rattle.asm_placement.specs.Moves.{without_bit};
 ghost use Rattle.plan_records.specs.extent_map.Extents.{chunk_or_blank, record_of_chunk};
 ghost use Rattle.catalog.specs.ExtentPlans.{MayMove, with_move};
@@ -11,7 +11,8 @@ ghost use Rattle.catalog.specs.Plans.{IsPlan};
 use crate::catalog::Catalog;
 use crate::moving::with_home;
 use crate::plans::refusals::no_memory;
-use asm_base::{Change, ExtentId, Home, Key, NoMemory, Refusal, Value};
+use asm_base::{Change, ExtentId, Home, Key, NoMemory, Value};
+use command_refusals::Refusal;
 use plan_records::{Chunk, chunk_record, one_put, two_put};
 use std::alloc::Global;
 

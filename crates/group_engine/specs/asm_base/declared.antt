@@ -1,2 +1,2 @@
 -- The types of `asm_base` that crates above name.
-pub use Rattle.asm_base.specs.declared.refusal
+pub use Rattle.command_refusals.specs.declared.refusal

@@ -3,8 +3,8 @@
 ghost use Rattle.group_engine.specs.Mounts.{Takes};
 
 use crate::answers::{Answer, refused};
-use asm_base::Refusal;
 use bay::Bay;
+use command_refusals::Refusal;
 use group_engine::Mounted;
 use relocation::{Resynced, Slice, run_to_end, slice, sync_slice};
 use std::alloc::Global;

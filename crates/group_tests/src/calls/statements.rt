@@ -4,8 +4,9 @@ ghost use Rattle.group_engine.specs.Mounts.{Takes};
 
 use crate::answers::{Answer, answer_of, refused};
 use crate::steps::Statement;
-use asm_base::{DiskSet, Refusal};
+use asm_base::DiskSet;
 use bay::Bay;
+use command_refusals::Refusal;
 use disk_modes::{drop_disks, expire, offline_disks, resize_disks, set_rebalance, undrop_disks};
 use group_engine::Mounted;
 use std::alloc::Global;

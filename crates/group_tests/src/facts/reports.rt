@@ -2,12 +2,13 @@
 
 use super::fact::{Found, Report};
 use crate::spelt::read_path;
-use asm_base::{List, Name, NoMemory, Path, Refusal, Text};
+use asm_base::{List, Name, NoMemory, Path, Text};
 use asmcmd::{
     GroupRow, LsRow, attribute_lines, check_lines, disk_lines, group_lines, ls_lines, path_lines,
     template_lines, usage_lines,
 };
 use catalog::Catalog;
+use command_refusals::Refusal;
 use disk_modes::{
     attribute_rows, check, directory_at, directory_row, disk_name, disk_rows, dismounted_row,
     group_row, group_totals, is_directory, path_at, path_to, paths_found, row_at, rows_listed,

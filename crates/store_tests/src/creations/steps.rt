@@ -1,8 +1,9 @@
 // Steps of a row, and what comes of each. A group, and what is found of one, is dropped by a call in one place, since what goes in
 // place is proved in place.
-use asm_base::{Name, Refusal};
+use asm_base::Name;
 use bay::Bay;
 use bay_mem::MemBay;
+use command_refusals::Refusal;
 use group_disks::{
     Found, MountError, MountOption, Mounted, create_disk, create_group, drop_group, mount_group,
 };

@@ -8,8 +8,9 @@ ghost use Rattle.asm_placement.specs.Naming.{is_pending};
 ghost use Rattle.table_tests.specs.Planned.{IsPlanned};
 
 use crate::catalogs::steps::{Answer, answer_of};
-use asm_base::{Change, Name, PendingKind, Refusal, Stripe};
+use asm_base::{Change, Name, PendingKind, Stripe};
 use catalog::Catalog;
+use command_refusals::Refusal;
 use operations_directory::Pending;
 use std::alloc::Global;
 use template_directory::TemplateEdit;

@@ -1,6 +1,7 @@
 //! Steps of a row: plans that are made, and what the catalog tells.
 
-use asm_base::{PendingKind, Refusal, Stripe};
+use asm_base::{PendingKind, Stripe};
+use command_refusals::Refusal;
 
 /// A step of a row.
 #[derive(Clone, Copy)]

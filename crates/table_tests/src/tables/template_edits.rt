@@ -1,7 +1,8 @@
 // Edits of the templates of a group, and what they leave.
 use crate::helpers::{Wrong, name, row};
 use crate::tables::templates::new_table;
-use asm_base::{GroupKind, Limited, Refusal, Stripe};
+use asm_base::{GroupKind, Stripe};
+use command_refusals::{Limited, Refusal};
 use std::alloc::Global;
 use template_directory::{TemplateEdit, TemplateTable};
 

@@ -1,6 +1,6 @@
 use Rattle.std.proofs.Common.{rules, arith}
 use Rattle.std.proofs.lemmas.Grind.{common_steps}
-use Rattle.asm_base.specs.Refusals.{meaning_of}
+use Rattle.command_refusals.specs.Refusals.{meaning_of}
 use Rattle.group_disks.proofs.FirstMounts.{forms_says}
 use Rattle.group_disks.proofs.Moments.{forms_creates, forms_founds}
 use Rattle.group_disks.proofs.create.form.Goals as goal

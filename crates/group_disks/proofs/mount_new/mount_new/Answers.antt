@@ -1,6 +1,6 @@
 use Rattle.std.proofs.Common.{sym, ap, subst, refl}
 use Rattle.std.specs.Prelude.{IsTrue}
-use Rattle.asm_base.specs.Refusals.{meaning_of}
+use Rattle.command_refusals.specs.Refusals.{meaning_of}
 use Rattle.asm_formats.specs.Status.{Status, is_status}
 use Rattle.group_mount.specs.catalog_tables.Faults.{IsCatalogOf}
 use Rattle.group_disks.specs.Planned.{Plan}

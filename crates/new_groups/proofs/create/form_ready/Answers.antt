@@ -1,4 +1,4 @@
-use Rattle.asm_base.specs.Refusals.{meaning_of}
+use Rattle.command_refusals.specs.Refusals.{meaning_of}
 use Rattle.new_groups.proofs.Formed.{disks_stay, disks_there, newly}
 use Rattle.new_groups.proofs.create.form_ready.Goals as goal
 

@@ -1,4 +1,4 @@
-use Rattle.asm_base.specs.Refusals.{meaning_of}
+use Rattle.command_refusals.specs.Refusals.{meaning_of}
 use Rattle.new_groups.proofs.forming.+fault_of.Goals as goal
 
 pub returns-in_default : goal.returns-in_default

@@ -2,7 +2,7 @@ use Rattle.std.proofs.Common.{[], length, map, sym, ◌∙◌, refl}
 use Rattle.std.specs.String.{string_bytes}
 use Rattle.std.proofs.lemmas.List.{length-map}
 use Rattle.std.proofs.lemmas.Result.{IfErr-weaker, IfOk-weaker}
-use Rattle.asm_base.specs.Refusals.{meaning_of}
+use Rattle.command_refusals.specs.Refusals.{meaning_of}
 use Rattle.group_disks.specs.attribute_values.Creations.{creation_meant}
 use Rattle.new_groups.proofs.Formed.{looks_none}
 use Rattle.new_groups.proofs.Passing.{prepared_above, prepared_agrees, prepared_free}

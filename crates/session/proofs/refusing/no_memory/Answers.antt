@@ -1,5 +1,5 @@
 use Rattle.std.proofs.Common.{refl}
-use Rattle.asm_base.specs.Refusals.{meaning_of}
+use Rattle.command_refusals.specs.Refusals.{meaning_of}
 use Rattle.session.proofs.Outcomes.{no_memory}
 use Rattle.session.proofs.refusing.no_memory.Goals as goal
 

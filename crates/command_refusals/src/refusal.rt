@@ -2,8 +2,7 @@
 
 ghost use Rattle.std.specs.Prelude.{◌≡◌};
 
-use crate::kinds::{ExtentId, Mode};
-use crate::list::Text;
+use asm_base::{ExtentId, Mode, Text};
 
 /// A disk in a refusal: by its number where it has an entry in a mounted group's status, and
 /// otherwise as it is spelt.

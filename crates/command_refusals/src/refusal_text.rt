@@ -5,11 +5,11 @@ ghost use Rattle.std.specs.Prelude.{◌≡◌, ◌++◌, ◌∷◌, [], ℕ, tak
 ghost use Rattle.std.specs.List.{flat_map};
 ghost use Rattle.asm_group.specs.Names.{Bytes};
 ghost use Rattle.asm_group.specs.Refusal.{limited_text, mode_text, refused, refusal_line, refusal_words, NoMemory as NoMemoryCause};
-ghost use Rattle.asm_base.specs.Refusals.{referred_disk_name, limited_said, meaning_of};
-ghost use Rattle.asm_base.specs.RefusalText.{argument_words};
+ghost use Rattle.command_refusals.specs.Refusals.{referred_disk_name, limited_said, meaning_of};
+ghost use Rattle.command_refusals.specs.RefusalText.{argument_words};
 
-use crate::kinds::{Mode, NoMemory};
 use crate::refusal::{DiskRef, Limited, Refusal};
+use asm_base::{Mode, NoMemory};
 use itoa::Buffer;
 use std::alloc::Global;
 

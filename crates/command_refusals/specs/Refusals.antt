@@ -2,12 +2,12 @@
 use Rattle.std.specs.Prelude.{ℕ}
 use Rattle.asm_group.specs.Names.{Bytes}
 use Rattle.asm_group.specs.Refusal as said_by
-use Rattle.asm_base.specs.declared.refusal.DiskRef.{DiskRef}
-use Rattle.asm_base.specs.declared.refusal.DiskRef.TheVariants as disk
-use Rattle.asm_base.specs.declared.refusal.Limited.{Limited}
-use Rattle.asm_base.specs.declared.refusal.Limited.TheVariants as limited
-use Rattle.asm_base.specs.declared.refusal.Refusal.{Refusal}
-use Rattle.asm_base.specs.declared.refusal.Refusal.TheVariants as cause
+use Rattle.command_refusals.specs.declared.refusal.DiskRef.{DiskRef}
+use Rattle.command_refusals.specs.declared.refusal.DiskRef.TheVariants as disk
+use Rattle.command_refusals.specs.declared.refusal.Limited.{Limited}
+use Rattle.command_refusals.specs.declared.refusal.Limited.TheVariants as limited
+use Rattle.command_refusals.specs.declared.refusal.Refusal.{Refusal}
+use Rattle.command_refusals.specs.declared.refusal.Refusal.TheVariants as cause
 
 -- the name of a disk
 abbrev pub referred_disk_name : (ℕ → Bytes) → DiskRef → Bytes

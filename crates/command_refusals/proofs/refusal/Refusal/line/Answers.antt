@@ -1,10 +1,10 @@
 use Rattle.std.proofs.Common.{arith}
 use Rattle.std.proofs.lemmas.Result.{IfOk-weaker}
 use Rattle.asm_group.specs.Refusal.{refusal_words}
-use Rattle.asm_base.specs.Refusals.{meaning_of}
-use Rattle.asm_base.specs.RefusalText.{argument_words}
-use Rattle.asm_base.proofs.RefusalTexts.{line_is}
-use Rattle.asm_base.proofs.refusal.Refusal.line.Goals as goal
+use Rattle.command_refusals.specs.Refusals.{meaning_of}
+use Rattle.command_refusals.specs.RefusalText.{argument_words}
+use Rattle.command_refusals.proofs.RefusalTexts.{line_is}
+use Rattle.command_refusals.proofs.refusal.Refusal.line.Goals as goal
 
 -- src/refusal_text.rt:30:5
 pub returns : goal.returns

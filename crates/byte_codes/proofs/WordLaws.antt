@@ -11,7 +11,7 @@ use Rattle.asm_group.specs.declared.NodeKind.TheVariants.{Directory, System, Ali
 use Rattle.asm_group.specs.declared.PendingKind.{PendingKind}
 use Rattle.asm_group.specs.declared.PendingKind.TheVariants.{Create, Remove, Grow, Shrink}
 use Rattle.asm_formats.specs.Codes.{kind_code, mode_code, stripe_code, node_code, pending_code}
-use Rattle.asm_base.specs.Words.{known_kind, kind_reading, known_mode, mode_reading, known_stripe, stripe_reading, known_node_kind, node_kind_reading, known_pending_kind, pending_kind_reading}
+use Rattle.byte_codes.specs.Words.{known_kind, kind_reading, known_mode, mode_reading, known_stripe, stripe_reading, known_node_kind, node_kind_reading, known_pending_kind, pending_kind_reading}
 use Rattle.asm_base.proofs.Exact.{IsExact, decoded_exact}
 use Rattle.asm_base.proofs.FieldLaws.{one_byte, byte_exact}
 

@@ -3,10 +3,9 @@
 ghost use Rattle.std.specs.Prelude.{◌≡◌, ◌≤◌, ◌+◌, ◌∷◌, []};
 ghost use Rattle.asm_formats.specs.Codes.{kind_code, mode_code, stripe_code, node_code, pending_code};
 ghost use Rattle.asm_base.specs.Cursors.{PutsField, Reads};
-ghost use Rattle.asm_base.specs.Words.{kind_reading, mode_reading, stripe_reading, node_kind_reading, pending_kind_reading};
+ghost use Rattle.byte_codes.specs.Words.{kind_reading, mode_reading, stripe_reading, node_kind_reading, pending_kind_reading};
 
-use crate::cursor::{Reader, Writer, put_u8, take_u8};
-use crate::kinds::{GroupKind, Mode, NodeKind, PendingKind, Stripe};
+use asm_base::{GroupKind, Mode, NodeKind, PendingKind, Reader, Stripe, Writer, put_u8, take_u8};
 
 /// Puts the kind of a group: 1 EXTERNAL, 2 NORMAL, 3 HIGH redundancy.
 pub fn put_kind(to: &mut Writer, kind: GroupKind)

@@ -2,8 +2,8 @@
 use Rattle.std.specs.Prelude.{List, [], ◌∷◌}
 use Rattle.std.specs.Fmt.{decimal}
 use Rattle.asm_group.specs.Names.{Bytes}
-use Rattle.asm_base.specs.declared.refusal_text.Argument.{Argument}
-use Rattle.asm_base.specs.declared.refusal_text.Argument.TheVariants as argument
+use Rattle.command_refusals.specs.declared.refusal_text.Argument.{Argument}
+use Rattle.command_refusals.specs.declared.refusal_text.Argument.TheVariants as argument
 
 -- the words of an argument: one or none
 abbrev pub argument_words : Argument → List Bytes
