@@ -1,12 +1,13 @@
 -- The units of disks none of which are used.
-use Rattle.std.proofs.Common.{◌≡◌, ℕ, ◌<◌, ◌≤◌, ◌+◌, ◌^◌, Bool, true, false, eqb, leb, ltb, List, [], ◌∷◌, ◌++◌, map, refl, sym, ap, ◌∙◌, arith}
+use Rattle.std.proofs.Common.{◌≡◌, ℕ, ◌<◌, ◌≤◌, ◌+◌, ◌-◌, ◌*◌, ◌^◌, Bool, true, false, eqb, leb, ltb, List, [], ◌∷◌, ◌++◌, map, refl, sym, ap, ◌∙◌, arith}
 use Rattle.std.specs.Prelude.{◌/◌}
 use Rattle.std.specs.List.{list_all, range_with_len}
 use Rattle.std.proofs.lemmas.Bool.{and_parts, leb-true}
 use Rattle.std.proofs.Math.Nat.{div-le_self}
 use Rattle.std.proofs.lemmas.List.FromFn.{map-range_with_len_more}
 use Rattle.asm_group.specs.Shape.{Shape, is_shape, is_unit_size, is_step, is_sector, is_dir_blocks}
-use Rattle.asm_formats.specs.Regions.{reserved_units, most_units}
+use Rattle.asm_formats.specs.Bytes.{block_size}
+use Rattle.asm_formats.specs.Regions.{most_units, region_end, reserved_units}
 use Rattle.asm_formats.specs.Sets.{most_disks}
 use Rattle.asm_formats.specs.Status.{Entry, is_entry}
 use Rattle.partnership.proofs.asm_placement.Units.{is_unit}
@@ -47,5 +48,11 @@ reserved_few s e =
     let u = is_unit s.au p.0 in
     (omega (arith, u.least), u.most, leb-true s.dir_blocks 16384 (and_parts (leb 128 s.dir_blocks) (leb s.dir_blocks 16384) r.1).1)
 
-pub few_of : (n au : ℕ) → n < 4294967296 → n / au < 4294967296
+few_of : (n au : ℕ) → n < 4294967296 → n / au < 4294967296
 few_of n au few = omega (arith, few, div-le_self n au)
+
+pub reserved_fits : (s : Shape) → is_shape s ≡ true → reserved_units s < 4294967296
+unfolding reserved_units
+reserved_fits s e =
+    let f = reserved_few s e in
+    few_of (region_end s.dir_blocks * block_size + (s.au - 1)) s.au (omega (arith, f.0, f.1.0, f.1.1))

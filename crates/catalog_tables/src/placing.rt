@@ -213,12 +213,10 @@ fn units_in(entries: &[PstEntry], number: u8) -> u32
 }
 
 /// Units of a disk that hold no user bytes.
-#[tactic(auto, using(crate::proofs::UnusedLaws::reserved_few, crate::proofs::UnusedLaws::few_of), unfolding(asm_formats::specs::Regions::reserved_units))]
+#[tactic(auto, using(crate::proofs::UnusedLaws::reserved_fits))]
 fn reserved_units(shape: &Shape) -> u32
     requires { IsTrue (is_shape shape.now) }
     ensures { result ≡ reserved_units shape.now }
 {
-    let au = shape.au as u64;
-    let blocks = 14 + 2 * shape.dir_blocks as u64;
-    ((blocks * 4096 + (au - 1)) / au) as u32
+    disk_sizes::reserved_units(shape) as u32
 }

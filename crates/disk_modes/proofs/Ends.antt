@@ -2,11 +2,10 @@
 use Rattle.std.proofs.Common.{◌≡◌, ◌⊎◌, ⊎_elim, inl, inr, zero, suc, ℕ, ◌+◌, ◌-◌, ◌*◌, ◌/◌, ◌<◌, ◌≤◌, List, [], ◌∷◌, ◌++◌, length, max, get_or, set, replicate, Option, Some, None, refl, sym, ap, subst, ◌∙◌, arith}
 use Rattle.std.proofs.lemmas.Bool.{cases_eq, cases_lt}
 use Rattle.std.proofs.lemmas.List.{append_assoc, append-nil, get_or-replicate, get_or-set_same, get_or-set_other, get_or_past, length-replicate, length-set}
-use Rattle.std.proofs.Math.Nat.{div-zero}
 use Rattle.asm_base.specs.Chunks.{Chunk}
 use Rattle.asm_group.specs.Shape.{Shape}
 use Rattle.asm_formats.specs.Items.{Home, Homes}
-use Rattle.asm_formats.specs.Regions.{reserved_units}
+use Rattle.disk_sizes.specs.Sizes.{least_units}
 use Rattle.asm_placement.specs.Layout.{units_of}
 use Rattle.asm_placement.proofs.Membership.{among_left, among_right, among_split}
 use Rattle.group_reports.specs.catalog_tables.Tables.{Catalogued}
@@ -175,13 +174,5 @@ less : (c : Catalogued) (d a b : ℕ) → IsUsedTo c d a → IsUsedTo c d b → 
 less c d a b one other = ⊎_elim (λ none. omega (arith, none)) (λ some. other.last a some) one.one
 
 -- they are the same, whatever the end that they are counted from
-pub needs_same : (c : Catalogued) (d used need other : ℕ) → IsUsedTo c d used → need ≡ max (reserved_units c.shape + 16) used → NeedsUnits c d other → other ≡ need
+pub needs_same : (c : Catalogued) (d used need other : ℕ) → IsUsedTo c d used → need ≡ max (least_units c.shape) used → NeedsUnits c d other → other ≡ need
 needs_same c d used need other to is needs = omega (arith, is, needs.is, less c d used needs.used to needs.to, less c d needs.used used needs.to to)
-
-pub reserved_is : (s : Shape) → ((14 + 2 * s.dir_blocks) * 4096 + (s.au - 1)) / s.au ≡ reserved_units s
-unfolding reserved_units
-reserved_is s = refl
-
-pub none_reserved : (s : Shape) → s.au ≡ 0 → reserved_units s ≡ 0
-unfolding reserved_units
-none_reserved s is = ap (λ (n : ℕ). ((14 + 2 * s.dir_blocks) * 4096 + (s.au - 1)) / n) is ∙ div-zero ((14 + 2 * s.dir_blocks) * 4096 + (s.au - 1))

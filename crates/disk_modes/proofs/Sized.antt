@@ -27,6 +27,7 @@ use Rattle.record_laws.proofs.Entries.{entries_may_be_got}
 use Rattle.record_laws.proofs.Modes.{mounted_has_partners}
 use Rattle.record_laws.proofs.Partners.{table_stays}
 use Rattle.disk_modes.specs.declared.sizes.Asked.{Asked}
+use Rattle.disk_sizes.specs.Sizes.{least_units}
 use Rattle.disk_modes.specs.Causes.{AreLargeEnough, IsLargeEnough, asked_of, disk_image_units}
 use Rattle.disk_modes.specs.Ends.{IsUsedTo}
 use Rattle.disk_modes.specs.Sizes.{HasAsked, capped_units, entry_capped, image_units, most, units_asked, whole_units_in, units_of_size}
@@ -106,10 +107,10 @@ module _ (m : MountedGroup) (asked : Asked) (fit : FitImages asked m) where
 -- ---- what is large enough
 
 pub large_enough : (m : MountedGroup) (asked : Asked) (d used units image need : ℕ) (s : Shape) → IsUsedTo m.catalog d used → units ≡ asked_of m asked d → image ≡ disk_image_units m d → s ≡ m.catalog.shape
-    → need ≡ max (regions.reserved_units s + 16) used → units ≤ image → need ≤ units → IsLargeEnough m asked d
+    → need ≡ max (least_units s) used → units ≤ image → need ≤ units → IsLargeEnough m asked d
 large_enough m asked d used units image need s to is has same counted fits covers = record {
   image = omega (arith, is, has, fits);
-  needed = λ other needs. omega (arith, is, covers, needs_same m.catalog d used need other to (counted ∙ ap (λ (x : Shape). max (regions.reserved_units x + 16) used) same) needs);
+  needed = λ other needs. omega (arith, is, covers, needs_same m.catalog d used need other to (counted ∙ ap (λ (x : Shape). max (least_units x) used) same) needs);
 }
 
 -- the first disks are, where the statement has them

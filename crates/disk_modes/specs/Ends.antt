@@ -2,7 +2,7 @@
 use Rattle.std.specs.Prelude.{◌≡◌, ◌⊎◌, ℕ, ◌+◌, ◌*◌, ◌<◌, ◌≤◌, max, List, [], length, get_or, Option, Some, None}
 use Rattle.asm_formats.specs.Among.{IsAmong}
 use Rattle.asm_formats.specs.Items.{Home, Homes}
-use Rattle.asm_formats.specs.Regions.{reserved_units}
+use Rattle.disk_sizes.specs.Sizes.{least_units}
 use Rattle.asm_placement.specs.Layout.{units_of}
 use Rattle.group_reports.specs.catalog_tables.Tables.{Catalogued}
 use Rattle.group_reports.specs.extent_map.Extents.{Chunked}
@@ -50,4 +50,4 @@ AreUsedTo c ends = (d : ℕ) → d < 64 → IsUsedTo c d (get_or ends d 0)
 pub record NeedsUnits (c : Catalogued) (d need : ℕ) : Type 0 where
   pub used : ℕ
   pub to : IsUsedTo c d used
-  pub is : need ≡ max (reserved_units c.shape + 16) used
+  pub is : need ≡ max (least_units c.shape) used

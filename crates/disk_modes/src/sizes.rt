@@ -1,13 +1,13 @@
 // The units that disks have, need and are to have.
 ghost use Rattle.std.specs.Prelude.{◌≡◌, ℕ, ◌+◌, ◌*◌, ◌<◌, ◌≤◌, ◌^◌, IfErr, OnOk, Some, length, max, true};
-ghost use Rattle.asm_formats.specs.Regions.{reserved_units};
 ghost use Rattle.asm_formats.specs.Sets.{has_bit};
 ghost use Rattle.asm_placement.specs.Layout.{units_of};
+ghost use Rattle.disk_sizes.specs.Sizes.{least_units};
 ghost use Rattle.disk_modes.specs.Causes.{AreLargeEnough, IsFirstSmall, IsLargeEnough, IsTooSmall, SizeCause};
 ghost use Rattle.disk_modes.specs.Ends.{AreUsedTo, HasEnds, IsChunkEnd, IsCopyEnd, IsHomeEnd, IsUsedTo};
 ghost use Rattle.disk_modes.specs.Sizes.{image_units, units_asked, whole_units_in};
 
-use asm_base::{DiskSet, Home, Homes, LEAST_USER_UNITS, MOST_UNITS, Shape};
+use asm_base::{DiskSet, Home, Homes, MOST_UNITS, Shape};
 use command_refusals::{DiskRef, Refusal};
 use group_reports::{Catalog, units_of};
 use record_laws::Mounted;
@@ -52,17 +52,11 @@ fn units_in(shape: &Shape, bytes: u64) -> u64
     bytes / shape.au as u64
 }
 
-/// The units that a disk needs: those of its directory region with 16 for users, or those up to its last used one where these are more.
-fn least_units(shape: &Shape, used: u64) -> u64
-    ensures { result ≡ max (reserved_units shape.now + 16) used }
+/// The units that a disk needs: those that it must have, or those up to its last used one where these are more.
+fn needed_units(shape: &Shape, used: u64) -> u64
+    ensures { result ≡ max (least_units shape.now) used }
 {
-    let au = shape.au as u64;
-    if au == 0 {
-        return LEAST_USER_UNITS.max(used);
-    }
-    let blocks = 14 + 2 * shape.dir_blocks as u64;
-    let reserved = (blocks * 4096 + (au - 1)) / au;
-    (reserved + LEAST_USER_UNITS).max(used)
+    least_units(shape).max(used)
 }
 
 /// Refused as TooSmall by the least of the disks whose image has fewer units than it is to have, or that needs more.
@@ -94,7 +88,7 @@ fn check_size(m: &Mounted, asked: &Asked, disk: u8, used: u64) -> Result<(), Ref
     if image_units(m, disk) < units {
         return too_small(m, asked, disk, units);
     }
-    let need = least_units(&m.catalog().shape(), used);
+    let need = needed_units(&m.catalog().shape(), used);
     if units < need {
         return too_small(m, asked, disk, need);
     }

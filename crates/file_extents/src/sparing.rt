@@ -1,7 +1,6 @@
 // Bytes of extents that aren't committed yet.
 ghost use Rattle.std.specs.Bool.{OnTrue};
 ghost use Rattle.std.specs.Prelude.{◌≡◌, ◌≤◌, IfSome};
-ghost use Rattle.asm_formats.specs.Regions.{reserved_units};
 ghost use Rattle.group_pieces.specs.group_engine.Mounts.{IsMounted, Takes};
 ghost use Rattle.group_pieces.specs.group_engine.Own.{KeepsGroup};
 ghost use Rattle.group_pieces.specs.Spare.{IsRunOf};
@@ -11,21 +10,8 @@ use crate::layout::Piece;
 use asm_base::{DiskSet, Home, Homes, Shape};
 use bay::{Bay, Fault};
 use catalog_tables::units_of;
-use disk_regions::BLOCK;
+use disk_sizes::reserved_units;
 use group_pieces::{Mounted, write_spare};
-
-/// Units of a disk that hold no bytes of files. None where a unit has no bytes.
-#[tactic(auto, unfolding(asm_formats::specs::Regions::reserved_units))]
-fn reserved_units(shape: &Shape) -> Option<u64>
-    ensures { IfSome result (λ units. units ≡ reserved_units shape.now) }
-{
-    let blocks = 14 + 2 * shape.dir_blocks as u64;
-    let au = shape.au as u64;
-    if au == 0 {
-        return None;
-    }
-    Some((blocks * BLOCK + (au - 1)) / au)
-}
 
 /// Whether so many bytes from an inner byte on are whole sectors of a copy of so many units, and these units, from the
 /// home's on, lie on an attached disk behind its reserved ones.
@@ -43,9 +29,7 @@ pub fn is_run(m: &Mounted, home: Home, units: u32, inner: u64, len: usize) -> bo
         return false;
     };
     let shape = m.catalog().shape();
-    let Some(reserved) = reserved_units(&shape) else {
-        return false;
-    };
+    let reserved = reserved_units(&shape);
     let au = shape.au as u64;
     let Some(end) = (home.unit as u64 + units as u64).checked_mul(au) else {
         return false;

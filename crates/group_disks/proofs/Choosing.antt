@@ -14,6 +14,14 @@ use Rattle.asm_base.specs.Names.{name_of}
 use Rattle.asm_base.proofs.NameLaws.{name_is_part}
 use Rattle.group_disks.specs.declared.find.Probe.{Probe}
 use Rattle.group_disks.specs.Probes.{IsUnusable, SaysRefusal}
+use Rattle.asm_formats.specs.Regions.{reserved_units}
+use Rattle.disk_sizes.specs.Sizes.{least_units}
+use Rattle.group_disks.specs.Creating.{units_needed, usual_shape}
+
+-- what the disk of a new group must have is what a disk of its shape must have
+needed_is_least : least_units usual_shape ≡ units_needed
+unfolding reserved_units
+needed_is_least = refl
 
 weaker : (n m : ℕ) → n ≤ m → (xs : List ℕ) → All (λ (o : ℕ). o < n) xs → All (λ (o : ℕ). o < m) xs
 weaker n m le xs all = λ k d lt. let old : get_or xs k d < n = all k d lt in omega (arith, old, le)

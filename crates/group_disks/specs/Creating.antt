@@ -60,6 +60,10 @@ pub record HasCreated (n id : ℕ) (g : Group) (is_done : Bool) (old new : BaySt
 abbrev pub usual_shape : Shape
 usual_shape = record { kind = External; au = 1048576; sector = 512; step = 20000; dir_blocks = 1024 }
 
+-- the units that the disk of a new group must have: those that its directory region reaches into, and 16 for users
+abbrev pub units_needed : ℕ
+units_needed = 25
+
 -- the group that a creation of this name makes
 abbrev pub made_group : Bytes → Group
 made_group name = new_group name usual_shape usual_attributes

@@ -9,6 +9,7 @@ use Rattle.asm_group.specs.Names.{Bytes}
 use Rattle.asm_group.specs.Refusal as r
 use Rattle.asm_formats.specs.Header.{Header}
 use Rattle.asm_images.specs.Kept.{header_in}
+use Rattle.group_disks.specs.Creating.{units_needed}
 
 -- of the disks: what is attached, what they hold where it is told, and how often each slot failed
 pub record Counts : Type 0 where
@@ -72,7 +73,7 @@ pub record WriteFaultCause (paths : List Bytes) (s t : Counts) : Type 0 where
 abbrev pub RefusalCause : List Bytes → Bytes → r.Refusal → Counts → Counts → Type 0
 RefusalCause paths path (r.NoDisk text) s t = (text ≡ path) × NoDiskCause paths path s t
 RefusalCause paths path (r.DiskTaken text) s t = (text ≡ path) × DiskTakenCause paths path s t
-RefusalCause paths path (r.TooSmall disk need) s t = (need ≡ 25) × TooSmallCause paths need s t
+RefusalCause paths path (r.TooSmall disk need) s t = (need ≡ units_needed) × TooSmallCause paths need s t
 RefusalCause paths path (r.WriteFault disk) s t = WriteFaultCause paths s t
 RefusalCause paths path r.NoMemory s t = ⊤
 RefusalCause paths path other s t = ⊥

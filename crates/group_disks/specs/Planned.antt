@@ -12,7 +12,7 @@ use Rattle.asm_formats.specs.Content.{Content}
 use Rattle.asm_formats.specs.Metadata.{Metadata}
 use Rattle.asm_formats.specs.Regions.{most_units}
 use Rattle.asm_images.specs.Kept.{Kept}
-use Rattle.group_disks.specs.Creating.{usual_shape}
+use Rattle.group_disks.specs.Creating.{units_needed, usual_shape}
 use Rattle.asm_images.specs.Created.{first_templates, first_settings}
 
 -- the group's id and name, and the name and the units of its one disk
@@ -26,7 +26,7 @@ pub record IsGroupPlan (plan : Plan) : Type 0 where
   pub name : is_name plan.name ≡ true
   pub disk : is_name plan.disk ≡ true
   pub id : plan.id < 2 ^ 64
-  pub least : 25 ≤ plan.units
+  pub least : units_needed ≤ plan.units
   pub most : plan.units ≤ most_units
 
 -- the disk is number 0, with birth 1, in a failure group of its own

@@ -13,6 +13,7 @@ use Rattle.asm_images.specs.Kept.{header_in}
 use Rattle.group_disks.specs.Found.{Counts, ToldByCounts}
 use Rattle.group_disks.specs.declared.find.Probe.{Probe}
 use Rattle.group_disks.specs.declared.find.Probe.TheVariants as probe
+use Rattle.group_disks.specs.Creating.{units_needed}
 
 -- the id in the open header of the disk in a slot
 abbrev pub id_in : Image → ℕ → Option ℕ
@@ -39,7 +40,7 @@ size_shown (probe.Read size id) = size
 pub record IsUsableProbe (p : Probe) (units : ℕ) : Type 0 where
   pub size : ℕ
   pub free : p ≡ probe.Read size None
-  pub least : 25 ≤ units
+  pub least : units_needed ≤ units
   pub most : units ≤ most_units
   pub inside : units * 1048576 ≤ size
 
@@ -48,7 +49,7 @@ abbrev pub IsUnusable : Bytes → Bytes → Probe → r.Refusal → Type 0
 IsUnusable path disk p (r.NoDisk text) = (text ≡ path) × (p ≡ probe.Absent)
 IsUnusable path disk p (r.WriteFault text) = (text ≡ disk) × (size : ℕ) × (p ≡ probe.Unread size)
 IsUnusable path disk p (r.DiskTaken text) = (text ≡ path) × (size : ℕ) × (id : ℕ) × (p ≡ probe.Read size (Some id))
-IsUnusable path disk p (r.TooSmall text need) = (text ≡ disk) × (need ≡ 25) × (size : ℕ) × (p ≡ probe.Read size None) × (size / 2 ^ 20 < 25)
+IsUnusable path disk p (r.TooSmall text need) = (text ≡ disk) × (need ≡ units_needed) × (size : ℕ) × (p ≡ probe.Read size None) × (size / 2 ^ 20 < units_needed)
 IsUnusable path disk p r.NoMemory = ⊤
 IsUnusable path disk p other = ⊥
 

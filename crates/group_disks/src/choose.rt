@@ -5,6 +5,7 @@ ghost use Rattle.bay.specs.Counts.{last_count};
 ghost use Rattle.asm_group.specs.Names.{is_name};
 ghost use Rattle.command_refusals.specs.Refusals.{meaning_of};
 ghost use Rattle.asm_group.specs.Refusal.{NoDisk, DiskTaken, TooSmall, WriteFault};
+ghost use Rattle.group_disks.specs.Creating.{units_needed};
 ghost use Rattle.group_disks.specs.Probes.{IsUsableProbe, IsUnusable, SaysRefusal, size_shown};
 
 use crate::find::Probe;
@@ -15,7 +16,7 @@ use std::alloc::Global;
 /// The bytes of a unit.
 const UNIT: u64 = 1_048_576;
 
-/// The units that the disk of a new group needs: those of its directory region, and 16 for users.
+/// The units that the disk of a new group must have: `least_units` of the usual shape.
 const LEAST_UNITS: u32 = 25;
 
 /// The units of the disk that a look has shown, where it can be given to a new group.
@@ -121,7 +122,7 @@ pub fn disk_taken(alloc: Global, path: &[u8]) -> Refusal
 
 /// The disk has too few units.
 fn too_small(alloc: Global, disk: &Name) -> Refusal
-    ensures { SaysRefusal (TooSmall disk.now 25) result }
+    ensures { SaysRefusal (TooSmall disk.now units_needed) result }
 {
     match Text::from_slice(alloc, disk.as_bytes()) {
         Ok(text) => Refusal::TooSmall {

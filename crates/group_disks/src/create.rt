@@ -5,6 +5,7 @@ ghost use Rattle.std.specs.String.{string_bytes};
 ghost use Rattle.command_refusals.specs.Refusals.{meaning_of};
 ghost use Rattle.asm_group.specs.Refusal.{NoMemory};
 ghost use Rattle.asm_formats.specs.Regions.{most_units};
+ghost use Rattle.group_disks.specs.Creating.{units_needed};
 ghost use Rattle.group_disks.specs.Gives.{FormsGroup};
 ghost use Rattle.group_disks.specs.GroupCalls.{CreatesGroup};
 ghost use Rattle.group_disks.specs.Planned.{IsGroupPlan};
@@ -129,7 +130,7 @@ fn make_ready(
 ) -> Result<Ready, Refusal>
     requires name { IsTrue (is_name name.now) }
     requires disk { IsTrue (is_name disk) }
-    requires least { 25 ≤ units }
+    requires least { units_needed ≤ units }
     requires most { units ≤ most_units }
     ensures ready { IfOk result (λ ready. IsMadeReady place name.now units id ready) }
     ensures err { IfErr result (λ refusal. meaning_of (λ _. []) refusal ≡ NoMemory) }

@@ -17,6 +17,7 @@ use asm_base::DiskSet;
 use bay::Bay;
 use command_refusals::{DiskRef, Refusal};
 use directory_store::{CopyError, DirCopy};
+use disk_sizes::region_bytes;
 use status_register::{Dead, Register, is_of_entry, with_dirs};
 use std::alloc::Global;
 
@@ -98,7 +99,7 @@ impl Mounted {
         let first = self.store.copies().first()?;
         let member = self.register.member(to)?;
         let attached = self.disks[to as usize]?;
-        let end = (14 + 2 * first.dir_blocks as u64) * 4096;
+        let end = region_bytes(first.dir_blocks);
         if attached.size < end || !is_of_entry(self.register.value().entries(), member) {
             return None;
         }

@@ -11,7 +11,7 @@ use crate::finding::Headed;
 use crate::missing::has_units;
 use asm_base::NoMemory;
 use directory_store::DirCopy;
-use disk_regions::BLOCK;
+use disk_sizes::region_bytes;
 use status_register::{Member, is_of_entry};
 use status_table::PstRecord;
 use std::alloc::Global;
@@ -32,7 +32,7 @@ fn copy_of(headed: &Headed) -> DirCopy
 pub fn has_region(dir_blocks: u32, size: u64) -> bool
     ensures { result ≡ has_region dir_blocks size }
 {
-    (14 + 2 * dir_blocks as u64) * BLOCK <= size
+    region_bytes(dir_blocks) <= size
 }
 
 /// Whether a member of an id was read, has all its units and a whole directory region, and a copy there that the record names.

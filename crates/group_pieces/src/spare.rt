@@ -12,6 +12,7 @@ ghost use Rattle.group_pieces.specs.Written.{HomeBytes, IsPlaceOfHome};
 use crate::copies::{Place, write_synced};
 use asm_base::{Home, MOST_DISKS};
 use bay::{Bay, Fault};
+use disk_sizes::region_bytes;
 use record_laws::Mounted;
 
 /// Writes and syncs bytes of units of an attached disk, from an inner byte of them on. The inner byte and the length are multiples of
@@ -90,14 +91,4 @@ fn run_at(m: &Mounted, home: Home, inner: u64, len: u64) -> Option<Place>
         slot,
         at,
     })
-}
-
-ghost use Rattle.asm_formats.specs.Bytes.{block_size};
-ghost use Rattle.asm_formats.specs.Regions.{region_end};
-
-/// The bytes up to the end of a directory region with so many pages.
-fn region_bytes(dir_blocks: u32) -> u64
-    ensures { result ≡ region_end dir_blocks * block_size }
-{
-    (14 + 2 * dir_blocks as u64) * 4096
 }

@@ -3,7 +3,7 @@ use Rattle.std.specs.Prelude.{◌≡◌, ◌⊎◌, ℕ, ◌+◌, ◌/◌, Bool,
 use Rattle.std.specs.List.{filter_map, list_any}
 use Rattle.std.specs.Str.{bytes_eq}
 use Rattle.asm_formats.specs.Header.{Header}
-use Rattle.asm_formats.specs.Regions.{reserved_units, units_in}
+use Rattle.asm_formats.specs.Regions.{units_in}
 use Rattle.asm_group.specs.declared.GroupKind.{GroupKind}
 use Rattle.asm_group.specs.Names.{Bytes}
 use Rattle.asm_group.specs.Refusal as r
@@ -11,6 +11,7 @@ use Rattle.asm_group.specs.Shape.{Shape}
 use Rattle.asm_world.specs.NewDisks.{PlannedDisk, is_name_taken, needed_groups, regular_groups}
 use Rattle.asm_world.specs.Statement.{NewDisk, NewFailgroup}
 use Rattle.disk_images.specs.declared.looking.Looked.{Looked}
+use Rattle.disk_sizes.specs.Sizes.{least_units}
 use Rattle.disk_images.specs.declared.looking.Looked.TheVariants.{Absent, Unread, Read}
 use Rattle.group_disks.specs.group_mount.Founds.{is_held}
 use Rattle.new_groups.specs.declared.asked.Known.{Known}
@@ -114,7 +115,7 @@ units_of_new_disk s (Some said) size = said / s.au
 abbrev pub small_refusal : Shape → CreationDisk → Option r.Refusal
 small_refusal s c =
     let units = units_of_new_disk s c.terms.size c.place.size in
-    let least = reserved_units s + 16 in
+    let least = least_units s in
     if nat_lt (units_in s c.place.size) units then Some (r.TooSmall c.disk.name units) else (if nat_lt units least then Some (r.TooSmall c.disk.name least) else None)
 
 -- ---- tests of all

@@ -1,37 +1,17 @@
 //! The units of the disks of a creation.
 ghost use Rattle.std.specs.Prelude.{◌≡◌, ◌+◌, [], IfErr, IsTrue, None, OnOk};
 ghost use Rattle.command_refusals.specs.Refusals.{meaning_of};
-ghost use Rattle.asm_formats.specs.Regions.{reserved_units, units_in};
 ghost use Rattle.asm_group.specs.Shape.{is_shape};
 ghost use Rattle.new_groups.specs.Causes.{IsThisRefusal, creation_disk, creation_disks, first_refused, small_refusal, units_of_new_disk};
 
 use crate::places::Place;
 use crate::planned::Terms;
 use crate::refusals::too_small;
-use asm_base::{LEAST_USER_UNITS, MOST_UNITS, Shape};
+use asm_base::Shape;
 use command_refusals::Refusal;
+use disk_sizes::{least_units, units_in};
 use new_disks::PlannedDisk;
 use std::alloc::Global;
-
-/// The units that a disk needs: those of its directory region, and 16 for users.
-#[tactic(auto, using(asm_images::proofs::UserBytes::shape_au), unfolding(asm_formats::specs::Regions::reserved_units))]
-fn least_units(shape: &Shape) -> u64
-    requires { IsTrue (is_shape shape.now) }
-    ensures { result ≡ reserved_units shape.now + 16 }
-{
-    let au = shape.au as u64;
-    let blocks = 14 + 2 * shape.dir_blocks as u64;
-    (blocks * 4096 + (au - 1)) / au + LEAST_USER_UNITS
-}
-
-/// The units of an image of so many bytes.
-#[tactic(auto, using(asm_images::proofs::UserBytes::shape_au))]
-fn image_units(shape: &Shape, bytes: u64) -> u64
-    requires { IsTrue (is_shape shape.now) }
-    ensures { result ≡ units_in shape.now bytes }
-{
-    (bytes / shape.au as u64).min(MOST_UNITS)
-}
 
 /// The units that a disk is to have: those of the size that is said, or those of its image of so many bytes.
 #[tactic(auto, using(asm_images::proofs::UserBytes::shape_au))]
@@ -41,7 +21,7 @@ fn units_asked(shape: &Shape, size: Option<u64>, bytes: u64) -> u64
 {
     match size {
         Some(said) => said / shape.au as u64,
-        None => image_units(shape, bytes),
+        None => units_in(shape, bytes),
     }
 }
 
@@ -58,7 +38,7 @@ fn units_for(
     ensures refused { IfErr result (λ refusal. IsThisRefusal (small_refusal shape.now (creation_disk disk.now terms place)) (meaning_of (λ _. []) refusal)) }
 {
     let units = units_asked(shape, terms.size, place.size);
-    if image_units(shape, place.size) < units {
+    if units_in(shape, place.size) < units {
         return Err(too_small(alloc, &disk.name, units));
     }
     let least = least_units(shape);

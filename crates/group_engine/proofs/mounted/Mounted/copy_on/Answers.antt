@@ -30,5 +30,5 @@ returns c =
       sector = refl;
       image = c.in_ok-attached.attached;
       at = c.in_ok-attached.was;
-      room = omega (arith, c.if-attached-end.false);
+      room = omega (arith, c.if-attached-end.false, c.region_bytes-end.ensures);
     })
