@@ -1,11 +1,9 @@
 // The slots of a bay. A slot is kept from the first call that attaches or makes its image.
-ghost use Rattle.std.specs.Prelude.{◌≡◌, ◌≤◌, Some, None, length, IfOk, OnOk, OnErr, IsErrOf, IsSome};
+ghost use Rattle.std.specs.Prelude.{◌≡◌, None, length, OnOk, OnErr, IsSome};
 ghost use Rattle.std.specs.Ordering.{nat_cmp};
 ghost use Rattle.std.specs.BTreeMap.{get};
-ghost use Rattle.std.specs.Option.{ForSome};
-ghost use Rattle.bay.specs.declared.fault.BayError.TheVariants.{Fault};
-ghost use Rattle.bay.specs.Counts.{count_after, Rose};
-ghost use Rattle.bay_file.specs.Slots.{attached_in, faults_in, written_in, OtherSlotsStay, AllSlotsStay};
+ghost use Rattle.bay.specs.Calls.{sends, sends_none};
+ghost use Rattle.bay_file.specs.Slots.{attached_in, state_in, OtherSlotsStay, AllSlotsStay, IsAttached, IsMade, IsServed};
 
 use crate::slot::Slot;
 use bay::{BayError, Fault};
@@ -34,13 +32,8 @@ fn attach_kept(
     path: &str,
 ) -> Result<u64, BayError>
     requires { IsSome (get nat_cmp slots.old slot) }
-    ensures attached { IfOk result (λ size. attached_in slots.new slot ≡ Some size) }
-    ensures has { ForSome (attached_in slots.old slot) (λ size. attached_in slots.new slot ≡ Some size) }
-    ensures refused { OnErr result (attached_in slots.new slot ≡ attached_in slots.old slot) }
+    ensures call { IsAttached result (state_in slots.old slot) (state_in slots.new slot) }
     ensures others { OtherSlotsStay slot slots.old slots.new }
-    ensures written { written_in slots.new slot ≡ written_in slots.old slot }
-    ensures later { faults_in slots.old slot ≤ faults_in slots.new slot }
-    ensures cause { IsErrOf result BayError.Fault → Rose (faults_in slots.old slot) (faults_in slots.new slot) }
 {
     slots.get_mut(&slot).unwrap().attach(runtime, path)
 }
@@ -53,12 +46,8 @@ fn make_kept(
     size: u64,
 ) -> Result<(), BayError>
     requires { IsSome (get nat_cmp slots.old slot) }
-    ensures attached { OnOk result (attached_in slots.new slot ≡ Some size) }
-    ensures refused { OnErr result (attached_in slots.new slot ≡ None) }
+    ensures call { IsMade result size (state_in slots.old slot) (state_in slots.new slot) }
     ensures others { OtherSlotsStay slot slots.old slots.new }
-    ensures written { written_in slots.new slot ≡ written_in slots.old slot }
-    ensures later { faults_in slots.old slot ≤ faults_in slots.new slot }
-    ensures cause { IsErrOf result BayError.Fault → Rose (faults_in slots.old slot) (faults_in slots.new slot) }
 {
     slots.get_mut(&slot).unwrap().make(runtime, path, size)
 }
@@ -70,13 +59,8 @@ pub fn attach_in(
     runtime: &HostRuntime,
     path: &str,
 ) -> Result<u64, BayError>
-    ensures attached { IfOk result (λ size. attached_in slots.new slot ≡ Some size) }
-    ensures has { ForSome (attached_in slots.old slot) (λ size. attached_in slots.new slot ≡ Some size) }
-    ensures refused { OnErr result (attached_in slots.new slot ≡ attached_in slots.old slot) }
+    ensures call { IsAttached result (state_in slots.old slot) (state_in slots.new slot) }
     ensures others { OtherSlotsStay slot slots.old slots.new }
-    ensures written { written_in slots.new slot ≡ written_in slots.old slot }
-    ensures later { faults_in slots.old slot ≤ faults_in slots.new slot }
-    ensures cause { IsErrOf result BayError.Fault → Rose (faults_in slots.old slot) (faults_in slots.new slot) }
 {
     if keep_slot(slots, slot).is_err() {
         return Err(BayError::NoMemory);
@@ -92,12 +76,8 @@ pub fn make_in(
     path: &str,
     size: u64,
 ) -> Result<(), BayError>
-    ensures attached { OnOk result (attached_in slots.new slot ≡ Some size) }
-    ensures refused { OnErr result (attached_in slots.new slot ≡ None) }
+    ensures call { IsMade result size (state_in slots.old slot) (state_in slots.new slot) }
     ensures others { OtherSlotsStay slot slots.old slots.new }
-    ensures written { written_in slots.new slot ≡ written_in slots.old slot }
-    ensures later { faults_in slots.old slot ≤ faults_in slots.new slot }
-    ensures cause { IsErrOf result BayError.Fault → Rose (faults_in slots.old slot) (faults_in slots.new slot) }
 {
     if keep_slot(slots, slot).is_err() {
         return Err(BayError::NoMemory);
@@ -107,33 +87,24 @@ pub fn make_in(
 
 pub fn read_in(slots: &mut SlotMap, slot: u32, at: u64, buf: &mut [u8]) -> Result<(), Fault>
     requires { IsSome (attached_in slots.old slot) }
-    ensures attached { attached_in slots.new slot ≡ attached_in slots.old slot }
+    ensures call { IsServed result sends_none (state_in slots.old slot) (state_in slots.new slot) }
     ensures others { OtherSlotsStay slot slots.old slots.new }
-    ensures written { written_in slots.new slot ≡ written_in slots.old slot }
-    ensures later { faults_in slots.old slot ≤ faults_in slots.new slot }
-    ensures cause { OnErr result (Rose (faults_in slots.old slot) (faults_in slots.new slot)) }
 {
     slots.get_mut(&slot).unwrap().read(at, buf)
 }
 
 pub fn write_in(slots: &mut SlotMap, slot: u32, at: u64, bytes: &[u8]) -> Result<(), Fault>
     requires { IsSome (attached_in slots.old slot) }
-    ensures attached { attached_in slots.new slot ≡ attached_in slots.old slot }
+    ensures call { IsServed result (sends (length bytes.now)) (state_in slots.old slot) (state_in slots.new slot) }
     ensures others { OtherSlotsStay slot slots.old slots.new }
-    ensures written { written_in slots.new slot ≡ count_after (written_in slots.old slot) (length bytes.now) }
-    ensures later { faults_in slots.old slot ≤ faults_in slots.new slot }
-    ensures cause { OnErr result (Rose (faults_in slots.old slot) (faults_in slots.new slot)) }
 {
     slots.get_mut(&slot).unwrap().write(at, bytes)
 }
 
 pub fn sync_in(slots: &mut SlotMap, slot: u32) -> Result<(), Fault>
     requires { IsSome (attached_in slots.old slot) }
-    ensures attached { attached_in slots.new slot ≡ attached_in slots.old slot }
+    ensures call { IsServed result sends_none (state_in slots.old slot) (state_in slots.new slot) }
     ensures others { OtherSlotsStay slot slots.old slots.new }
-    ensures written { written_in slots.new slot ≡ written_in slots.old slot }
-    ensures later { faults_in slots.old slot ≤ faults_in slots.new slot }
-    ensures cause { OnErr result (Rose (faults_in slots.old slot) (faults_in slots.new slot)) }
 {
     slots.get_mut(&slot).unwrap().sync()
 }

@@ -3,7 +3,7 @@ ghost use Rattle.std.specs.Prelude.{◌≡◌, ◌≢◌, ℕ, ◌+◌, ◌≤�
 ghost use Rattle.std.specs.Option.{ForSome};
 ghost use Rattle.bay.specs.Image.{window, Same, ChangesOnly, Range, Puts, Makes, MayMake};
 ghost use Rattle.bay.specs.declared.fault.BayError.TheVariants.{Fault};
-ghost use Rattle.bay.specs.Counts.{count_after, Rose};
+ghost use Rattle.bay.specs.Counts.{Rose};
 ghost use Rattle.bay.specs.Calls.{AttachCall, Attaches, AttachesZeros, DeviceCall, Held, Settles, Tells, sends, sends_none};
 ghost use Rattle.bay.specs.State.{IsSlot, KeepsAttached, AttachesOnly, IsOnSectors, size_of};
 ghost use Rattle.bay.specs.Moments.{Runs, Ends, Holds};
@@ -118,17 +118,13 @@ impl MemBay {
 }
 
 impl MemBay {
-    ghost use Rattle.bay_mem.specs.MemState.{state_of, fails_now};
+    ghost use Rattle.bay_mem.specs.MemState.{state_of, fails_now, BeginsCall, KeepsCounts};
 
     // Counts a call on a slot, and says whether it is to be done.
     fn begin(&mut self, slot: usize) -> bool
-        ensures count { self.new.calls ≡ count_after self.old.calls 1 }
-        ensures attached { KeepsAttached (state_of self.old) (state_of self.new) }
-        ensures written { self.new.written ≡ self.old.written }
+        ensures begins { BeginsCall self.old self.new }
         ensures runs { Runs (IsSlot slot) Same (state_of self.old) (state_of self.new) }
         ensures cause { result ≡ false → Rose ((state_of self.old).faults slot) ((state_of self.new).faults slot) }
-        ensures disks { self.new.disks ≡ self.old.disks }
-        ensures plan { self.new.plan ≡ self.old.plan }
         ensures named { result ≡ not (fails_now self.old slot) }
     {
         self.calls = self.calls.saturating_add(1);
@@ -146,10 +142,7 @@ impl MemBay {
         ensures attached { KeepsAttached (state_of self.old) (state_of self.new) }
         ensures runs { Runs (IsSlot slot) (ChangesOnly (Range slot at (length bytes.now))) (state_of self.old) (state_of self.new) }
         ensures held { OnOk result (Holds (Puts slot at bytes.now) (state_of self.old) (state_of self.new)) }
-        ensures calls { self.new.calls ≡ self.old.calls }
-        ensures faults { self.new.faults ≡ self.old.faults }
-        ensures written { self.new.written ≡ self.old.written }
-        ensures plan { self.new.plan ≡ self.old.plan }
+        ensures counts { KeepsCounts self.old self.new }
     {
         let old = old_bytes(self.alloc, &self.disks, slot, at, bytes.len())?;
         self.history.push(Change::Write {
@@ -166,10 +159,7 @@ impl MemBay {
         ensures others { AttachesOnly slot (state_of self.old) (state_of self.new) }
         ensures runs { Runs (IsSlot slot) Same (state_of self.old) (state_of self.new) }
         ensures len { vec_len self.new.disks ≡ vec_len self.old.disks }
-        ensures calls { self.new.calls ≡ self.old.calls }
-        ensures faults { self.new.faults ≡ self.old.faults }
-        ensures written { self.new.written ≡ self.old.written }
-        ensures plan { self.new.plan ≡ self.old.plan }
+        ensures counts { KeepsCounts self.old self.new }
     {
         detach_disk(&mut self.disks, slot);
     }
@@ -181,10 +171,7 @@ impl MemBay {
         ensures others { AttachesOnly slot (state_of self.old) (state_of self.new) }
         ensures runs { Runs (IsSlot slot) (MayMake slot) (state_of self.old) (state_of self.new) }
         ensures done { OnOk result (Ends (Makes slot size) (state_of self.old) (state_of self.new)) }
-        ensures calls { self.new.calls ≡ self.old.calls }
-        ensures faults { self.new.faults ≡ self.old.faults }
-        ensures written { self.new.written ≡ self.old.written }
-        ensures plan { self.new.plan ≡ self.old.plan }
+        ensures counts { KeepsCounts self.old self.new }
     {
         make_disk(
             self.alloc,
