@@ -10,9 +10,10 @@ use Rattle.std.specs.Map.{lookup, remove_entry}
 use Rattle.std.specs.Str.{bytes_eq}
 use Rattle.asm_group.specs.declared.NodeKind.{NodeKind}
 use Rattle.asm_group.specs.Names.{Bytes, Path, folded}
-use Rattle.asm_formats.specs.Items.{Item, node_item, Key, Node, is_directory_kind, nodes_kind}
+use Rattle.asm_formats.specs.Items.{Item, node_item, Key, Node, nodes_kind}
 use Rattle.asm_base.specs.Records.{DirectoryRecord}
 use Rattle.asm_base.specs.Tables.{IsItemTable, item_record}
+pub use Rattle.asm_formats.specs.Items.{is_directory_kind as kind_is_directory}
 
 -- a node with its number
 abbrev pub Numbered : Type 0
@@ -44,9 +45,6 @@ abbrev pub without_numbered_node : List Numbered → ℕ → List Numbered
 without_numbered_node nodes n = remove_entry (is_at (nat_cmp n)) nodes
 
 -- ---- the rule
-
-abbrev pub kind_is_directory : NodeKind → Bool
-kind_is_directory kind = is_directory_kind kind
 
 abbrev pub is_directory : Node → Bool
 is_directory node = kind_is_directory node.kind

@@ -3,6 +3,7 @@ use Rattle.std.proofs.Common.{◌≡◌, ◌⊎◌, inl, ⊎_elim, ℕ, ◌+◌,
 use Rattle.std.specs.Prelude.{IsSome, unwrap_or, List, length}
 use Rattle.bay.specs.State.{BayState, KeepsAttached, size_of}
 use Rattle.gate_slot.specs.Slot.{IsUsablePlace}
+pub use Rattle.gate_slot.proofs.Sectors.{block_sectors, short_sector, some_sector}
 use Rattle.asm_base.specs.declared.block.Block.{Block}
 use Rattle.asm_formats.specs.Bytes.{block_size}
 use Rattle.asm_formats.specs.Regions.{region_end}
@@ -16,15 +17,6 @@ use Rattle.change_directory.proofs.Gathering.{pages_are_counted}
 use Rattle.change_directory.proofs.Spares.{slot_inside}
 
 -- whole blocks are whole sectors
-block_sectors : (n sector : ℕ) → (sector ≡ 512) ⊎ (sector ≡ 4096) → (n * 4096) % sector ≡ 0
-block_sectors n sector is = ⊎_elim (λ (e : sector ≡ 512). subst (λ (m : ℕ). (n * 4096) % m ≡ 0) (sym e) (omega arith)) (λ (e : sector ≡ 4096). subst (λ (m : ℕ). (n * 4096) % m ≡ 0) (sym e) (omega arith)) is
-
-pub short_sector : (sector : ℕ) → (sector ≡ 512) ⊎ (sector ≡ 4096) → sector ≤ 4096
-short_sector sector is = ⊎_elim (λ (e : sector ≡ 512). omega arith) (λ (e : sector ≡ 4096). omega arith) is
-
-pub some_sector : (sector : ℕ) → (sector ≡ 512) ⊎ (sector ≡ 4096) → 0 < sector
-some_sector sector is = ⊎_elim (λ (e : sector ≡ 512). omega arith) (λ (e : sector ≡ 4096). omega arith) is
-
 pub usable_log : {state : BayState} {copy : DirCopy} (log : LogSlot) (blocks : ℕ) → IsCopy state copy → blocks ≤ 65 → IsUsablePlace state copy.slot (log_place copy log blocks)
 usable_log {state} {copy} log blocks is few =
     let short : copy.sector ≤ 4096 = short_sector copy.sector is.sector_size in

@@ -2,6 +2,7 @@
 use Rattle.std.specs.Prelude.{◌≡◌, ◌⊎◌, ℕ, ◌+◌, ◌*◌, ◌≤◌, IsSome}
 use Rattle.bay.specs.Image.{Range}
 use Rattle.bay.specs.State.{BayState, size_of}
+use Rattle.gate_slot.specs.Slot.{IsSectorSize}
 use Rattle.gate_slot.specs.declared.place.Place.{Place}
 use Rattle.asm_formats.specs.Bytes.{block_size}
 use Rattle.asm_formats.specs.Regions.{region_start, region_end, first_log, second_log}
@@ -12,7 +13,7 @@ use Rattle.change_directory.specs.declared.copy.LogSlot.TheVariants.{First, Seco
 -- the disk is attached, its sector and its number of pages are some of a group, and the copy's blocks lie inside the image
 pub record IsCopy (state : BayState) (copy : DirCopy) : Type 0 where
   pub attached : IsSome (state.attached copy.slot)
-  pub sector_size : (copy.sector ≡ 512) ⊎ (copy.sector ≡ 4096)
+  pub sector_size : IsSectorSize copy.sector
   pub least : 128 ≤ copy.dir_blocks
   pub most : copy.dir_blocks ≤ 16384
   pub inside : region_end copy.dir_blocks * block_size ≤ size_of state copy.slot

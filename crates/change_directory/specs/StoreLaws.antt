@@ -2,6 +2,7 @@
 use Rattle.std.specs.Prelude.{◌≡◌, ◌≢◌, ◌⊎◌, ℕ, ◌-◌, ◌*◌, ◌<◌, ◌≤◌, true, not, List, [], map, replicate, Option, Some, None, IsTrue}
 use Rattle.std.specs.List.{list_all, range_with_len}
 use Rattle.bay.specs.Image.{Image, Range, ChangesOnly}
+use Rattle.gate_slot.specs.Slot.{IsSectorSize}
 use Rattle.asm_group.specs.Names.{Bytes}
 use Rattle.asm_base.specs.declared.block.Block.{Block}
 use Rattle.asm_formats.specs.Among.{IsAmong}
@@ -26,7 +27,7 @@ use Rattle.change_directory.specs.Loads.{IsLoaded}
 
 -- the number of pages and the sector are some of a group
 pub record IsShaped (copy : DirCopy) : Type 0 where
-  pub sector : (copy.sector ≡ 512) ⊎ (copy.sector ≡ 4096)
+  pub sector : IsSectorSize copy.sector
   pub least : 128 ≤ copy.dir_blocks
   pub most : copy.dir_blocks ≤ 16384
 

@@ -11,17 +11,14 @@ ghost use Rattle.change_directory.specs.CopyCalls.{FormatsCopy};
 use crate::copy::{DirCopy, LogSlot, log_place, other_slot};
 use crate::spare::spare_slot;
 use bay::{Bay, Fault};
-use disk_regions::BLOCK;
+use disk_regions::{BLOCK, LEAST_SIZE};
 use gate_slot::close_gate;
 
 /// The most bytes that one write of zeros takes.
 const PIECE: usize = 262_144;
 
-/// The first byte of the directory region.
-const START: u64 = 40_960;
-
 /// The blocks behind the gate of a log slot.
-const LOG_BLOCKS: u32 = 65;
+const LOG_BODY: u32 = 65;
 
 /// Takes a copy's content away: closes the log slot of the smaller commit number and then the other one, and zeroes all
 /// pages. The content stays until it is gone.
@@ -52,7 +49,7 @@ fn close_logs<B: Bay>(bay: &mut B, copy: DirCopy) -> Result<(), Fault>
 {
     let spare = close_spare(bay, copy)?;
     let other = other_slot(spare);
-    close_gate(bay, copy.slot, log_place(copy, other, LOG_BLOCKS))
+    close_gate(bay, copy.slot, log_place(copy, other, LOG_BODY))
 }
 
 /// Closes the log slot that doesn't hold the content, and tells which it is.
@@ -62,7 +59,7 @@ fn close_spare<B: Bay>(bay: &mut B, copy: DirCopy) -> Result<LogSlot, Fault>
         (cost 8 copy.sector) (B.state bay.old) (B.state bay.new) }
 {
     let spare = spare_slot(bay, copy)?;
-    close_gate(bay, copy.slot, log_place(copy, spare, LOG_BLOCKS))?;
+    close_gate(bay, copy.slot, log_place(copy, spare, LOG_BODY))?;
     Ok(spare)
 }
 
@@ -94,7 +91,7 @@ fn zero_with<B: Bay>(bay: &mut B, copy: DirCopy, zeros: &[u8]) -> Result<(), Fau
     for piece in 0..pieces {
         let done = piece * PIECE;
         let count = PIECE.min(len - done);
-        bay.write(copy.slot, START + done as u64, &zeros[..count])?;
+        bay.write(copy.slot, LEAST_SIZE + done as u64, &zeros[..count])?;
     }
     Ok(())
 }

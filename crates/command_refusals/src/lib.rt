@@ -5,4 +5,4 @@ mod refusal;
 mod refusal_text;
 
 pub use refusal::{DiskRef, Limited, Refusal};
-pub use refusal_text::no_memory_line;
+pub use refusal_text::{mode_text, no_memory_line};

@@ -176,7 +176,8 @@ impl Limited {
     }
 }
 
-fn mode_text(mode: Mode) -> &'static [u8]
+/// The word for the mode of a disk.
+pub fn mode_text(mode: Mode) -> &'static [u8]
     ensures { result.now ≡ mode_text mode }
 {
     match mode {

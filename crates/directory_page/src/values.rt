@@ -13,10 +13,9 @@ use crate::fields::{
 };
 use crate::templates::are_templates;
 use crate::text::{pass_name, pass_named, pass_text};
-use asm_base::{CHUNK_LEN, Reader, is_at_end, record_kind, take_u16, take_u32, take_u64};
-
-/// Disks in a group, at most.
-const MOST_DISKS: u32 = 64;
+use asm_base::{
+    CHUNK_LEN, MOST_DISKS, Reader, is_at_end, record_kind, take_u16, take_u32, take_u64,
+};
 
 /// Whether the value of a record of these three numbers is one of the format.
 #[tactic(auto, using(crate::proofs::DecodingLaws::value_is_decoded))]
@@ -50,7 +49,7 @@ fn passes_single(kind: u16, a: u32, bytes: &[u8]) -> bool
     ensures { result ≡ single_passes kind a bytes.now }
 {
     match kind {
-        record_kind::DISKS => a < MOST_DISKS && is_disk(bytes),
+        record_kind::DISKS => a < MOST_DISKS as u32 && is_disk(bytes),
         record_kind::OPERATIONS => is_operation(a, bytes),
         record_kind::TEMPLATES => a == 0 && are_templates(bytes),
         record_kind::NODES => 0 < a && is_node(bytes),

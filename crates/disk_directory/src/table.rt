@@ -12,13 +12,10 @@ ghost use Rattle.disk_directory.specs.Disks.{disk_of_item, is_key_of_disk};
 ghost use Rattle.disk_directory.specs.DiskEntries.{disk_entries};
 
 use crate::disk_info::DiskInfo;
-use asm_base::{Key, NoMemory, Reader, Value, is_at_end, record_kind, take_u64};
+use asm_base::{Key, MOST_DISKS, NoMemory, Reader, Value, is_at_end, record_kind, take_u64};
 use item_table::{KeyTable, Listed};
 use record_values::take_named;
 use std::alloc::Global;
-
-/// The numbers of disks are below this one.
-const MOST_DISKS: u32 = 64;
 
 /// What the records say of disks, by number. Contracts see the list of them in the order of the numbers.
 pub type DiskTable = KeyTable<u32, DiskInfo>;
@@ -58,7 +55,7 @@ impl Listed<u32> for DiskInfo {
 pub fn is_mine(key: Key) -> bool
     ensures { result ≡ is_key_of_disk key }
 {
-    key.kind == record_kind::DISKS && key.b == 0 && key.a < MOST_DISKS
+    key.kind == record_kind::DISKS && key.b == 0 && key.a < MOST_DISKS as u32
 }
 
 /// What the value of a disk's record spells, or None where it is no disk's.

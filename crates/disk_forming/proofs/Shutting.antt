@@ -9,6 +9,7 @@ use Rattle.bay.proofs.Images.{changes-within, changes-trans}
 use Rattle.bay.proofs.OneCall.{Follows}
 use Rattle.gate_slot.specs.declared.place.Place.{Place}
 use Rattle.gate_slot.specs.Slot.{IsUsablePlace, GateOf, is_open_in, Closes, MayClose}
+pub use Rattle.gate_slot.proofs.Sectors.{block_sectors, short_sector, some_sector}
 use Rattle.gate_slot.proofs.Steps.{shown-shut}
 use Rattle.disk_forming.specs.Places.{gated_slot_at, all_gates, other_gates}
 use Rattle.asm_formats.specs.Regions.{region_end}
@@ -16,15 +17,6 @@ use Rattle.asm_formats.specs.Bytes.{block_size}
 use Rattle.disk_forming.specs.Gates.{HasAttachedRegion, GatesOf, ShutsGates, MayCloseAll}
 
 -- whole blocks are whole sectors
-pub block_sectors : (n sector : ℕ) → (sector ≡ 512) ⊎ (sector ≡ 4096) → (n * 4096) % sector ≡ 0
-block_sectors n sector is = ⊎_elim (λ (e : sector ≡ 512). subst (λ (m : ℕ). (n * 4096) % m ≡ 0) (sym e) (omega arith)) (λ (e : sector ≡ 4096). subst (λ (m : ℕ). (n * 4096) % m ≡ 0) (sym e) (omega arith)) is
-
-pub short_sector : (sector : ℕ) → (sector ≡ 512) ⊎ (sector ≡ 4096) → sector ≤ 4096
-short_sector sector is = ⊎_elim (λ (e : sector ≡ 512). omega arith) (λ (e : sector ≡ 4096). omega arith) is
-
-pub some_sector : (sector : ℕ) → (sector ≡ 512) ⊎ (sector ≡ 4096) → 0 < sector
-some_sector sector is = ⊎_elim (λ (e : sector ≡ 512). omega arith) (λ (e : sector ≡ 4096). omega arith) is
-
 -- a slot inside the region may be used
 pub usable_slot : {state : BayState} {slot sector dir_blocks : ℕ} (gate blocks : ℕ) → HasAttachedRegion state slot sector dir_blocks → gate + 1 + blocks ≤ region_end dir_blocks
     → IsUsablePlace state slot (gated_slot_at gate blocks sector)

@@ -2,7 +2,7 @@
 use Rattle.std.specs.Prelude.{◌≡◌, ◌⊎◌, ℕ, ◌*◌, ◌<◌, ◌≤◌, false, List, [], ◌∷◌, Option, IsSome, IsTrue}
 use Rattle.bay.specs.Image.{Image, MayMake}
 use Rattle.bay.specs.State.{BayState, size_of}
-use Rattle.gate_slot.specs.Slot.{MayClose, MayPut, HasPut}
+use Rattle.gate_slot.specs.Slot.{IsSectorSize, MayClose, MayPut, HasPut}
 use Rattle.disk_forming.specs.Places.{gated_slot_at}
 use Rattle.disk_forming.specs.Gates.{MayCloseAll, ClosesAll}
 use Rattle.disk_forming.specs.Forming.{HasHeader}
@@ -21,7 +21,7 @@ use Rattle.asm_images.specs.Steps.{MayJoin}
 -- the disk of a slot is attached, and long enough for a member's, of a group with this sector
 pub record HasHeaderSlot (state : BayState) (slot sector : ℕ) : Type 0 where
   pub attached : IsSome (state.attached slot)
-  pub sector_size : (sector ≡ 512) ⊎ (sector ≡ 4096)
+  pub sector_size : IsSectorSize sector
   pub long : least_size ≤ size_of state slot
 
 -- the gates of a disk whose directory copy has so many pages

@@ -10,15 +10,12 @@ ghost use Rattle.disk_joining.specs.AddCauses.{IsTooManyMore};
 ghost use Rattle.disk_joining.specs.Asking.{asked_disks, asked_from, asked_in, free_number, given_from, given_in, given_numbers, number_after};
 
 use crate::recording::entry_of;
-use asm_base::NoMemory;
+use asm_base::{MOST_DISKS, NoMemory};
 use command_refusals::{Limited, Refusal};
 use file_extents::Mounted;
 use new_groups::{NewDisk, NewFailgroup, PlannedDisk, Terms, disks_within, planned_disk};
 use status_table::PstRecord;
 use std::alloc::Global;
-
-/// The most disks of a group.
-const MOST_DISKS: usize = 64;
 
 /// The disks of an ADD in the order of the statement.
 #[derive(Debug, Drop)]
@@ -132,7 +129,7 @@ fn has_room(m: &Mounted, groups: &[NewFailgroup]) -> bool
     ensures no { OnFalse result (64 < length m.now.register.value.entries + disk_count groups.now) }
 {
     let count = m.status().entries().len();
-    disks_within(groups, MOST_DISKS - count)
+    disks_within(groups, MOST_DISKS as usize - count)
 }
 
 /// The disks that an ADD names. Refused as TooMany where the group would have more than 64.

@@ -7,11 +7,9 @@ ghost use Rattle.disk_joining.specs.Attaching.{IsAttachable, member_of_image};
 
 use crate::slots::is_held;
 use bay::Bay;
+use disk_regions::LEAST_SIZE;
 use file_extents::Mounted;
 use status_register::Member;
-
-/// The bytes that a member has at least: up to its directory region.
-const LEAST_SIZE: u64 = 40_960;
 
 /// An image of a disk of the group, with its size in bytes.
 #[derive(Clone, Copy, Debug)]

@@ -11,8 +11,7 @@ use Rattle.template_directory.specs.Tables.{template_named}
 use Rattle.partnership.specs.Tables.{is_table_disk}
 
 -- the disk lies in the failure group
-abbrev pub is_of_group : ℕ → Entry → Bool
-is_of_group g e = e.failgroup == g
+pub use Rattle.partnership.specs.Selections.{lies_in as is_of_group}
 
 -- how many regular failure groups have a disk that is Online, Offline or Syncing
 abbrev pub serving_groups : List Entry → ℕ

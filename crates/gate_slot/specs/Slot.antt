@@ -4,10 +4,14 @@ use Rattle.bay.specs.Image.{Image, window, Range, Same, ChangesOnly}
 use Rattle.bay.specs.State.{BayState, size_of}
 use Rattle.gate_slot.specs.declared.place.Place.{Place}
 
+-- the bytes of a sector, which a disk writes whole
+abbrev pub IsSectorSize : ℕ → Type 0
+IsSectorSize sector = (sector ≡ 512) ⊎ (sector ≡ 4096)
+
 -- the gate and the body of a place are whole sectors of an attached disk, and don't meet
 pub record IsUsablePlace (state : BayState) (slot : ℕ) (place : Place) : Type 0 where
   pub attached : IsSome (state.attached slot)
-  pub sector : (place.sector ≡ 512) ⊎ (place.sector ≡ 4096)
+  pub sector : IsSectorSize place.sector
   pub gate_inside : place.gate + place.sector ≤ size_of state slot
   pub body_inside : place.body + place.len ≤ size_of state slot
   pub gate_sectors : place.gate % place.sector ≡ 0

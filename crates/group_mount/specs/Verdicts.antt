@@ -17,6 +17,8 @@ use Rattle.group_mount.specs.declared.choosing.ShortId.{ShortId}
 use Rattle.group_mount.specs.declared.choosing.Verdict.{Verdict}
 use Rattle.group_mount.specs.declared.choosing.Verdict.TheVariants.{Gone, Whole, Short}
 use Rattle.group_mount.specs.declared.finding.Headed.{Headed}
+-- the slot is that of one of these members
+pub use Rattle.status_register.specs.SurveyLaws.{slots_of as has_slot}
 
 -- ---- members
 
@@ -28,10 +30,6 @@ member_of h = record { slot = h.slot; number = h.header.number; birth = h.header
 abbrev pub members_with : ℕ → List Headed → List Member
 members_with id [] = []
 members_with id (h ∷ hs) = if h.header.id == id then member_of h ∷ members_with id hs else members_with id hs
-
--- the slot is that of one of these members
-abbrev pub has_slot : List Member → ℕ → Bool
-has_slot ms slot = list_any (λ (m : Member). m.slot == slot) ms
 
 -- the ids, each once
 abbrev pub with_id : ℕ → List ℕ → List ℕ

@@ -6,10 +6,11 @@ ghost use Rattle.group_reports.specs.Disks.{failgroup_name, group_row};
 ghost use Rattle.group_reports.specs.Disks as specs;
 
 use crate::disks::{free_at, group_totals};
-use crate::words::{copies_text, disk_kind, kind_text, mode_text, stripe_text, yes_or_no};
+use crate::words::{copies_text, disk_kind, kind_text, stripe_text, yes_or_no};
 use asm_base::{List, Name, NoMemory, Text};
 use asmcmd::{DiskRow, GroupRow, TemplateRow};
 use catalog_laws::Catalog;
+use command_refusals::mode_text;
 use extent_copies::Template;
 use status_table::{PstEntry, PstRecord};
 use std::alloc::Global;

@@ -1,22 +1,9 @@
 //! The words of reports.
 
 ghost use Rattle.std.specs.Prelude.{◌≡◌};
-ghost use Rattle.asm_group.specs.Refusal.{mode_text};
 ghost use Rattle.asm_world.specs.Reports.{copies_text, disk_kind, kind_text, stripe_text, yes_or_no};
 
-use asm_base::{GroupKind, Mode, Stripe};
-
-pub(crate) fn mode_text(mode: Mode) -> &'static [u8]
-    ensures { result.now ≡ mode_text mode }
-{
-    match mode {
-        Mode::Online => b"Online",
-        Mode::Offline => b"Offline",
-        Mode::Syncing => b"Syncing",
-        Mode::Dropping => b"Dropping",
-        Mode::Forced => b"Forced",
-    }
-}
+use asm_base::{GroupKind, Stripe};
 
 pub(crate) fn kind_text(kind: GroupKind) -> &'static [u8]
     ensures { result.now ≡ kind_text kind }

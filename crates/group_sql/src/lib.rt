@@ -5,7 +5,6 @@ pub use asm_base::{GroupKind, Mode, Name, Text};
 
 mod clauses;
 mod creation;
-mod cutting;
 mod disks;
 mod options;
 mod reading;
@@ -13,7 +12,6 @@ mod statement;
 mod templates;
 mod words;
 
-pub use cutting::next_command;
 pub use reading::{ReadError, read_statement};
 pub use statement::{
     Attribute, Clause, Disks, DroppedDisk, FailgroupKind, NewDisk, NewFailgroup, Rebalance,

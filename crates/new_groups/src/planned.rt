@@ -7,13 +7,10 @@ ghost use Rattle.new_groups.specs.Causes.{terms_in, terms_of};
 ghost use Rattle.new_groups.specs.Planning.{disk_count, planned_after, planned_in};
 ghost use Rattle.new_groups.specs.Refusing.{IsTooMany};
 
-use asm_base::{Name, NoMemory};
+use asm_base::{MOST_DISKS, Name, NoMemory};
 use command_refusals::{Limited, Refusal};
 use new_disks::{NewDisk, NewFailgroup, PlannedDisk};
 use std::alloc::Global;
-
-/// The most disks of a group.
-const MOST_DISKS: usize = 64;
 
 /// What is said of a disk beside its names.
 #[derive(Clone, Copy, Debug)]
@@ -229,7 +226,7 @@ pub fn planned_disks(
     ensures terms { IfOk result (λ planned. planned.terms.items ≡ terms_of groups.now) }
     ensures refused { IfErr result (λ refusal. IsTooMany groups.now (meaning_of (λ _. []) refusal)) }
 {
-    if !disks_within(groups, MOST_DISKS) {
+    if !disks_within(groups, MOST_DISKS as usize) {
         return Err(Refusal::TooMany {
             kind: Limited::Disks,
             limit: 64,

@@ -6,18 +6,13 @@ use Rattle.bay.specs.Moments.{Within, Joins}
 use Rattle.bay.proofs.Images.{changes-within}
 use Rattle.bay.proofs.OneCall.{Follows}
 use Rattle.gate_slot.specs.Slot.{IsUsablePlace, PlaceOf, MayPut, HasPut}
+pub use Rattle.gate_slot.proofs.Sectors.{block_sectors, short_sector}
 use Rattle.status_register.specs.Places.{gated_block_at, HasSlots}
 use Rattle.status_register.specs.Slots.{FoundNextGate, MayFill, Fills, MayPutNext, PutsNext}
 use Rattle.status_register.proofs.Telling.{SameBytes}
 use Rattle.status_register.proofs.Shown.{same_shown}
 
 -- whole blocks are whole sectors
-block_sectors : (n sector : ℕ) → (sector ≡ 512) ⊎ (sector ≡ 4096) → (n * 4096) % sector ≡ 0
-block_sectors n sector is = ⊎_elim (λ (e : sector ≡ 512). subst (λ (m : ℕ). (n * 4096) % m ≡ 0) (sym e) (omega arith)) (λ (e : sector ≡ 4096). subst (λ (m : ℕ). (n * 4096) % m ≡ 0) (sym e) (omega arith)) is
-
-pub short_sector : (sector : ℕ) → (sector ≡ 512) ⊎ (sector ≡ 4096) → sector ≤ 4096
-short_sector sector is = ⊎_elim (λ (e : sector ≡ 512). omega arith) (λ (e : sector ≡ 4096). omega arith) is
-
 pub usable : {state : BayState} {slot sector : ℕ} (gate : ℕ) → HasSlots state slot sector → gate ≤ 8 → IsUsablePlace state slot (gated_block_at gate sector)
 usable {state} {slot} {sector} gate has small =
     let short : sector ≤ 4096 = short_sector sector has.sector_size in

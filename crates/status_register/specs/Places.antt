@@ -1,6 +1,7 @@
 -- The claim and status slots of a disk.
 use Rattle.std.specs.Prelude.{◌≡◌, ◌⊎◌, ℕ, ◌+◌, ◌*◌, ◌≤◌, IsSome}
 use Rattle.bay.specs.State.{BayState, size_of}
+use Rattle.gate_slot.specs.Slot.{IsSectorSize}
 use Rattle.gate_slot.specs.declared.place.Place.{Place}
 use Rattle.asm_formats.specs.Bytes.{block_size}
 use Rattle.asm_formats.specs.Regions.{least_size}
@@ -12,5 +13,5 @@ gated_block_at gate sector = record { gate = gate * block_size; body = (gate + 1
 -- The disk of a slot is attached, and has claim and status slots.
 pub record HasSlots (state : BayState) (slot sector : ℕ) : Type 0 where
   pub attached : IsSome (state.attached slot)
-  pub sector_size : (sector ≡ 512) ⊎ (sector ≡ 4096)
+  pub sector_size : IsSectorSize sector
   pub long : least_size ≤ size_of state slot

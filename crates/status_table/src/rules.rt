@@ -7,10 +7,7 @@ ghost use Rattle.asm_formats.specs.Status.{ascends_from, has_entry, have_entries
 ghost use Rattle.status_table.specs.Rules.{number_of_entry, passes};
 
 use crate::record::{PstEntry, PstRecord};
-use asm_base::DiskSet;
-
-/// The most units that a disk may have.
-const MOST_UNITS: u32 = 16_777_216;
+use asm_base::{DiskSet, MOST_UNITS};
 
 /// Whether the record is one of the format.
 pub fn is_status(status: &PstRecord) -> bool
@@ -48,7 +45,7 @@ fn is_entry(entry: PstEntry) -> bool
     ensures { result ≡ is_entry entry }
 {
     let _partners = entry.partners.bits();
-    entry.number < 64 && entry.units <= MOST_UNITS
+    entry.number < 64 && entry.units as u64 <= MOST_UNITS
 }
 
 fn are_entries(entries: &[PstEntry]) -> bool
