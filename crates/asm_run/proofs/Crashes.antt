@@ -15,8 +15,8 @@ use Rattle.asm_world.specs.Reply.{Reply}
 use Rattle.asm_world.specs.Run.{State, PrintedMove, SessionMove, Answers, IsMove, IsRun, IsHeldNow, end_of}
 use Rattle.asm_world.specs.RunLaws.{Grows, IsQuiet}
 use Rattle.asm_world.specs.World.{World, SessionEntry, groups_of, has_mounted}
-use Rattle.serving.specs.group_mount.Mounting.{Allows}
-use Rattle.serving.specs.group_disks.Found.{Counts}
+use Rattle.serving.specs.group_recovery.Mounting.{Allows}
+use Rattle.serving.specs.mounted_groups.Found.{Counts}
 use Rattle.serving.specs.Acts.{Holding}
 use Rattle.serving.specs.session.Claims.{held_outside, IsProvedApartIn}
 use Rattle.serving.specs.session.Meaning.{meaning}

@@ -10,7 +10,7 @@ use Rattle.asm_world.specs.Run.{State, Phase, Resting, PrintedMove, IsGenerated,
 use Rattle.asm_world.proofs.Histories.{marks_rise_by}
 use Rattle.asm_world.specs.RunLaws.{RisesFrom}
 use Rattle.asm_world.specs.World.{World}
-use Rattle.serving.specs.group_disks.Found.{Counts, counts_of}
+use Rattle.serving.specs.mounted_groups.Found.{Counts, counts_of}
 use Rattle.script.specs.Script.{cut, commands_of, ended_commands}
 use Rattle.serving.specs.declared.stop.Stop.{Stop}
 use Rattle.serving.specs.declared.stop.Stop.TheVariants.{ReadFault, WriteFault, NoMemory, TooLong}

@@ -12,7 +12,7 @@ use Rattle.asm_world.specs.RunLaws.{RisesFrom}
 use Rattle.asm_world.specs.World.{World}
 use Rattle.command_line.specs.Command.{number_in}
 use Rattle.command_line.specs.Paths.{WordBytes}
-use Rattle.serving.specs.group_disks.Found.{Counts, counts_of}
+use Rattle.serving.specs.mounted_groups.Found.{Counts, counts_of}
 use Rattle.script.specs.Script.{commands_of, ended_commands}
 use Rattle.serving.specs.declared.stop.Stop.{Stop}
 use Rattle.serving.specs.declared.stop.Stop.TheVariants.{ReadFault, WriteFault, NoMemory, TooLong}

@@ -2,7 +2,7 @@
 ghost use Rattle.std.specs.Prelude.{◌≡◌, ◌≤◌};
 ghost use Rattle.change_directory.specs.Places.{gate_of, other_of, log_place};
 
-use disk_regions::{BLOCK, REGION_START};
+use disk_blocks::{BLOCK, REGION_START};
 use gate_slot::Place;
 
 /// Blocks in a log slot: its gate, its head and 64 images.

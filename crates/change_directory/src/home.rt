@@ -13,7 +13,7 @@ use crate::copy::DirCopy;
 use crate::pages::gather;
 use asm_base::Block;
 use bay::{Bay, Fault};
-use disk_regions::{BLOCK, REGION_START};
+use disk_blocks::{BLOCK, REGION_START};
 
 /// The most pages in one write.
 const RUN_PAGES: usize = 64;

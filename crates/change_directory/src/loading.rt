@@ -16,7 +16,7 @@ use crate::slots::{block_at, counted_image, in_order, read_log};
 use asm_base::{Block, NoMemory};
 use bay::{Bay, Fault};
 use directory_page::is_page;
-use disk_regions::{BLOCK, REGION_START};
+use disk_blocks::{BLOCK, REGION_START};
 use std::alloc::Global;
 
 /// The most pages that one read takes.

@@ -16,7 +16,7 @@ use crate::open_log::{OpenLog, OpenLogs};
 use asm_base::{Block, NoMemory};
 use bay::{Bay, Fault};
 use directory_page::is_page;
-use disk_regions::BLOCK;
+use disk_blocks::BLOCK;
 use gate_slot::is_open;
 use std::alloc::Global;
 

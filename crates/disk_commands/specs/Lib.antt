@@ -1,5 +1,5 @@
 pub mod Waits
-pub mod group_disks
+pub mod mounted_groups
 pub mod group_engine
 pub mod group_turns
 pub mod session

@@ -2,7 +2,7 @@
 #![tactic(auto)]
 
 pub use asm_base::{Block, NoMemory, Shape};
-pub use disk_regions::{BLOCK, LEAST_SIZE};
+pub use disk_blocks::{BLOCK, LEAST_SIZE};
 
 mod header;
 mod reading;

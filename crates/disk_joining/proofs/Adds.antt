@@ -14,13 +14,13 @@ use Rattle.asm_world.specs.Statement.{NewFailgroup}
 use Rattle.file_extents.specs.catalog.Plans.{MayAdd}
 use Rattle.file_extents.specs.catalog_tables.Tables.{Tables}
 use Rattle.file_extents.specs.Closing.{or_shut}
-use Rattle.new_groups.proofs.group_mount.Told.{rose_before, rose_later}
-use Rattle.new_groups.proofs.group_disks.Staying.{stays_keeps}
+use Rattle.new_groups.proofs.group_recovery.Told.{rose_before, rose_later}
+use Rattle.new_groups.proofs.mounted_groups.Staying.{stays_keeps}
 use Rattle.file_extents.specs.group_engine.Commits.{StatusCause}
 use Rattle.file_extents.specs.group_engine.Mounts.{IsMounted, MountedGroup}
 use Rattle.file_extents.specs.group_engine.Pending.{GoesOn}
 use Rattle.file_extents.proofs.group_engine.Causes.{not_mounted}
-use Rattle.new_groups.specs.group_mount.declared.finding.Headed.{Headed}
+use Rattle.new_groups.specs.group_recovery.declared.finding.Headed.{Headed}
 use Rattle.new_groups.specs.declared.asked.Known.{Known}
 use Rattle.disk_joining.specs.AddCauses.{AddCause, SomeFailed, IsWriteFault, JoinCause}
 use Rattle.disk_joining.specs.AddCauses.AddCause.{by_step}

@@ -5,11 +5,11 @@ use Rattle.std.specs.Option.{option_map}
 use Rattle.std.proofs.lemmas.Bool.{eq-eqb, true≢false}
 use Rattle.std.proofs.lemmas.Option.{same_Some}
 use Rattle.bay.specs.State.{BayState}
-use Rattle.new_groups.specs.group_disks.Holding.{IsHeldSlot}
-use Rattle.new_groups.proofs.group_disks.Staying.{stays_refl}
+use Rattle.new_groups.specs.mounted_groups.Holding.{IsHeldSlot}
+use Rattle.new_groups.proofs.mounted_groups.Staying.{stays_refl}
 use Rattle.file_extents.specs.group_engine.Mounts.{IsOwn, IsWhole, MountedGroup, Takes, slot_at}
 use Rattle.file_extents.specs.group_engine.declared.attached.Attached.{Attached}
-use Rattle.new_groups.proofs.group_mount.Searches.{sector_of}
+use Rattle.new_groups.proofs.group_recovery.Searches.{sector_of}
 use Rattle.status_register.specs.declared.member.Member.{Member}
 use Rattle.disk_joining.specs.Attaching.{IsAttachable, has_disk_in_slot, member_of_image}
 use Rattle.file_extents.specs.group_engine.Members.{HasImage, with_attached_disk}

@@ -12,8 +12,8 @@ use Rattle.asm_formats.specs.Among.{IsAmong}
 use Rattle.file_extents.specs.group_engine.Frames.{SameDisk}
 use Rattle.file_extents.specs.group_engine.Mounts.{MountedGroup}
 use Rattle.file_extents.specs.group_engine.Own.{KeepsGroup}
-use Rattle.new_groups.specs.group_mount.Verdicts.{IsSlotIn}
-use Rattle.new_groups.specs.group_mount.declared.finding.Headed.{Headed}
+use Rattle.new_groups.specs.group_recovery.Verdicts.{IsSlotIn}
+use Rattle.new_groups.specs.group_recovery.declared.finding.Headed.{Headed}
 use Rattle.new_groups.specs.Drafts.{AreDisksApart}
 use Rattle.new_groups.specs.Forming.{Works}
 use Rattle.new_groups.proofs.DiskLists.{among_at}

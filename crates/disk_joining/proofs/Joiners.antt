@@ -28,21 +28,21 @@ use Rattle.disk_images.specs.declared.looking.Looked.{Looked}
 use Rattle.file_extents.proofs.extent_map.Lookups.{put_other}
 use Rattle.gate_slot.specs.Slot.{GateOf, MayClose}
 use Rattle.gate_slot.specs.declared.place.Place.{Place}
-use Rattle.new_groups.specs.group_disks.Holding.{IsHeldSlot}
-use Rattle.new_groups.proofs.group_disks.Spared.{change_held}
-use Rattle.new_groups.proofs.group_disks.Staying.{stays_keeps}
+use Rattle.new_groups.specs.mounted_groups.Holding.{IsHeldSlot}
+use Rattle.new_groups.proofs.mounted_groups.Spared.{change_held}
+use Rattle.new_groups.proofs.mounted_groups.Staying.{stays_keeps}
 use Rattle.file_extents.specs.group_engine.Frames.{StaysAttached}
 use Rattle.file_extents.specs.group_engine.Mounts.{IsOwn, IsWhole, MountedGroup, Takes}
-use Rattle.new_groups.specs.group_mount.Verdicts.{IsSlotIn}
-use Rattle.new_groups.specs.group_mount.declared.finding.Headed.{Headed}
-use Rattle.new_groups.proofs.group_mount.Searches.{sector_of}
+use Rattle.new_groups.specs.group_recovery.Verdicts.{IsSlotIn}
+use Rattle.new_groups.specs.group_recovery.declared.finding.Headed.{Headed}
+use Rattle.new_groups.proofs.group_recovery.Searches.{sector_of}
 use Rattle.disk_images.specs.disk_forming.Gates.{HasAttachedRegion}
 use Rattle.status_register.specs.Holders.{with_next_number}
 use Rattle.status_register.specs.Registered.{Registered}
 use Rattle.status_register.specs.declared.member.Member.{Member}
 use Rattle.new_groups.specs.Forming.{AreHeadable, AreLong, Works}
 use Rattle.new_groups.specs.Tests.{are_disks_apart, is_image_there, shows_size}
-use Rattle.new_groups.specs.group_mount.Founds.{is_held}
+use Rattle.new_groups.specs.group_recovery.Founds.{is_held}
 use Rattle.new_groups.proofs.DiskLists.{pages_of}
 use Rattle.disk_joining.specs.Attaching.{has_disk_in_slot}
 use Rattle.disk_joining.specs.Joiners.{AreJoiners, HasEntryWithBirth, AreEntered, IsJoiner, CanJoin, are_free, are_unrecorded, is_entered, records_disk, are_entered, fits_shape, may_join}

@@ -13,7 +13,7 @@ use Rattle.asm_formats.specs.Header.{Header}
 use Rattle.disk_images.specs.Looks.{AreLooked, IsLooked}
 use Rattle.disk_images.specs.declared.looking.Looked.{Looked}
 use Rattle.disk_images.specs.declared.looking.Looked.TheVariants.{Absent, Read}
-use Rattle.new_groups.proofs.group_mount.Told.{rose_before}
+use Rattle.new_groups.proofs.group_recovery.Told.{rose_before}
 use Rattle.file_extents.specs.group_engine.Commits.{StatusCause}
 use Rattle.file_extents.specs.group_engine.Making.{IsShut}
 use Rattle.file_extents.specs.group_engine.Mounts.{IsMounted, MountedGroup}

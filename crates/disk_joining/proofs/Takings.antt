@@ -10,10 +10,10 @@ use Rattle.command_refusals.specs.declared.refusal.DiskRef.TheVariants as disk
 use Rattle.command_refusals.specs.declared.refusal.Refusal.{Refusal}
 use Rattle.command_refusals.specs.declared.refusal.Refusal.TheVariants as refusal
 use Rattle.disk_images.specs.Looks.{Looks}
-use Rattle.new_groups.specs.group_disks.Holding.{SameHeld}
-use Rattle.new_groups.proofs.group_disks.Spared.{change_held, held_trans, same_held}
-use Rattle.new_groups.proofs.group_disks.Staying.{stays_keeps, stays_refl, stays_trans}
-use Rattle.new_groups.proofs.group_mount.Told.{rose_before}
+use Rattle.new_groups.specs.mounted_groups.Holding.{SameHeld}
+use Rattle.new_groups.proofs.mounted_groups.Spared.{change_held, held_trans, same_held}
+use Rattle.new_groups.proofs.mounted_groups.Staying.{stays_keeps, stays_refl, stays_trans}
+use Rattle.new_groups.proofs.group_recovery.Told.{rose_before}
 use Rattle.file_extents.specs.group_engine.Commits.{StatusCause}
 use Rattle.file_extents.specs.group_engine.Frames.{SparesDisks, StaysAttached}
 use Rattle.file_extents.specs.group_engine.Mounts.{IsMounted, IsOwn, MountedGroup, Takes, slot_at}

@@ -1,7 +1,7 @@
 -- An image that is to be attached as a disk of a group.
 use Rattle.std.specs.Prelude.{◌≤◌, ℕ, Bool, false, ◌||◌, ◌==◌, List, [], ◌∷◌, Option, Some, None}
 use Rattle.asm_formats.specs.Regions.{least_size}
-use Rattle.new_groups.specs.group_disks.Holding.{IsHeldSlot}
+use Rattle.new_groups.specs.mounted_groups.Holding.{IsHeldSlot}
 use Rattle.file_extents.specs.group_engine.Members.{HasPlace}
 use Rattle.file_extents.specs.group_engine.Mounts.{IsMounted, MountedGroup}
 use Rattle.file_extents.specs.group_engine.declared.attached.Attached.{Attached}

@@ -16,9 +16,9 @@ use Rattle.asm_world.specs.NewDisks.{PlannedDisk}
 use Rattle.new_groups.specs.disk_directory.Disks.{Disk, info_at}
 use Rattle.file_extents.specs.catalog.Plans.{MayAdd}
 use Rattle.disk_images.specs.declared.looking.Looked.{Looked}
-use Rattle.new_groups.specs.group_disks.Holding.{IsHeldSlot}
+use Rattle.new_groups.specs.mounted_groups.Holding.{IsHeldSlot}
 use Rattle.file_extents.specs.group_engine.Mounts.{IsMounted, IsOwn, MountedGroup}
-use Rattle.new_groups.specs.group_mount.declared.finding.Headed.{Headed}
+use Rattle.new_groups.specs.group_recovery.declared.finding.Headed.{Headed}
 use Rattle.new_groups.specs.Drafts.{AreDisksApart}
 use Rattle.new_groups.specs.Tests.{are_disks_apart, is_image_there}
 use Rattle.disk_joining.specs.Attaching.{has_disk_in_slot}

@@ -2,7 +2,7 @@
 use Rattle.std.specs.Prelude.{◌≡◌, ⊤, ℕ, List}
 use Rattle.bay.specs.Moments.{Runs}
 use Rattle.bay.specs.State.{BayState}
-use Rattle.new_groups.specs.group_disks.Holding.{IsHeldSlot, SameHeld}
+use Rattle.new_groups.specs.mounted_groups.Holding.{IsHeldSlot, SameHeld}
 use Rattle.file_extents.specs.group_engine.Frames.{StaysAttached}
 use Rattle.file_extents.specs.group_engine.Mounts.{IsMounted, IsOwn, IsReady, IsWhole, MountedGroup}
 

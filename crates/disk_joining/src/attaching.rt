@@ -7,7 +7,7 @@ ghost use Rattle.disk_joining.specs.Attaching.{IsAttachable, member_of_image};
 
 use crate::slots::is_held;
 use bay::Bay;
-use disk_regions::LEAST_SIZE;
+use disk_blocks::LEAST_SIZE;
 use file_extents::Mounted;
 use status_register::Member;
 

@@ -2,7 +2,7 @@
 ghost use Rattle.std.specs.Prelude.{◌≡◌, Some};
 ghost use Rattle.asm_formats.specs.Among.{IsAmong};
 ghost use Rattle.file_extents.specs.group_engine.Mounts.{Takes};
-ghost use Rattle.new_groups.specs.group_mount.declared.finding.Headed.{Headed as Disk};
+ghost use Rattle.new_groups.specs.group_recovery.declared.finding.Headed.{Headed as Disk};
 ghost use Rattle.disk_joining.specs.Taking.{IsApart, TakesIn};
 
 use crate::attaching::{DiskImage, attach_image};

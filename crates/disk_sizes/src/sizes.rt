@@ -6,7 +6,7 @@ ghost use Rattle.asm_formats.specs.Regions.{region_end, reserved_units, units_in
 ghost use Rattle.disk_sizes.specs.Sizes.{least_units};
 
 use asm_base::{LEAST_USER_UNITS, MOST_UNITS, Shape};
-use disk_regions::BLOCK;
+use disk_blocks::BLOCK;
 
 /// The bytes up to the end of a directory region with so many pages.
 pub fn region_bytes(dir_blocks: u32) -> u64

@@ -9,7 +9,6 @@ use Rattle.asm_placement.specs.Partners.{table_disks}
 use Rattle.asm_world.specs.Files.{if_system}
 use Rattle.template_directory.specs.Tables.{template_named}
 use Rattle.partnership.specs.Tables.{is_table_disk}
-
 -- the disk lies in the failure group
 pub use Rattle.partnership.specs.Selections.{lies_in as is_of_group}
 

@@ -27,13 +27,13 @@ use Rattle.status_register.specs.SurveyLaws.{IsMemberOn}
 use Rattle.status_register.specs.Surveys.{first_damage}
 use Rattle.status_register.specs.declared.member.Member.{Member}
 use Rattle.status_register.proofs.Taking.{kept_among}
-use Rattle.group_mount.specs.Alike.{are_alike, clashes, first_stranger, is_same_kind, is_same_shape}
-use Rattle.group_mount.specs.Finding.{AreInOwnSlots}
-use Rattle.group_mount.specs.Verdicts.{member_of}
-use Rattle.group_mount.specs.declared.finding.Headed.{Headed}
-use Rattle.group_mount.proofs.Mounting.{IsThere, is_there}
-use Rattle.group_mount.proofs.Recovered.{own_among}
-use Rattle.group_mount.proofs.Surveyed.{member_on}
+use Rattle.group_recovery.specs.Alike.{are_alike, clashes, first_stranger, is_same_kind, is_same_shape}
+use Rattle.group_recovery.specs.Finding.{AreInOwnSlots}
+use Rattle.group_recovery.specs.Verdicts.{member_of}
+use Rattle.group_recovery.specs.declared.finding.Headed.{Headed}
+use Rattle.group_recovery.proofs.Mounting.{IsThere, is_there}
+use Rattle.group_recovery.proofs.Recovered.{own_among}
+use Rattle.group_recovery.proofs.Surveyed.{member_on}
 use Rattle.fault_laws.specs.Damage.{StandingHasNoStranger, StandingHasWholeBodies, StandsForOne}
 
 -- ---- the group that the image stands for

@@ -29,15 +29,15 @@ use Rattle.directory_store.specs.declared.error.LoadError.{LoadError}
 use Rattle.directory_store.specs.declared.error.LoadError.TheVariants as load
 use Rattle.status_register.specs.Answers.{Surveyed}
 use Rattle.status_register.specs.Surveys.{disk_in}
-use Rattle.group_mount.specs.Finding.{AreThere}
-use Rattle.group_mount.specs.Founds.{FoundDisks}
-use Rattle.group_mount.specs.Loads.{copies_read, refusal_of_load}
-use Rattle.group_mount.specs.Verdicts.{member_of}
-use Rattle.group_mount.specs.declared.error.MountError.TheVariants as error
-use Rattle.group_mount.proofs.CopyLoads.{IsFrom, copy_from}
-use Rattle.group_mount.proofs.Mounting.{is_there}
-use Rattle.group_mount.proofs.Recovered.{own_among}
-use Rattle.group_mount.proofs.Surveyed.{member_on}
+use Rattle.group_recovery.specs.Finding.{AreThere}
+use Rattle.group_recovery.specs.Founds.{FoundDisks}
+use Rattle.group_recovery.specs.Loads.{copies_read, refusal_of_load}
+use Rattle.group_recovery.specs.Verdicts.{member_of}
+use Rattle.group_recovery.specs.declared.error.MountError.TheVariants as error
+use Rattle.group_recovery.proofs.CopyLoads.{IsFrom, copy_from}
+use Rattle.group_recovery.proofs.Mounting.{is_there}
+use Rattle.group_recovery.proofs.Recovered.{own_among}
+use Rattle.group_recovery.proofs.Surveyed.{member_on}
 use Rattle.fault_laws.specs.Damage.{StandingHasWholeCopies, StandsForOne}
 use Rattle.fault_laws.proofs.Bodies.{disk_of}
 

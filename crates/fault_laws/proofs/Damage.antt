@@ -30,18 +30,18 @@ use Rattle.status_register.specs.SurveyLaws.{IsMemberOn}
 use Rattle.status_register.specs.Surveys.{disk_in, records_on}
 use Rattle.status_register.proofs.Meeting.{surveyed_record_counts}
 use Rattle.catalog_tables.specs.Faults.{IsAtFault}
-use Rattle.group_mount.specs.Founds.{FoundDisks}
-use Rattle.group_mount.specs.Loads.{copies_read}
-use Rattle.group_mount.specs.NamedCopies.{directory_copy_of}
-use Rattle.group_mount.specs.Verdicts.{member_of}
-use Rattle.group_mount.specs.declared.finding.Headed.{Headed}
-use Rattle.group_mount.proofs.Alikes.{shape_from}
-use Rattle.group_mount.proofs.CopyLoads.{IsFrom, copy_from}
-use Rattle.group_mount.proofs.Mounting.{IsThere, is_named, is_there}
-use Rattle.group_mount.proofs.NextRecords.{in_elements}
-use Rattle.group_mount.proofs.Recovered.{own_among}
-use Rattle.group_mount.proofs.Surveyed.{header_number, member_on}
-use Rattle.group_mount.proofs.Taking.{at_slot, found_alone}
+use Rattle.group_recovery.specs.Founds.{FoundDisks}
+use Rattle.group_recovery.specs.Loads.{copies_read}
+use Rattle.group_recovery.specs.NamedCopies.{directory_copy_of}
+use Rattle.group_recovery.specs.Verdicts.{member_of}
+use Rattle.group_recovery.specs.declared.finding.Headed.{Headed}
+use Rattle.group_recovery.proofs.Alikes.{shape_from}
+use Rattle.group_recovery.proofs.CopyLoads.{IsFrom, copy_from}
+use Rattle.group_recovery.proofs.Mounting.{IsThere, is_named, is_there}
+use Rattle.group_recovery.proofs.NextRecords.{in_elements}
+use Rattle.group_recovery.proofs.Recovered.{own_among}
+use Rattle.group_recovery.proofs.Surveyed.{header_number, member_on}
+use Rattle.group_recovery.proofs.Taking.{at_slot, found_alone}
 use Rattle.fault_laws.specs.Damage.{SoundIsNotDamaged, WasLoaded}
 use Rattle.fault_laws.specs.Faults.{DescribeIn}
 use Rattle.fault_laws.proofs.NoFault.{no_fault}

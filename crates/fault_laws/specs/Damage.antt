@@ -13,13 +13,13 @@ use Rattle.directory_store.specs.Stores.{Stored}
 use Rattle.status_register.specs.Answers.{Surveyed}
 use Rattle.status_register.specs.SurveyLaws.{IsMemberOn}
 use Rattle.status_register.specs.declared.member.Member.{Member}
-use Rattle.group_mount.specs.Finding.{AreThere}
-use Rattle.group_mount.specs.Founds.{FoundDisks}
-use Rattle.group_mount.specs.Loads.{LoadRefusal, copies_read}
-use Rattle.group_mount.specs.Mounting.{Allows}
-use Rattle.group_mount.specs.Quorum.{CatalogRefusal, IsStoreLoaded, IsStrangerRefusal}
-use Rattle.group_mount.specs.Surveying.{IsSurveyedNow, MembersCause}
-use Rattle.group_mount.specs.declared.error.MountError.TheVariants as error
+use Rattle.group_recovery.specs.Finding.{AreThere}
+use Rattle.group_recovery.specs.Founds.{FoundDisks}
+use Rattle.group_recovery.specs.Loads.{LoadRefusal, copies_read}
+use Rattle.group_recovery.specs.Mounting.{Allows}
+use Rattle.group_recovery.specs.Quorum.{CatalogRefusal, IsStoreLoaded, IsStrangerRefusal}
+use Rattle.group_recovery.specs.Surveying.{IsSurveyedNow, MembersCause}
+use Rattle.group_recovery.specs.declared.error.MountError.TheVariants as error
 
 -- The found disks are there, and the store was loaded from one copy of theirs at least, with its records in the order of their keys.
 pub record WasLoaded (found : FoundDisks) (survey : Surveyed) (store : Stored) (shape : Shape) (t : BayState) : Type 0 where

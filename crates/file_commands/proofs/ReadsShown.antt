@@ -26,7 +26,7 @@ use Rattle.asm_world.specs.World.{SessionEntry, SessionState, World, Mounted, Di
 use Rattle.session.proofs.catalog_laws.HavingItems.{have_items}
 use Rattle.catalog_tables.specs.Items.{AreItemsOf}
 use Rattle.catalog_tables.specs.Rules.{KeepsRules}
-use Rattle.session.specs.group_disks.Found.{Counts, counts_of}
+use Rattle.session.specs.mounted_groups.Found.{Counts, counts_of}
 use Rattle.session.specs.group_engine.Mounts.{MountedGroup}
 use Rattle.session.proofs.group_engine.Elsewhere.{stays_attached}
 use Rattle.report_laws.specs.group_of.Groups.{HasCells, cells_of, group_of}

@@ -9,7 +9,7 @@ use Rattle.asm_world.specs.Below.{GroupBelow}
 use Rattle.asm_world.specs.Paths.{target_from}
 use Rattle.asm_world.specs.Reply.{Refused}
 use Rattle.asm_world.specs.World.{SessionEntry, SessionState, World, Mounted, DismountedBy, entry_among, entry_in}
-use Rattle.session.specs.group_disks.Found.{Counts, counts_of}
+use Rattle.session.specs.mounted_groups.Found.{Counts, counts_of}
 use Rattle.session.specs.Counts.{ReplyCause}
 use Rattle.session.specs.Effects.{IsServed, below_with}
 use Rattle.session.specs.Files.{IsWriteRefused}

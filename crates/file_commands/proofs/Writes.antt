@@ -23,7 +23,7 @@ use Rattle.asm_world.specs.Reply.{Done, Refused}
 use Rattle.asm_world.specs.Step.{ChangesAt, DoneCommand, HasMountedGroup, IsDismounted, IsTorn, MayStopTorn, RefusedCommand}
 use Rattle.asm_world.specs.Waits.{HasLines}
 use Rattle.asm_world.specs.World.{SessionEntry, World, DismountedBy, entry_in, groups_of, mounted_group, only_group, with_dismounted, with_group}
-use Rattle.session.specs.group_disks.Found.{Counts}
+use Rattle.session.specs.mounted_groups.Found.{Counts}
 use Rattle.session.specs.Families.{IsRefused, changes_group}
 use Rattle.session.specs.Files.{IsWriteRefused}
 use Rattle.session.specs.OnDisks.{NoWork, work_of}

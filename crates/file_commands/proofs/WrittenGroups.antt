@@ -28,7 +28,7 @@ use Rattle.session.specs.directory_store.Answers.{NoCalls}
 use Rattle.session.specs.group_contents.Files.{AtFile, IsOpened, IsSpan, OpenCause, SpanCause, WriteCause}
 use Rattle.session.specs.group_contents.Writing.{EndsAs, HasSpan, StaysFor, TakesSpan, WritesFile, WritesNothing, WritesOpened, WritesSpan}
 use Rattle.session.specs.group_contents.declared.opening.OpenFile.{OpenFile}
-use Rattle.session.specs.group_disks.Found.{counts_of}
+use Rattle.session.specs.mounted_groups.Found.{counts_of}
 use Rattle.session.proofs.group_engine.Elsewhere.{stays_attached}
 use Rattle.session.specs.group_engine.Making.{dismounted_by}
 use Rattle.session.specs.group_engine.Mounts.{IsMounted, MountedGroup}

@@ -8,12 +8,12 @@ use Rattle.command_refusals.specs.declared.refusal.Refusal.{Refusal}
 use Rattle.command_refusals.specs.declared.refusal.Refusal.TheVariants as cause
 use Rattle.asm_group.specs.Names.{Bytes}
 use Rattle.asm_world.specs.World.{mounted_entry, without_entry}
-use Rattle.session.specs.group_disks.Holding.{SparesHeld}
-use Rattle.session.specs.group_disks.Leaving.{LeavesRefused, WasMounted}
-use Rattle.session.specs.group_disks.Mounting.{IsMountCause, IsMountedBy}
+use Rattle.session.specs.mounted_groups.Holding.{SparesHeld}
+use Rattle.session.specs.mounted_groups.Leaving.{LeavesRefused, WasMounted}
+use Rattle.session.specs.mounted_groups.Mounting.{IsMountCause, IsMountedBy}
 use Rattle.session.specs.group_engine.Frames.{StaysAttached}
-use Rattle.group_mount.specs.declared.error.MountError.{MountError}
-use Rattle.group_mount.specs.declared.quorum.MountOption.{MountOption}
+use Rattle.group_recovery.specs.declared.error.MountError.{MountError}
+use Rattle.group_recovery.specs.declared.quorum.MountOption.{MountOption}
 use Rattle.session.specs.group_engine.Mounts.{MountedGroup}
 use Rattle.session.specs.Desks.{paths_on}
 use Rattle.group_commands.specs.Mounting.{IsMountRefusal, MountsInto, mount_said}

@@ -11,8 +11,8 @@ use Rattle.asm_world.specs.Below.{GroupBelow}
 use Rattle.asm_world.specs.Reply.{Reply}
 use Rattle.asm_world.specs.Reply as world
 use Rattle.asm_world.specs.World.{World}
-use Rattle.session.specs.group_disks.FirstParts.{IsNewlyMounted}
-use Rattle.session.specs.group_disks.Holding.{SparesHeld}
+use Rattle.session.specs.mounted_groups.FirstParts.{IsNewlyMounted}
+use Rattle.session.specs.mounted_groups.Holding.{SparesHeld}
 use Rattle.session.specs.group_engine.Frames.{StaysAttached}
 use Rattle.session.specs.group_engine.Mounts.{MountedGroup}
 use Rattle.session.specs.declared.answer.Answer.{Answer}

@@ -17,16 +17,16 @@ use Rattle.asm_world.specs.Step.{MountsGroup, Step}
 use Rattle.asm_world.specs.Waits.{HasLines}
 use Rattle.asm_world.specs.World.{SessionEntry, World, entry_among, entry_in, groups_of, has_mounted, is_mounted, mounted_entry, with_group, without_entry}
 use Rattle.asm_world.proofs.Memory.{stays}
-use Rattle.session.specs.group_disks.Found.{counts_of}
-use Rattle.session.specs.group_disks.Leaving.{IsMountedOn, LeavesRefused, WasMounted}
-use Rattle.session.specs.group_disks.MountCauses.{AreElsewhere, ErrorCause, look}
-use Rattle.session.specs.group_disks.Mounting.{IsMountCause, IsMountedBy}
-use Rattle.session.proofs.group_disks.MountRefusals.{refusals_have_causes}
+use Rattle.session.specs.mounted_groups.Found.{counts_of}
+use Rattle.session.specs.mounted_groups.Leaving.{IsMountedOn, LeavesRefused, WasMounted}
+use Rattle.session.specs.mounted_groups.MountCauses.{AreElsewhere, ErrorCause, look}
+use Rattle.session.specs.mounted_groups.Mounting.{IsMountCause, IsMountedBy}
+use Rattle.session.proofs.mounted_groups.MountRefusals.{refusals_have_causes}
 use Rattle.session.specs.group_engine.Frames.{StaysAttached}
 use Rattle.session.specs.group_engine.Mounts.{MountedGroup}
-use Rattle.group_mount.specs.declared.error.MountError.{MountError}
-use Rattle.group_mount.specs.declared.error.MountError.TheVariants as error
-use Rattle.group_mount.specs.declared.quorum.MountOption.{MountOption}
+use Rattle.group_recovery.specs.declared.error.MountError.{MountError}
+use Rattle.group_recovery.specs.declared.error.MountError.TheVariants as error
+use Rattle.group_recovery.specs.declared.quorum.MountOption.{MountOption}
 use Rattle.session.specs.session_claims.Claims.{KeepsWorlds, StandsFor}
 use Rattle.session.specs.session_claims.Found.{IsNameFree}
 use Rattle.session.specs.session_claims.Laws.{MountsGoOn, ReplacesGroups}

@@ -12,16 +12,16 @@ use Rattle.asm_group.specs.Names.{Bytes}
 use Rattle.asm_formats.specs.Among.{IsAmong}
 use Rattle.asm_formats.specs.Header.{Header}
 use Rattle.asm_world.specs.World.{Mounted, SessionEntry, SessionState, World, has_mounted, is_mounted}
-use Rattle.session.specs.group_disks.Holding.{IsHeldSlot}
-use Rattle.session.specs.group_disks.MountCauses.{AreElsewhere, ErrorCause, HasNamedDisk, IsMountRefused, Look, look}
+use Rattle.session.specs.mounted_groups.Holding.{IsHeldSlot}
+use Rattle.session.specs.mounted_groups.MountCauses.{AreElsewhere, ErrorCause, HasNamedDisk, IsMountRefused, Look, look}
 use Rattle.session.specs.group_engine.Making.{dismounted_by}
 use Rattle.session.specs.group_engine.Mounts.{IsOwn, IsWhole, MountedGroup, slot_at}
 use Rattle.session.specs.group_engine.declared.attached.Attached.{Attached}
-use Rattle.group_mount.specs.declared.error.MountError.{MountError}
-use Rattle.group_mount.specs.declared.error.MountError.TheVariants as error
-use Rattle.group_mount.specs.declared.quorum.MountOption.{MountOption}
-use Rattle.group_mount.specs.declared.quorum.MountOption.TheVariants.{Force, NoForce}
-use Rattle.group_mount.specs.status_register.declared.member.Member.{Member}
+use Rattle.group_recovery.specs.declared.error.MountError.{MountError}
+use Rattle.group_recovery.specs.declared.error.MountError.TheVariants as error
+use Rattle.group_recovery.specs.declared.quorum.MountOption.{MountOption}
+use Rattle.group_recovery.specs.declared.quorum.MountOption.TheVariants.{Force, NoForce}
+use Rattle.group_recovery.specs.status_register.declared.member.Member.{Member}
 use Rattle.session.specs.session_claims.Claims.{IsPaired, StandsFor}
 use Rattle.session.specs.session_claims.Found.{HasNamed, HaveNames, IsNameFree}
 use Rattle.session.proofs.session_claims.FoundMembers.{named_is_unmounted, pair_among}

@@ -20,9 +20,9 @@ use Rattle.asm_world.specs.Language.{command_of}
 use Rattle.asm_world.specs.Reply.{Reply, Refused}
 use Rattle.asm_world.specs.Statement.{Alter, Mount}
 use Rattle.asm_world.specs.World.{SessionEntry, World, entry_among, entry_in}
-use Rattle.session.specs.group_disks.Leaving.{LeavesRefused, WasMounted}
-use Rattle.session.specs.group_disks.Mounting.{IsMountCause}
-use Rattle.group_mount.specs.declared.quorum.MountOption.{MountOption}
+use Rattle.session.specs.mounted_groups.Leaving.{LeavesRefused, WasMounted}
+use Rattle.session.specs.mounted_groups.Mounting.{IsMountCause}
+use Rattle.group_recovery.specs.declared.quorum.MountOption.{MountOption}
 use Rattle.session.specs.declared.answer.Answer.{Answer}
 use Rattle.session.specs.declared.desk.Desk.{Desk}
 use Rattle.session.specs.declared.reply.Reply.TheVariants as replies

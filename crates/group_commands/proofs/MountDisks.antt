@@ -8,17 +8,17 @@ use Rattle.asm_group.specs.Group.{Group}
 use Rattle.asm_group.specs.Names.{Bytes}
 use Rattle.asm_world.specs.Command.{Command}
 use Rattle.asm_world.specs.World.{World, groups_of, has_mounted}
-use Rattle.session.specs.group_disks.Leaving.{IsMountedOn, LeavesClaimed, LeavesLost, LeavesRefused, MountsOne, WasMounted, before_record, behind_record, claimed_group, looked}
-use Rattle.session.specs.group_disks.Mounting.{WasQuorate}
-use Rattle.session.proofs.group_disks.ReadNames.{reads_named}
+use Rattle.session.specs.mounted_groups.Leaving.{IsMountedOn, LeavesClaimed, LeavesLost, LeavesRefused, MountsOne, WasMounted, before_record, behind_record, claimed_group, looked}
+use Rattle.session.specs.mounted_groups.Mounting.{WasQuorate}
+use Rattle.session.proofs.mounted_groups.ReadNames.{reads_named}
 use Rattle.session.specs.group_engine.Commits.{StandsIn}
 use Rattle.session.specs.group_engine.Frames.{StaysAttached}
 use Rattle.session.specs.group_engine.Mounts.{MountedGroup}
-use Rattle.group_mount.specs.Mounting.{Allows}
-use Rattle.group_mount.specs.Recovered.{ChangesMembers, StoodFor}
-use Rattle.group_mount.specs.declared.error.MountError.{MountError}
-use Rattle.group_mount.specs.declared.error.MountError.TheVariants as error
-use Rattle.group_mount.specs.declared.quorum.MountOption.{MountOption}
+use Rattle.group_recovery.specs.Mounting.{Allows}
+use Rattle.group_recovery.specs.Recovered.{ChangesMembers, StoodFor}
+use Rattle.group_recovery.specs.declared.error.MountError.{MountError}
+use Rattle.group_recovery.specs.declared.error.MountError.TheVariants as error
+use Rattle.group_recovery.specs.declared.quorum.MountOption.{MountOption}
 use Rattle.session.specs.session_claims.Claims.{KeepsWorlds, StandsFor}
 use Rattle.session.specs.session_claims.Found.{IsNameFree}
 use Rattle.session.specs.session_claims.Laws.{MountsGoOn, ReplacesGroups, WorksUnder}

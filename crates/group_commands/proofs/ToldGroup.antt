@@ -7,7 +7,7 @@ use Rattle.asm_group.specs.Group.{Cell, Free, Group}
 use Rattle.asm_group.specs.Names.{Bytes}
 use Rattle.asm_formats.specs.Items.{FileHead}
 use Rattle.session.proofs.catalog_laws.HavingItems.{have_items}
-use Rattle.group_mount.specs.catalog_tables.Tables.{Tables}
+use Rattle.group_recovery.specs.catalog_tables.Tables.{Tables}
 use Rattle.file_directory.specs.Files.{head_at}
 use Rattle.session.specs.group_engine.Mounts.{IsWhole, MountedGroup, Represents}
 use Rattle.session.specs.group_of.Describing.{IsDescribed}

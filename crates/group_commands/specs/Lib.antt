@@ -1,3 +1,3 @@
 pub mod Mounting
-pub mod group_mount
+pub mod group_recovery
 pub mod session_claims

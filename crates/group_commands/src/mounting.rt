@@ -8,7 +8,7 @@ ghost use Rattle.session.specs.Sessions.{AreReady};
 use asm_base::{Name, NoMemory, Text};
 use bay::{Bay, Host};
 use command_refusals::{DiskRef, Refusal};
-use group_mount::{MountError, MountOption};
+use group_recovery::{MountError, MountOption};
 use session::{Desk, mount_group};
 use std::alloc::Global;
 

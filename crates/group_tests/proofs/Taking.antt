@@ -9,8 +9,8 @@ use Rattle.bay.specs.State.{BayState, AttachesOnly, IsOnSectors, IsSlot, KeepsAt
 use Rattle.bay.specs.Moments.{Runs}
 use Rattle.bay_mem.specs.MemState.{IsQuiet}
 use Rattle.group_engine.specs.Frames.{StaysAttached}
-use Rattle.new_groups.specs.group_disks.FirstParts.{IsNewlyMounted}
-use Rattle.new_groups.specs.group_disks.Mounting.{IsMountedBy}
+use Rattle.new_groups.specs.mounted_groups.FirstParts.{IsNewlyMounted}
+use Rattle.new_groups.specs.mounted_groups.Mounting.{IsMountedBy}
 use Rattle.group_engine.specs.Making.{access_after_closing}
 use Rattle.group_engine.specs.Members.{HasImage, LetsGo}
 use Rattle.group_engine.specs.Mounts.{MountedGroup, Takes}

@@ -6,7 +6,7 @@ ghost use Rattle.group_engine.specs.Mounts.{Takes};
 use asm_base::{GroupKind, Name};
 use bay::Bay;
 use group_engine::Mounted;
-use group_mount::MountOption;
+use group_recovery::MountOption;
 use group_sql::{Statement, read_statement};
 use new_groups::{GroupAsked, Known, create_group, mount_group};
 use std::alloc::Global;

@@ -9,7 +9,7 @@ use crate::playing::wrong_in;
 use crate::steps::{Step, Wrong};
 use bay_mem::MemBay;
 use group_engine::Mounted;
-use group_mount::MountOption;
+use group_recovery::MountOption;
 use std::alloc::Global;
 
 /// The bytes of an image.

@@ -15,11 +15,11 @@ use Rattle.asm_placement.proofs.Chosen.{entry_among, entry_found}
 use Rattle.disk_modes.specs.Effects.{entry_forced}
 use Rattle.group_pieces.proofs.group_engine.Records.{record_parts}
 use Rattle.group_pieces.specs.group_engine.Mounts.{MountedGroup}
-use Rattle.group_mount.specs.Missing.{is_missing}
-use Rattle.group_mount.specs.NextRecord.{IsMarkOf, entry_after_mount, has_entry_of_disk, entry_when_mounted}
-use Rattle.group_mount.proofs.NextRecords.{makes}
-use Rattle.group_mount.specs.declared.finding.Headed.{Headed}
-use Rattle.group_mount.specs.declared.quorum.Quorate.{Quorate}
+use Rattle.group_recovery.specs.Missing.{is_missing}
+use Rattle.group_recovery.specs.NextRecord.{IsMarkOf, entry_after_mount, has_entry_of_disk, entry_when_mounted}
+use Rattle.group_recovery.proofs.NextRecords.{makes}
+use Rattle.group_recovery.specs.declared.finding.Headed.{Headed}
+use Rattle.group_recovery.specs.declared.quorum.Quorate.{Quorate}
 use Rattle.group_pieces.specs.Failing.{entry_failed, offline_entry}
 use Rattle.asm_group.specs.Modes.{is_offline}
 use Rattle.disk_modes.specs.group_reports.Disks.{is_repair_time_up, may_go, number_of_entry_if_any}

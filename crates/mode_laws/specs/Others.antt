@@ -5,18 +5,18 @@ use Rattle.asm_formats.specs.Among.{IsAmong}
 use Rattle.asm_formats.specs.Sets.{has_bit}
 use Rattle.asm_formats.specs.Status.{Entry, Status, entry_of, is_status}
 use Rattle.asm_placement.specs.Modes.{serves}
-use Rattle.group_mount.specs.catalog_tables.MarkedExtents.{IsFirstMarked}
+use Rattle.group_recovery.specs.catalog_tables.MarkedExtents.{IsFirstMarked}
 use Rattle.disk_modes.specs.Effects.{DropsExpiredDisk}
 use Rattle.group_pieces.specs.group_engine.Mounts.{MountedGroup}
-use Rattle.group_mount.specs.Founds.{FoundDisks}
-use Rattle.group_mount.specs.Missing.{is_missing}
-use Rattle.group_mount.specs.NextRecord.{IsNextRecord, MakesRecord}
-use Rattle.group_mount.specs.Quorum.{IsQuorate}
-use Rattle.group_mount.specs.Recovering.{ArePartsOf}
-use Rattle.group_mount.specs.declared.quorum.MountOption.{MountOption}
-use Rattle.group_mount.specs.declared.quorum.MountOption.TheVariants.{NoForce}
-use Rattle.group_mount.specs.declared.quorum.Quorate.{Quorate}
-use Rattle.group_mount.specs.declared.recovering.Parts.{Parts}
+use Rattle.group_recovery.specs.Founds.{FoundDisks}
+use Rattle.group_recovery.specs.Missing.{is_missing}
+use Rattle.group_recovery.specs.NextRecord.{IsNextRecord, MakesRecord}
+use Rattle.group_recovery.specs.Quorum.{IsQuorate}
+use Rattle.group_recovery.specs.Recovering.{ArePartsOf}
+use Rattle.group_recovery.specs.declared.quorum.MountOption.{MountOption}
+use Rattle.group_recovery.specs.declared.quorum.MountOption.TheVariants.{NoForce}
+use Rattle.group_recovery.specs.declared.quorum.Quorate.{Quorate}
+use Rattle.group_recovery.specs.declared.recovering.Parts.{Parts}
 use Rattle.group_pieces.specs.Failing.{AreOffline, status_failed}
 use Rattle.disk_modes.specs.group_reports.Disks.{is_repair_time_up}
 use Rattle.mode_laws.specs.Events.{TakesEffect, ModeChange, ModeEvent, by_expiry, by_fault, by_mark, by_missing}

@@ -29,7 +29,7 @@ use Rattle.alias_edits.specs.declared.editing.TreeEdit.TheVariants as tree
 use Rattle.template_directory.specs.Meant as templates
 use Rattle.session.specs.catalog.TreePlans.{keeps_files, makes_node}
 use Rattle.session.specs.edit_laws.Edits.{edited_by}
-use Rattle.session.specs.group_disks.Found.{Counts}
+use Rattle.session.specs.mounted_groups.Found.{Counts}
 use Rattle.session.specs.group_files.declared.edit.GroupEdit.{GroupEdit}
 use Rattle.session.specs.group_files.declared.edit.GroupEdit.TheVariants.{Tree, SetAttribute}
 use Rattle.session.specs.group_of.Edits.{attribute_meant}

@@ -25,7 +25,7 @@ use Rattle.session.specs.catalog_tables.Tables.{Tables}
 use Rattle.session.proofs.catalog_tables.AfterLaws.{one_after}
 use Rattle.session.specs.edit_laws.Edits.{edited_by}
 use Rattle.session.proofs.edit_laws.OfTables.{edit_is_of_tables}
-use Rattle.session.specs.group_disks.Found.{counts_of}
+use Rattle.session.specs.mounted_groups.Found.{counts_of}
 use Rattle.session.specs.group_engine.Commits.{CommitsChange, StatusCause}
 use Rattle.session.specs.group_engine.Frames.{StaysAttached}
 use Rattle.session.proofs.group_engine.Elsewhere.{stays_attached}

@@ -15,7 +15,7 @@ use Rattle.asm_world.specs.Causes.{is_mounted_as}
 use Rattle.asm_world.specs.Paths.{target_from}
 use Rattle.asm_world.specs.Reply.{Reply, Refused}
 use Rattle.asm_world.specs.World.{SessionEntry, SessionState, World, Mounted, DismountedBy, entry_among, entry_in, is_mounted}
-use Rattle.session.specs.group_disks.Found.{Counts, counts_of}
+use Rattle.session.specs.mounted_groups.Found.{Counts, counts_of}
 use Rattle.world_steps.specs.Steps.{EditAt, MayAnswer, asks_edit, change_of}
 use Rattle.world_steps.proofs.Steps.{answers_edits, answers_none}
 use Rattle.world_steps.proofs.Told.{named_among}

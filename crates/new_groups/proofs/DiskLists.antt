@@ -14,13 +14,13 @@ use Rattle.directory_store.specs.change_directory.Places.{IsCopy}
 use Rattle.directory_store.specs.change_directory.declared.copy.DirCopy.{DirCopy}
 use Rattle.directory_store.specs.Copies as copies
 use Rattle.directory_store.specs.Stores.{HaveOneSize}
-use Rattle.group_disks.specs.group_mount.NamedCopies.{directory_copy_of}
-use Rattle.group_disks.specs.group_mount.Recovering.{AreDisksOf}
-use Rattle.group_disks.specs.group_mount.Verdicts.{IsSlotIn, member_of}
-use Rattle.group_disks.specs.group_mount.declared.finding.Headed.{Headed}
-use Rattle.group_disks.proofs.group_mount.NextRecords.{element_bit, element_small, in_elements}
-use Rattle.group_disks.proofs.group_mount.Searches.{sector_of}
-use Rattle.group_disks.proofs.group_mount.Surveyed.{header_number}
+use Rattle.mounted_groups.specs.group_recovery.NamedCopies.{directory_copy_of}
+use Rattle.mounted_groups.specs.group_recovery.Recovering.{AreDisksOf}
+use Rattle.mounted_groups.specs.group_recovery.Verdicts.{IsSlotIn, member_of}
+use Rattle.mounted_groups.specs.group_recovery.declared.finding.Headed.{Headed}
+use Rattle.mounted_groups.proofs.group_recovery.NextRecords.{element_bit, element_small, in_elements}
+use Rattle.mounted_groups.proofs.group_recovery.Searches.{sector_of}
+use Rattle.mounted_groups.proofs.group_recovery.Surveyed.{header_number}
 use Rattle.status_register.specs.Holders.{is_of}
 use Rattle.status_register.specs.Places.{HasSlots}
 use Rattle.status_register.specs.Registered.{AreNumbered, all_placed}
@@ -31,7 +31,7 @@ use Rattle.status_register.specs.Writes.{first_register}
 use Rattle.status_register.specs.declared.member.Member.{Member}
 use Rattle.status_register.proofs.Holding.{Apart, apart_list, disk_is, entry_birth}
 use Rattle.status_register.proofs.Placing.{placed_good, placed_is, placed_of}
-use Rattle.group_disks.specs.group_engine.Mounts.{AreCopiesOf, IsCopyOf}
+use Rattle.mounted_groups.specs.group_engine.Mounts.{AreCopiesOf, IsCopyOf}
 use Rattle.new_groups.specs.Drafts.{HasAgreeingParts, AreDisksApart, copy_list, disk_list, holder_list, member_list}
 use Rattle.new_groups.specs.Forming.{AreDisks}
 use Rattle.new_groups.specs.declared.draft.Draft.{Draft}

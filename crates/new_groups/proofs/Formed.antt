@@ -12,29 +12,29 @@ use Rattle.asm_group.specs.Names.{Bytes}
 use Rattle.asm_group.specs.Shape.{Shape, is_shape}
 use Rattle.asm_images.proofs.Members.{member_shape}
 use Rattle.asm_formats.specs.Among.{IsAmong}
-use Rattle.group_disks.specs.catalog_tables.Faults.{IsCatalogOf}
-use Rattle.group_disks.specs.catalog_tables.Tables.{Catalogued}
-use Rattle.group_disks.proofs.catalog_laws.ToldRecords.{records_told}
+use Rattle.mounted_groups.specs.catalog_tables.Faults.{IsCatalogOf}
+use Rattle.mounted_groups.specs.catalog_tables.Tables.{Catalogued}
+use Rattle.mounted_groups.proofs.catalog_laws.ToldRecords.{records_told}
 use Rattle.directory_store.specs.change_directory.declared.copy.DirCopy.{DirCopy}
 use Rattle.directory_store.specs.Stores.{Keeps, Stored}
 use Rattle.directory_store.proofs.Storing.{keeps_elsewhere}
 use Rattle.disk_images.specs.Looks.{Looks}
-use Rattle.group_disks.specs.FirstParts.{IsNewlyMounted}
-use Rattle.group_disks.specs.Holding.{IsHeldSlot, SparesHeld}
-use Rattle.group_disks.specs.Mounting.{by_number}
-use Rattle.group_disks.proofs.Births.{birth_of}
-use Rattle.group_disks.proofs.Disks.{sizes_are, slots_are}
-use Rattle.group_disks.proofs.Spared.{change_held, looks_held, spares_on, spares_some}
-use Rattle.group_disks.proofs.Staying.{stays_keeps, stays_trans}
-use Rattle.group_disks.specs.group_engine.Frames.{StaysAttached}
-use Rattle.group_disks.specs.group_engine.Making.{group_of_parts}
-use Rattle.group_disks.specs.group_engine.Mounts.{AreCopiesOf, IsWhole, MountedGroup}
-use Rattle.group_disks.specs.group_engine.declared.attached.Attached.{Attached}
-use Rattle.group_disks.specs.group_mount.Verdicts.{IsSlotIn}
-use Rattle.group_disks.specs.group_mount.Writing.{FrontOf}
-use Rattle.group_disks.specs.group_mount.declared.finding.Headed.{Headed}
-use Rattle.group_disks.proofs.group_mount.Fronts.{front_region}
-use Rattle.group_disks.proofs.group_mount.Searches.{sector_of}
+use Rattle.mounted_groups.specs.FirstParts.{IsNewlyMounted}
+use Rattle.mounted_groups.specs.Holding.{IsHeldSlot, SparesHeld}
+use Rattle.mounted_groups.specs.Mounting.{by_number}
+use Rattle.mounted_groups.proofs.Births.{birth_of}
+use Rattle.mounted_groups.proofs.Disks.{sizes_are, slots_are}
+use Rattle.mounted_groups.proofs.Spared.{change_held, looks_held, spares_on, spares_some}
+use Rattle.mounted_groups.proofs.Staying.{stays_keeps, stays_trans}
+use Rattle.mounted_groups.specs.group_engine.Frames.{StaysAttached}
+use Rattle.mounted_groups.specs.group_engine.Making.{group_of_parts}
+use Rattle.mounted_groups.specs.group_engine.Mounts.{AreCopiesOf, IsWhole, MountedGroup}
+use Rattle.mounted_groups.specs.group_engine.declared.attached.Attached.{Attached}
+use Rattle.mounted_groups.specs.group_recovery.Verdicts.{IsSlotIn}
+use Rattle.mounted_groups.specs.group_recovery.Writing.{FrontOf}
+use Rattle.mounted_groups.specs.group_recovery.declared.finding.Headed.{Headed}
+use Rattle.mounted_groups.proofs.group_recovery.Fronts.{front_region}
+use Rattle.mounted_groups.proofs.group_recovery.Searches.{sector_of}
 use Rattle.status_table.proofs.Allowed.{parts_of}
 use Rattle.status_register.specs.Reaching.{Reaches}
 use Rattle.status_register.specs.Registered.{Registered}

@@ -6,7 +6,7 @@ use Rattle.command_refusals.specs.declared.refusal.Refusal.{Refusal}
 use Rattle.asm_group.specs.Refusal as r
 use Rattle.asm_world.specs.Settings.{Creation, created_with, with_creation_attribute}
 use Rattle.asm_world.specs.Statement.{Attribute}
-use Rattle.group_disks.specs.Probes.{SaysRefusal}
+use Rattle.mounted_groups.specs.Probes.{SaysRefusal}
 use Rattle.new_groups.specs.Refusing.{IsNotTaken, IsRefusedAs}
 
 pub refused_as : {A : Type 0} (answer : Result A r.Refusal) (wanted : r.Refusal) (refusal : Refusal) → answer ≡ Err wanted → SaysRefusal wanted refusal → IsRefusedAs answer (meaning_of (λ any. []) refusal)

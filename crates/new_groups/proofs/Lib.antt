@@ -8,5 +8,5 @@ pub mod GivenAttributes
 pub mod Refused
 pub mod PlannedLaws
 pub mod Unprepared
-pub mod group_disks
-pub mod group_mount
+pub mod mounted_groups
+pub mod group_recovery

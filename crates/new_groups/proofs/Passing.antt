@@ -17,11 +17,11 @@ use Rattle.directory_store.specs.Contents.{ArePutItems}
 use Rattle.disk_images.specs.Looks.{AreLooked, IsLooked}
 use Rattle.disk_images.specs.declared.looking.Looked.{Looked}
 use Rattle.disk_images.specs.declared.looking.Looked.TheVariants.{Absent, Unread, Read}
-use Rattle.group_disks.specs.group_mount.declared.finding.Headed.{Headed}
+use Rattle.mounted_groups.specs.group_recovery.declared.finding.Headed.{Headed}
 use Rattle.new_groups.specs.Drafts.{HasAgreeingParts, AreDisksApart, AreFreeDisks, IsFreeDisk, IsRight}
 use Rattle.new_groups.specs.Preparing.{IsPrepared}
 use Rattle.new_groups.specs.Tests.{are_disks_apart, are_fit, has_disk_number, have_disks, is_apart, is_right_disk, is_image_there, may_form, shows_size}
-use Rattle.group_disks.specs.group_mount.Founds.{is_held}
+use Rattle.mounted_groups.specs.group_recovery.Founds.{is_held}
 use Rattle.new_groups.specs.declared.draft.Draft.{Draft}
 use Rattle.new_groups.specs.declared.preparing.Ready.{Ready}
 

@@ -10,9 +10,9 @@ use Rattle.asm_world.specs.NewDisks.{PlannedDisk, is_name_taken, needed_groups, 
 use Rattle.asm_group.specs.Refusal as r
 use Rattle.command_refusals.specs.Refusals.{meaning_of}
 use Rattle.command_refusals.specs.declared.refusal.Refusal.{Refusal}
-use Rattle.group_disks.specs.Probes.{SaysRefusal}
-use Rattle.group_disks.proofs.group_mount.Told.{rose_before}
-use Rattle.group_disks.specs.group_mount.declared.finding.Headed.{Headed}
+use Rattle.mounted_groups.specs.Probes.{SaysRefusal}
+use Rattle.mounted_groups.proofs.group_recovery.Told.{rose_before}
+use Rattle.mounted_groups.specs.group_recovery.declared.finding.Headed.{Headed}
 use Rattle.new_groups.specs.Causes.{IsThisRefusal, clash_refusal, first_refusal, first_refused, groups_refusal}
 use Rattle.new_groups.specs.Drafts.{AreFreeDisks}
 use Rattle.new_groups.specs.Forming.{IsFormRefusal}

@@ -2,7 +2,7 @@
 use Rattle.std.proofs.Common.{◌≡◌, ℕ, zero, suc, ◌-◌, true, ◌&&◌, List, refl, arith}
 use Rattle.std.specs.Prelude.{◌||◌, not}
 use Rattle.asm_formats.specs.Sets.{has_bit}
-use Rattle.group_disks.specs.group_mount.declared.finding.Headed.{Headed}
+use Rattle.mounted_groups.specs.group_recovery.declared.finding.Headed.{Headed}
 use Rattle.new_groups.specs.Tests.{has_disk_number, have_disks}
 
 pub none_left : (hs : List Headed) (set n : ℕ) → n ≡ 0 → true ≡ have_disks hs set n

@@ -19,11 +19,11 @@ use Rattle.gate_slot.specs.Slot.{MayPut, PlaceOf}
 use Rattle.gate_slot.specs.declared.place.Place.{Place}
 use Rattle.disk_images.specs.disk_forming.Gates.{GatesOf, MayCloseAll}
 use Rattle.disk_images.specs.disk_forming.Places.{all_gates}
-use Rattle.group_disks.specs.group_mount.Verdicts.{IsSlotIn}
-use Rattle.group_disks.specs.group_mount.Writing.{FrontOf}
-use Rattle.group_disks.specs.group_mount.declared.finding.Headed.{Headed}
-use Rattle.group_disks.proofs.group_mount.Told.{rose_before}
-use Rattle.group_disks.proofs.group_mount.Fronts.{claims_change, front_runs, record_changes}
+use Rattle.mounted_groups.specs.group_recovery.Verdicts.{IsSlotIn}
+use Rattle.mounted_groups.specs.group_recovery.Writing.{FrontOf}
+use Rattle.mounted_groups.specs.group_recovery.declared.finding.Headed.{Headed}
+use Rattle.mounted_groups.proofs.group_recovery.Told.{rose_before}
+use Rattle.mounted_groups.proofs.group_recovery.Fronts.{claims_change, front_runs, record_changes}
 use Rattle.status_register.specs.Registered.{AreNumbered}
 use Rattle.status_register.specs.Rows.{PutsRow, RunsInOrder}
 use Rattle.status_register.specs.Slots.{claim_gate, status_gate}

@@ -13,7 +13,7 @@ use Rattle.asm_world.specs.Statement.{NewDisk, NewFailgroup}
 use Rattle.disk_images.specs.declared.looking.Looked.{Looked}
 use Rattle.disk_sizes.specs.Sizes.{least_units}
 use Rattle.disk_images.specs.declared.looking.Looked.TheVariants.{Absent, Unread, Read}
-use Rattle.group_disks.specs.group_mount.Founds.{is_held}
+use Rattle.mounted_groups.specs.group_recovery.Founds.{is_held}
 use Rattle.new_groups.specs.declared.asked.Known.{Known}
 use Rattle.new_groups.specs.declared.asked.Taken.{Taken}
 use Rattle.new_groups.specs.declared.places.Place.{Place}

@@ -10,10 +10,10 @@ use Rattle.asm_group.specs.Shape.{Shape, is_shape}
 use Rattle.asm_formats.specs.Among.{IsAmong}
 use Rattle.directory_store.specs.change_directory.declared.copy.DirCopy.{DirCopy}
 use Rattle.directory_store.specs.Contents.{ArePutItems}
-use Rattle.group_disks.specs.Holding.{IsHeldSlot}
-use Rattle.group_disks.specs.group_mount.NamedCopies.{directory_copy_of}
-use Rattle.group_disks.specs.group_mount.Verdicts.{member_of}
-use Rattle.group_disks.specs.group_mount.declared.finding.Headed.{Headed}
+use Rattle.mounted_groups.specs.Holding.{IsHeldSlot}
+use Rattle.mounted_groups.specs.group_recovery.NamedCopies.{directory_copy_of}
+use Rattle.mounted_groups.specs.group_recovery.Verdicts.{member_of}
+use Rattle.mounted_groups.specs.group_recovery.declared.finding.Headed.{Headed}
 use Rattle.status_register.specs.Holders.{is_of}
 use Rattle.status_register.specs.declared.member.Member.{Member}
 use Rattle.new_groups.specs.declared.draft.Draft.{Draft}

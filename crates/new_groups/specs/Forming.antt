@@ -10,16 +10,16 @@ use Rattle.asm_formats.specs.Regions.{region_end}
 use Rattle.asm_group.specs.Refusal as r
 use Rattle.asm_group.specs.Shape.{Shape}
 use Rattle.asm_formats.specs.Among.{IsAmong}
-use Rattle.group_disks.specs.catalog_tables.Faults.{IsCatalogOf}
-use Rattle.group_disks.specs.catalog_tables.Tables.{Catalogued}
+use Rattle.mounted_groups.specs.catalog_tables.Faults.{IsCatalogOf}
+use Rattle.mounted_groups.specs.catalog_tables.Tables.{Catalogued}
 use Rattle.directory_store.specs.Stores.{Keeps}
 use Rattle.disk_images.specs.Headers.{HasHeaderSlot}
-use Rattle.group_disks.specs.Mounting.{by_number}
-use Rattle.group_disks.specs.group_engine.Making.{group_of_parts}
-use Rattle.group_disks.specs.group_engine.Mounts.{MountedGroup}
+use Rattle.mounted_groups.specs.Mounting.{by_number}
+use Rattle.mounted_groups.specs.group_engine.Making.{group_of_parts}
+use Rattle.mounted_groups.specs.group_engine.Mounts.{MountedGroup}
 use Rattle.disk_images.specs.disk_forming.Gates.{HasAttachedRegion}
-use Rattle.group_disks.specs.group_mount.Verdicts.{IsSlotIn}
-use Rattle.group_disks.specs.group_mount.declared.finding.Headed.{Headed}
+use Rattle.mounted_groups.specs.group_recovery.Verdicts.{IsSlotIn}
+use Rattle.mounted_groups.specs.group_recovery.declared.finding.Headed.{Headed}
 use Rattle.status_register.specs.Keeping.{IsRegisterReady}
 use Rattle.status_register.specs.Writes.{first_register}
 use Rattle.new_groups.specs.Drafts.{copy_list, disk_list, member_list}

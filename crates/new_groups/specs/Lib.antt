@@ -6,5 +6,5 @@ pub mod Drafts
 pub mod Forming
 pub mod Preparing
 pub mod disk_directory
-pub mod group_disks
-pub mod group_mount
+pub mod mounted_groups
+pub mod group_recovery

@@ -8,11 +8,11 @@ use Rattle.asm_formats.specs.Status.{Entry, is_status}
 use Rattle.asm_group.specs.Shape.{Shape, is_shape}
 use Rattle.disk_images.specs.declared.looking.Looked.{Looked}
 use Rattle.disk_images.specs.declared.looking.Looked.TheVariants.{Absent, Unread, Read}
-use Rattle.group_disks.specs.group_mount.Verdicts.{member_of}
-use Rattle.group_disks.specs.group_mount.declared.finding.Headed.{Headed}
+use Rattle.mounted_groups.specs.group_recovery.Verdicts.{member_of}
+use Rattle.mounted_groups.specs.group_recovery.declared.finding.Headed.{Headed}
 use Rattle.status_register.specs.Holders.{is_of}
 use Rattle.new_groups.specs.declared.draft.Draft.{Draft}
-use Rattle.group_disks.specs.group_mount.Founds.{is_held}
+use Rattle.mounted_groups.specs.group_recovery.Founds.{is_held}
 
 -- the look has shown an image of this size
 abbrev pub shows_size : Option Looked → ℕ → Bool

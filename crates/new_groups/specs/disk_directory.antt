@@ -1,2 +1,2 @@
 -- The definitions of `disk_directory` that crates above name.
-pub use Rattle.group_disks.specs.disk_directory.Disks
+pub use Rattle.mounted_groups.specs.disk_directory.Disks

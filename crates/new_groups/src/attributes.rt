@@ -3,13 +3,13 @@ ghost use Rattle.std.specs.Prelude.{◌≡◌, [], IfErr, IfOk, IsTrue, Ok, Some
 ghost use Rattle.command_refusals.specs.Refusals.{meaning_of};
 ghost use Rattle.asm_group.specs.Shape.{is_shape};
 ghost use Rattle.asm_world.specs.Settings.{created_with, creation, with_creation_attribute};
-ghost use Rattle.group_disks.specs.attribute_values.Creations.{IsNewCreation, creation_meant};
+ghost use Rattle.mounted_groups.specs.attribute_values.Creations.{IsNewCreation, creation_meant};
 ghost use Rattle.new_groups.specs.Refusing.{IsNotTaken, IsRefusedAs};
 
 use crate::refusals::bad_attribute;
 use asm_base::{GroupKind, NoMemory};
 use command_refusals::Refusal;
-use group_disks::Creation;
+use mounted_groups::Creation;
 use new_disks::Attribute;
 use std::alloc::Global;
 

@@ -7,7 +7,7 @@ use crate::lists::member_of;
 use asm_base::{DiskSet, Shape};
 use disk_header::is_header;
 use disk_images::Looked;
-use group_disks::{Headed, has_region, is_held};
+use mounted_groups::{Headed, has_region, is_held};
 use status_register::is_of_entry;
 use status_table::{PstEntry, is_status};
 

@@ -4,9 +4,9 @@ ghost use Rattle.std.specs.Prelude.{◌≤◌, ◌<◌, [], All, IfErr, IfOk, If
 ghost use Rattle.std.specs.String.{string_bytes};
 ghost use Rattle.command_refusals.specs.Refusals.{meaning_of};
 ghost use Rattle.bay.specs.Counts.{last_count};
-ghost use Rattle.group_disks.specs.FirstParts.{IsNewlyMounted};
-ghost use Rattle.group_disks.specs.Holding.{SparesHeld};
-ghost use Rattle.group_disks.specs.group_engine.Frames.{StaysAttached};
+ghost use Rattle.mounted_groups.specs.FirstParts.{IsNewlyMounted};
+ghost use Rattle.mounted_groups.specs.Holding.{SparesHeld};
+ghost use Rattle.mounted_groups.specs.group_engine.Frames.{StaysAttached};
 ghost use Rattle.new_groups.specs.Drafts.{HasAgreeingParts, AreFreeDisks, AreLists};
 ghost use Rattle.new_groups.specs.Forming.{IsFormRefusal, Works};
 ghost use Rattle.new_groups.specs.Preparing.{IsCreationRefusal};
@@ -18,7 +18,7 @@ use crate::preparing::{Ready, prepare};
 use asm_base::NoMemory;
 use bay::Bay;
 use command_refusals::Refusal;
-use group_disks::Mounted;
+use mounted_groups::Mounted;
 use std::alloc::Global;
 
 /// Forms and mounts a group that is ready.

@@ -8,7 +8,7 @@ use crate::first_records::first_change;
 use crate::places::Place;
 use asm_base::{Change, Name, NoMemory, Shape};
 use disk_header::Header;
-use group_disks::{Creation, Headed};
+use mounted_groups::{Creation, Headed};
 use new_disks::PlannedDisk;
 use status_table::PstRecord;
 use std::alloc::Global;

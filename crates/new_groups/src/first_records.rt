@@ -3,7 +3,7 @@ ghost use Rattle.std.specs.Prelude.{IfOk, OnOk};
 ghost use Rattle.directory_store.specs.Contents.{ArePutItems, IsPutItem};
 
 use asm_base::{Change, GroupKind, Key, List, NoMemory, SETTINGS_KEY, TEMPLATES_KEY, Value};
-use group_disks::{
+use mounted_groups::{
     DiskInfo, Headed, Settings, are_allowed, disk_record, settings_value, system, templates_value,
 };
 use std::alloc::Global;

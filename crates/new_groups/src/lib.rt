@@ -1,7 +1,7 @@
 //! New groups of every kind: what a creation is refused for, what its disks become, and how they are formed and mounted.
 #![tactic(auto)]
 
-pub use group_disks::{Headed, mount_group};
+pub use mounted_groups::{Headed, mount_group};
 pub use new_disks::{DiskRow, NewDisk, NewFailgroup, PlannedDisk, is_name_taken};
 pub use partnership::partners;
 

@@ -1,15 +1,15 @@
 //! The disks of a new group as its register, its directories and its engine see them.
 ghost use Rattle.std.specs.Prelude.{◌≡◌, ◌<◌, ◌++◌, IfOk, OnOk};
 ghost use Rattle.asm_formats.specs.Among.{IsAmong};
-ghost use Rattle.group_disks.specs.Mounting.{by_number, put_disks};
-ghost use Rattle.group_disks.specs.group_mount.NamedCopies.{directory_copy_of};
-ghost use Rattle.group_disks.specs.group_mount.Verdicts.{member_of};
-ghost use Rattle.group_disks.specs.group_mount.declared.finding.Headed.{Headed as Disk};
+ghost use Rattle.mounted_groups.specs.Mounting.{by_number, put_disks};
+ghost use Rattle.mounted_groups.specs.group_recovery.NamedCopies.{directory_copy_of};
+ghost use Rattle.mounted_groups.specs.group_recovery.Verdicts.{member_of};
+ghost use Rattle.mounted_groups.specs.group_recovery.declared.finding.Headed.{Headed as Disk};
 ghost use Rattle.new_groups.specs.Drafts.{copy_list, disk_list, holder_list, member_list};
 
 use asm_base::{DiskSet, NoMemory};
 use directory_store::DirCopy;
-use group_disks::{Attached, Headed};
+use mounted_groups::{Attached, Headed};
 use status_register::Member;
 use std::alloc::Global;
 

@@ -1,9 +1,9 @@
 //! A group that was formed is mounted as it is.
 ghost use Rattle.std.specs.Prelude.{◌≡◌, IfOk};
-ghost use Rattle.group_disks.specs.catalog_tables.Faults.{IsCatalogOf};
-ghost use Rattle.group_disks.specs.Mounting.{by_number};
-ghost use Rattle.group_disks.specs.group_engine.Making.{group_of_parts};
-ghost use Rattle.group_disks.specs.group_engine.Mounts.{IsWhole};
+ghost use Rattle.mounted_groups.specs.catalog_tables.Faults.{IsCatalogOf};
+ghost use Rattle.mounted_groups.specs.Mounting.{by_number};
+ghost use Rattle.mounted_groups.specs.group_engine.Making.{group_of_parts};
+ghost use Rattle.mounted_groups.specs.group_engine.Mounts.{IsWhole};
 ghost use Rattle.status_register.specs.Reaching.{Reaches};
 ghost use Rattle.new_groups.specs.Drafts.{HasAgreeingParts, disk_list};
 ghost use Rattle.new_groups.specs.Forming.{AreDisks, AreParts, IsMountedOf};
@@ -14,7 +14,7 @@ use crate::lists::by_number;
 use asm_base::NoMemory;
 use bay::Bay;
 use directory_store::Store;
-use group_disks::{Catalog, CatalogError, Mounted};
+use mounted_groups::{Catalog, CatalogError, Mounted};
 use std::alloc::Global;
 
 /// The catalog of a new group's records. Want of memory is answered, too, where one were at fault.

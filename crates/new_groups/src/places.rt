@@ -12,7 +12,7 @@ use asm_base::NoMemory;
 use command_refusals::Refusal;
 use disk_header::Header;
 use disk_images::Looked;
-use group_disks::{disk_taken, is_held, no_disk, write_fault};
+use mounted_groups::{disk_taken, is_held, no_disk, write_fault};
 use new_disks::PlannedDisk;
 use std::alloc::Global;
 

@@ -24,7 +24,7 @@ use asm_base::{GroupKind, NoMemory, Shape};
 use bay::Bay;
 use command_refusals::Refusal;
 use disk_images::{Looked, look_at_images};
-use group_disks::Creation;
+use mounted_groups::Creation;
 use new_disks::{PlannedDisk, is_name_taken, needed_groups, regular_groups};
 use std::alloc::Global;
 

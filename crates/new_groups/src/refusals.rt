@@ -1,6 +1,6 @@
 //! Refusals of a creation. Each wants memory for the text that it names: where there is none, it is NoMemory.
 ghost use Rattle.asm_group.specs.Refusal.{BadAttribute, TooSmall};
-ghost use Rattle.group_disks.specs.Probes.{SaysRefusal};
+ghost use Rattle.mounted_groups.specs.Probes.{SaysRefusal};
 
 use asm_base::{Name, NoMemory, Text};
 use command_refusals::{DiskRef, Refusal};

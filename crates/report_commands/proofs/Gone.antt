@@ -19,7 +19,7 @@ use Rattle.asm_world.specs.Reply.{Done, Refused}
 use Rattle.asm_world.specs.Step.{GoesTo, Step}
 use Rattle.asm_world.specs.World.{World}
 use Rattle.catalog_tables.specs.Tables.{AreTables}
-use Rattle.session.specs.group_disks.Found.{Counts}
+use Rattle.session.specs.mounted_groups.Found.{Counts}
 use Rattle.session.specs.group_engine.Mounts.{MountedGroup}
 use Rattle.group_reports.specs.Places.{directory_at}
 use Rattle.report_laws.specs.Places.{IsDirectory, spelt_by}

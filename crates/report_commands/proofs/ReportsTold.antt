@@ -17,7 +17,7 @@ use Rattle.asm_world.specs.Step.{Shows, Step}
 use Rattle.asm_world.specs.Waits.{HasLines}
 use Rattle.asm_world.specs.World.{World}
 use Rattle.asmcmd.proofs.Shown.{rows_are_lines}
-use Rattle.session.specs.group_disks.Found.{Counts, counts_of}
+use Rattle.session.specs.mounted_groups.Found.{Counts, counts_of}
 use Rattle.session.specs.group_engine.Mounts.{MountedGroup}
 use Rattle.group_reports.specs.Disks.{disk_rows}
 use Rattle.report_laws.proofs.Rows.{attributes_are_worlds, templates_are_worlds}

@@ -20,7 +20,7 @@ use Rattle.asm_world.specs.Step.{HasMountedGroup, IsDismounted, Step}
 use Rattle.asm_world.specs.Waits.{HasLines}
 use Rattle.asm_world.specs.World.{World, mounted_group}
 use Rattle.catalog_tables.specs.Rules.{KeepsRules}
-use Rattle.session.specs.group_disks.Found.{Counts, counts_of}
+use Rattle.session.specs.mounted_groups.Found.{Counts, counts_of}
 use Rattle.session.specs.group_engine.Mounts.{MountedGroup}
 use Rattle.group_reports.specs.Places.{directory_at}
 use Rattle.report_laws.proofs.Places.{directories_are_worlds, no_directories_are_worlds}

@@ -16,7 +16,7 @@ use Rattle.asm_world.specs.Reply.{Reply, Refused}
 use Rattle.asm_world.specs.Step.{HasMountedGroup, IsDismounted, Step}
 use Rattle.asm_world.specs.Waits.{HasLines}
 use Rattle.asm_world.specs.World.{SessionEntry, SessionState, World, Mounted, DismountedBy, entry_among, entry_in, groups_of, is_mounted, mounted_group}
-use Rattle.session.specs.group_disks.Found.{Counts, counts_of}
+use Rattle.session.specs.mounted_groups.Found.{Counts, counts_of}
 use Rattle.session.specs.group_engine.Mounts.{MountedGroup}
 use Rattle.session.specs.session_claims.Claims.{IsPaired}
 use Rattle.world_steps.specs.Told.{AreIdsApart}

@@ -11,7 +11,7 @@ use Rattle.bay.proofs.Known.{Appends-none, Appends-more}
 use Rattle.asm_group.specs.Names.{Bytes}
 use Rattle.asm_world.specs.Run.{State, PrintedMove, SessionMove, AllMoves, IsMove, end_of, entry_text, text_of, IsPrinted, IsPrintedToCut, output_of, commands_at, answered, times_at, times_of, marks_at, marks_in_history, refuses, has_refusal}
 use Rattle.asm_world.proofs.Histories.{end_append, rise_calls, rise_joined}
-use Rattle.disk_commands.specs.group_disks.Found.{Counts}
+use Rattle.disk_commands.specs.mounted_groups.Found.{Counts}
 use Rattle.disk_commands.specs.session.Claims.{outside_with_counts, held_outside, IsProvedApartIn}
 use Rattle.serving.specs.declared.manner.Manner.{Manner}
 use Rattle.disk_commands.specs.session.Effects.{Past}

@@ -20,7 +20,7 @@ use Rattle.asm_world.specs.World.{World, SessionEntry, entry_in, is_mounted}
 use Rattle.asm_world.specs.Run.{Phase, Resting, Expiring, Slicing, Starts, Answers, Rests, AnswersAt, next_expiry, next_slice, below_of_entry, expiring_of, due_resync, due_rebalance, DueRebalance, DueResync, slices_of, mounted_groups, phase_after, is_refusal, reply_in, times_of}
 use Rattle.serving.specs.Acts.{scene, scene_state, Acts}
 use Rattle.asm_world.specs.Waits.{HasLines}
-use Rattle.disk_commands.specs.group_disks.Found.{Counts, counts_of}
+use Rattle.disk_commands.specs.mounted_groups.Found.{Counts, counts_of}
 use Rattle.disk_commands.specs.session.Meaning.{meaning}
 use Rattle.disk_commands.specs.session.Effects.{HasEffect, IsProvedOn, IsServed, anywhere, below_with, on_disks}
 use Rattle.disk_commands.specs.session.Families.{changes_group}

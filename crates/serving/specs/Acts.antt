@@ -6,7 +6,7 @@ use Rattle.bay.specs.Readings.{Readings}
 use Rattle.asm_group.specs.Names.{Bytes}
 use Rattle.asm_world.specs.World.{World}
 use Rattle.asm_world.specs.Run.{State, Phase, PrintedMove, CallsRise, end_of, IsPrinted, IsPrintedToCut, output_of, answered, times_of, marks_in_history, has_refusal}
-use Rattle.disk_commands.specs.group_disks.Found.{Counts, counts_of}
+use Rattle.disk_commands.specs.mounted_groups.Found.{Counts, counts_of}
 use Rattle.disk_commands.specs.session.Claims.{outside_with_counts, held_outside, IsProvedApartIn}
 use Rattle.serving.specs.declared.manner.Manner.{Manner}
 use Rattle.disk_commands.specs.session.Effects.{Past}

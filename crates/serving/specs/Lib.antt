@@ -5,8 +5,8 @@ pub mod Reads
 pub mod Serves
 pub mod Stops
 pub mod asm_grammar
-pub mod group_disks
+pub mod mounted_groups
 pub mod group_engine
-pub mod group_mount
+pub mod group_recovery
 pub mod session
 pub mod session_claims

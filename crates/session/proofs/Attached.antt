@@ -14,7 +14,7 @@ use Rattle.asm_formats.specs.Among.{IsAmong}
 use Rattle.asm_world.specs.World.{SessionEntry}
 use Rattle.group_contents.proofs.catalog_tables.TableItems.{from_map}
 use Rattle.disk_joining.specs.Taking.{IsApart, TakesIn}
-use Rattle.session_claims.specs.group_disks.Holding.{IsHeldSlot, SameHeld}
+use Rattle.session_claims.specs.mounted_groups.Holding.{IsHeldSlot, SameHeld}
 use Rattle.group_contents.specs.group_engine.Mounts.{IsMounted, IsOwn, IsWhole, MountedGroup, Takes, slot_at}
 use Rattle.group_contents.specs.group_engine.declared.attached.Attached.{Attached}
 use Rattle.session.specs.declared.entry.Entry.{Entry}

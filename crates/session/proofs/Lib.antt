@@ -25,7 +25,7 @@ pub mod Working
 pub mod catalog_laws
 pub mod catalog_tables
 pub mod edit_laws
-pub mod group_disks
+pub mod mounted_groups
 pub mod group_engine
 pub mod group_of
 pub mod group_pieces

@@ -23,9 +23,9 @@ use Rattle.asm_world.specs.Settings as t
 use Rattle.asm_world.specs.Step.{Step, IsNewId, LeavesCreated, MadeGroup}
 use Rattle.asm_world.specs.Waits.{HasLines}
 use Rattle.asm_world.specs.World.{World, SessionEntry, entry_in, has_mounted, is_mounted, with_group, mounted_entry}
-use Rattle.session_claims.specs.group_disks.Found.{Counts, counts_of, AreIdsRead, RefusalCause, IsEarly}
-use Rattle.session_claims.specs.group_disks.Creating.{HasCreated, made_group}
-use Rattle.session_claims.specs.group_disks.FirstParts.{MountsNew}
+use Rattle.session_claims.specs.mounted_groups.Found.{Counts, counts_of, AreIdsRead, RefusalCause, IsEarly}
+use Rattle.session_claims.specs.mounted_groups.Creating.{HasCreated, made_group}
+use Rattle.session_claims.specs.mounted_groups.FirstParts.{MountsNew}
 use Rattle.group_contents.specs.group_engine.Frames.{StaysAttached}
 use Rattle.group_contents.specs.group_engine.Mounts.{MountedGroup}
 use Rattle.session_claims.specs.Claims.{KeepsWorlds, StandsFor}

@@ -11,7 +11,7 @@ use Rattle.bay.specs.State.{BayState}
 use Rattle.asm_group.specs.Names.{Bytes, is_same_name}
 use Rattle.asm_formats.specs.Among.{IsAmong}
 use Rattle.asm_world.specs.World.{SessionEntry}
-use Rattle.session_claims.specs.group_disks.Holding.{IsHeldSlot, SparesHeld}
+use Rattle.session_claims.specs.mounted_groups.Holding.{IsHeldSlot, SparesHeld}
 use Rattle.group_contents.specs.group_engine.Frames.{KeepsOwn, SparesDisks}
 use Rattle.group_contents.specs.group_engine.Mounts.{IsMounted, IsOwn, IsReady, IsWhole, MountedGroup, Takes, slot_at}
 use Rattle.group_contents.specs.group_engine.Members.{LetsGo}

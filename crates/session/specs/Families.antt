@@ -7,7 +7,7 @@ use Rattle.asm_world.specs.Command as c
 use Rattle.asm_world.specs.Command.{Command, Said, Asked, Unreadable}
 use Rattle.asm_world.specs.Statement as s
 use Rattle.asm_world.specs.World.{World}
-use Rattle.session_claims.specs.group_disks.Found.{Counts}
+use Rattle.session_claims.specs.mounted_groups.Found.{Counts}
 use Rattle.session.specs.Disks as disks
 use Rattle.session.specs.Files as files
 use Rattle.session.specs.Groups as groups

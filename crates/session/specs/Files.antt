@@ -6,7 +6,7 @@ use Rattle.asm_group.specs.Names.{Bytes}
 use Rattle.asm_group.specs.Refusal as r
 use Rattle.asm_world.specs.Command.{Command, Asked, DbWrite, DbFill}
 use Rattle.asm_world.specs.World.{World}
-use Rattle.session_claims.specs.group_disks.Found.{Counts}
+use Rattle.session_claims.specs.mounted_groups.Found.{Counts}
 
 -- which write bytes of a file that is there
 abbrev pub writes_bytes : Command → Bool

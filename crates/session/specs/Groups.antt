@@ -10,9 +10,9 @@ use Rattle.asm_group.specs.Refusal as r
 use Rattle.asm_world.specs.Command.{Command, Said, Asked, Unreadable}
 use Rattle.asm_world.specs.Statement.{Statement, CreateDisk, CreateGroup, DropGroup, Alter, Attribute, NewDisk, NewFailgroup, Check, Mount, Dismount}
 use Rattle.asm_world.specs.World.{World}
-use Rattle.session_claims.specs.group_disks.Creating.{made_group}
-use Rattle.session_claims.specs.group_disks.Found.{Counts, RefusalCause}
-use Rattle.session_claims.specs.group_disks.MountCauses.{MountRefusal}
+use Rattle.session_claims.specs.mounted_groups.Creating.{made_group}
+use Rattle.session_claims.specs.mounted_groups.Found.{Counts, RefusalCause}
+use Rattle.session_claims.specs.mounted_groups.MountCauses.{MountRefusal}
 
 -- ---- the creation of which it is proved what it does
 

@@ -32,7 +32,7 @@ pub mod disk_joining
 pub mod edit_laws
 pub mod file_extents
 pub mod group_contents
-pub mod group_disks
+pub mod mounted_groups
 pub mod group_engine
 pub mod group_files
 pub mod group_of

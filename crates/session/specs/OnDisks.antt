@@ -12,7 +12,7 @@ use Rattle.asm_world.specs.Command.{Command, Said}
 use Rattle.asm_world.specs.Reply.{Reply, Done, Refused}
 use Rattle.asm_world.specs.Statement.{CreateDisk, DropGroup}
 use Rattle.asm_world.specs.World.{SessionEntry, World, entry_in}
-use Rattle.session_claims.specs.group_disks.Found.{Counts, IsSlotOfPath, counts_of}
+use Rattle.session_claims.specs.mounted_groups.Found.{Counts, IsSlotOfPath, counts_of}
 
 pub data DiskWork : Type 0 where
   NoWork : DiskWork

@@ -5,7 +5,7 @@ use Rattle.asm_group.specs.Names.{Bytes}
 use Rattle.asm_group.specs.Refusal as r
 use Rattle.asm_world.specs.Command.{Command, Asked, Cd}
 use Rattle.asm_world.specs.World.{World}
-use Rattle.session_claims.specs.group_disks.Found.{Counts}
+use Rattle.session_claims.specs.mounted_groups.Found.{Counts}
 
 -- the path `+`
 abbrev pub is_top : Bytes → Bool

@@ -10,7 +10,7 @@ use Rattle.asm_world.specs.Command.{Command}
 use Rattle.asm_world.specs.Reply.{Reply, Refused}
 use Rattle.asm_world.specs.Run.{State, SessionMove, Starts, Expires, Answers, Slices, Rests, Stops}
 use Rattle.asm_world.specs.World.{SessionEntry, World, groups_of, has_mounted, is_mounted}
-use Rattle.session_claims.specs.group_disks.Found.{Counts}
+use Rattle.session_claims.specs.mounted_groups.Found.{Counts}
 use Rattle.session.specs.Families.{changes_group, is_proved, is_proved_on_disks, may_stop_torn, shows_group}
 use Rattle.session.specs.Groups.{mounts, name_mounted}
 use Rattle.session.specs.Meaning.{meaning}

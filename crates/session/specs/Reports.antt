@@ -4,7 +4,7 @@ use Rattle.asm_group.specs.Names.{Bytes}
 use Rattle.asm_group.specs.Refusal as r
 use Rattle.asm_world.specs.Command.{Command}
 use Rattle.asm_world.specs.World.{World}
-use Rattle.session_claims.specs.group_disks.Found.{Counts}
+use Rattle.session_claims.specs.mounted_groups.Found.{Counts}
 
 -- of which it is proved what they tell
 abbrev pub is_proved : Command → Bool

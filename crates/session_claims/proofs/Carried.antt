@@ -9,13 +9,13 @@ use Rattle.asm_formats.specs.Among.{IsAmong}
 use Rattle.asm_world.specs.Between.{groups_between}
 use Rattle.asm_world.specs.Command.{Command}
 use Rattle.asm_world.specs.World.{SessionEntry, World, groups_of, is_mounted}
-use Rattle.group_disks.specs.group_mount.Mounting.{Allows}
-use Rattle.group_disks.specs.group_mount.Recovered.{ChangesMembers}
-use Rattle.group_disks.specs.group_engine.Commits.{StandsIn}
-use Rattle.group_disks.specs.group_engine.Frames.{StaysAttached}
-use Rattle.group_disks.specs.group_engine.Mounts.{IsOwn, MountedGroup}
-use Rattle.group_disks.specs.group_engine.Own.{KeepsGroup}
-use Rattle.group_disks.proofs.group_engine.Elsewhere.{stays_attached}
+use Rattle.mounted_groups.specs.group_recovery.Mounting.{Allows}
+use Rattle.mounted_groups.specs.group_recovery.Recovered.{ChangesMembers}
+use Rattle.mounted_groups.specs.group_engine.Commits.{StandsIn}
+use Rattle.mounted_groups.specs.group_engine.Frames.{StaysAttached}
+use Rattle.mounted_groups.specs.group_engine.Mounts.{IsOwn, MountedGroup}
+use Rattle.mounted_groups.specs.group_engine.Own.{KeepsGroup}
+use Rattle.mounted_groups.proofs.group_engine.Elsewhere.{stays_attached}
 use Rattle.session_claims.specs.Claims.{IsMountedAs, IsPaired, IsStanding, KeepsWorlds, StandsFor}
 use Rattle.session_claims.specs.Laws.{MountsGoOn, ReplacesGroups}
 use Rattle.session_claims.proofs.Images.{among-front, held_allows, more_allows}

@@ -10,13 +10,13 @@ use Rattle.asm_images.specs.Kept.{IsMemberIn}
 use Rattle.asm_world.specs.Between.{groups_between}
 use Rattle.asm_world.specs.Command.{Command}
 use Rattle.asm_world.specs.World.{SessionEntry, World, groups_of, has_mounted, is_mounted}
-use Rattle.group_disks.specs.Creating.{HasCreated, HasMember, HasNoOpenHeader, MayCreate}
-use Rattle.group_disks.specs.group_mount.Mounting.{Allows}
-use Rattle.group_disks.specs.FirstParts.{MountsNew}
-use Rattle.group_disks.proofs.Outsiders.{others_allow}
-use Rattle.group_disks.specs.group_engine.Frames.{SparesGroup, StaysAttached}
-use Rattle.group_disks.specs.group_engine.Mounts.{MountedGroup}
-use Rattle.group_disks.proofs.group_engine.Elsewhere.{mounts_elsewhere, spared_is_held}
+use Rattle.mounted_groups.specs.Creating.{HasCreated, HasMember, HasNoOpenHeader, MayCreate}
+use Rattle.mounted_groups.specs.group_recovery.Mounting.{Allows}
+use Rattle.mounted_groups.specs.FirstParts.{MountsNew}
+use Rattle.mounted_groups.proofs.Outsiders.{others_allow}
+use Rattle.mounted_groups.specs.group_engine.Frames.{SparesGroup, StaysAttached}
+use Rattle.mounted_groups.specs.group_engine.Mounts.{MountedGroup}
+use Rattle.mounted_groups.proofs.group_engine.Elsewhere.{mounts_elsewhere, spared_is_held}
 use Rattle.session_claims.specs.Claims.{HoldsMembers, IsMountedAs, IsPaired, IsStanding, KeepsWorlds, StandsFor}
 use Rattle.session_claims.specs.Laws.{CreationKeeps, MountsGoOn, IsFreshId, ReplacesGroups}
 use Rattle.session_claims.proofs.Carried.{others_stay, replaced}

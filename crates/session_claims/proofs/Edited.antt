@@ -15,13 +15,13 @@ use Rattle.asm_world.specs.Command.{Command}
 use Rattle.asm_world.specs.World.{SessionEntry, World, groups_of, is_mounted}
 use Rattle.edit_laws.specs.Edits.{EditCall, IsHeldOver, edited_by}
 use Rattle.edit_laws.proofs.Leading.{edit_is_held}
-use Rattle.group_disks.specs.group_mount.Mounting.{Allows}
-use Rattle.group_disks.proofs.BroughtMounts.{still_later}
-use Rattle.group_disks.specs.group_engine.Commits.{IsIdle, IsIdleBut, StatusCause}
-use Rattle.group_disks.specs.group_engine.Frames.{StaysAttached}
-use Rattle.group_disks.specs.group_engine.Mounts.{IsMounted, MountedGroup}
-use Rattle.group_disks.proofs.group_engine.Causes.{not_mounted}
-use Rattle.group_disks.proofs.group_engine.Elsewhere.{stays_attached}
+use Rattle.mounted_groups.specs.group_recovery.Mounting.{Allows}
+use Rattle.mounted_groups.proofs.BroughtMounts.{still_later}
+use Rattle.mounted_groups.specs.group_engine.Commits.{IsIdle, IsIdleBut, StatusCause}
+use Rattle.mounted_groups.specs.group_engine.Frames.{StaysAttached}
+use Rattle.mounted_groups.specs.group_engine.Mounts.{IsMounted, MountedGroup}
+use Rattle.mounted_groups.proofs.group_engine.Causes.{not_mounted}
+use Rattle.mounted_groups.proofs.group_engine.Elsewhere.{stays_attached}
 use Rattle.edit_laws.specs.group_files.declared.edit.GroupEdit.{GroupEdit}
 use Rattle.session_claims.specs.Claims.{IsMountedAs, IsPaired, KeepsWorlds, StandsFor}
 use Rattle.session_claims.specs.Laws.{CommitsEdit, EditKeeps, EditsTo, MountsGoOn, RefusalKeeps, ReplacesGroups, TearingKeeps}

@@ -15,16 +15,16 @@ use Rattle.asm_images.specs.Kept.{IsHeld, Kept, header_in}
 use Rattle.asm_images.proofs.Bridges.{same_disk}
 use Rattle.asm_images.specs.Sound.{SoundBy}
 use Rattle.asm_world.specs.World.{SessionEntry, World, has_mounted}
-use Rattle.group_disks.specs.Creating.{HasMember}
-use Rattle.group_disks.specs.Mounting.{WasQuorate}
-use Rattle.group_disks.specs.group_engine.Mounts.{MountedGroup}
-use Rattle.group_disks.proofs.group_engine.Slots.{member_there}
-use Rattle.group_disks.proofs.group_engine.Standings.{there_by}
-use Rattle.group_disks.specs.group_mount.declared.quorum.MountOption.{MountOption}
-use Rattle.group_disks.specs.status_register.Surveys.{disk_in}
+use Rattle.mounted_groups.specs.Creating.{HasMember}
+use Rattle.mounted_groups.specs.Mounting.{WasQuorate}
+use Rattle.mounted_groups.specs.group_engine.Mounts.{MountedGroup}
+use Rattle.mounted_groups.proofs.group_engine.Slots.{member_there}
+use Rattle.mounted_groups.proofs.group_engine.Standings.{there_by}
+use Rattle.mounted_groups.specs.group_recovery.declared.quorum.MountOption.{MountOption}
+use Rattle.mounted_groups.specs.status_register.Surveys.{disk_in}
 use Rattle.session_claims.specs.Claims.{IsPaired, StandsFor}
 use Rattle.session_claims.specs.Found.{FoundIsKnown, FoundIsMember, FoundIsUnmounted, HasNamed, HaveNames, IsNameFree}
-use Rattle.group_disks.proofs.FoundIds.{IsNamedIn, taken_is_named}
+use Rattle.mounted_groups.proofs.FoundIds.{IsNamedIn, taken_is_named}
 use Rattle.session_claims.proofs.Pairs.{mounted_pair}
 
 some_of : (o : Option Image) → IsSome o → (x : Image) × (o ≡ Some x)

@@ -17,12 +17,12 @@ use Rattle.asm_images.proofs.OneContent.{found_is_held}
 use Rattle.asm_world.specs.Between.{also, groups_between, with_span_free}
 use Rattle.asm_world.specs.Command.{Command}
 use Rattle.asm_world.specs.World.{World, groups_of}
-use Rattle.group_disks.specs.Creating.{HasMember}
-use Rattle.group_disks.specs.group_mount.Mounting.{Allows}
-use Rattle.group_disks.proofs.Outsiders.{widened}
-use Rattle.group_disks.specs.group_engine.Mounts.{MountedGroup}
-use Rattle.group_disks.proofs.group_engine.Slots.{member_seen, member_there}
-use Rattle.group_disks.specs.status_register.Surveys.{disk_in}
+use Rattle.mounted_groups.specs.Creating.{HasMember}
+use Rattle.mounted_groups.specs.group_recovery.Mounting.{Allows}
+use Rattle.mounted_groups.proofs.Outsiders.{widened}
+use Rattle.mounted_groups.specs.group_engine.Mounts.{MountedGroup}
+use Rattle.mounted_groups.proofs.group_engine.Slots.{member_seen, member_there}
+use Rattle.mounted_groups.specs.status_register.Surveys.{disk_in}
 use Rattle.session_claims.specs.Claims.{IsMountedAs, IsSoundBy, IsStanding}
 
 pub same_allows : (id : ℕ) (groups : List Group) (x y : Image) → Same x y → Allows id groups x → Allows id groups y

@@ -11,4 +11,4 @@ pub mod Created
 pub mod FoundMembers
 pub mod Mounted
 pub mod edit_laws
-pub mod group_disks
+pub mod mounted_groups

@@ -8,11 +8,11 @@ use Rattle.asm_images.proofs.Held.{same_is_held}
 use Rattle.asm_world.specs.Between.{groups_between}
 use Rattle.asm_world.specs.Command.{Command}
 use Rattle.asm_world.specs.World.{SessionEntry, World, groups_of, is_mounted}
-use Rattle.group_disks.specs.Creating.{HasMember}
-use Rattle.group_disks.specs.group_mount.Mounting.{Allows}
-use Rattle.group_disks.specs.group_engine.Frames.{StaysAttached}
-use Rattle.group_disks.specs.group_engine.Mounts.{MountedGroup}
-use Rattle.group_disks.proofs.group_engine.Elsewhere.{mounts_elsewhere}
+use Rattle.mounted_groups.specs.Creating.{HasMember}
+use Rattle.mounted_groups.specs.group_recovery.Mounting.{Allows}
+use Rattle.mounted_groups.specs.group_engine.Frames.{StaysAttached}
+use Rattle.mounted_groups.specs.group_engine.Mounts.{MountedGroup}
+use Rattle.mounted_groups.proofs.group_engine.Elsewhere.{mounts_elsewhere}
 use Rattle.session_claims.specs.Claims.{HoldsMembers, IsMountedAs, IsPaired, IsStanding, KeepsWorlds, StandsFor}
 use Rattle.session_claims.specs.Laws.{AreSome, LooksKeep}
 use Rattle.session_claims.proofs.Images.{all_stand, among-front, more_allows, same_allows, same_member}

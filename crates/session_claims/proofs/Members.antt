@@ -11,13 +11,13 @@ use Rattle.asm_images.specs.Bridge.{disk_bytes}
 use Rattle.asm_images.specs.Kept.{IsMemberIn, Kept}
 use Rattle.asm_images.proofs.Bridges.{same_disk}
 use Rattle.asm_images.proofs.Held.{same_member}
-use Rattle.group_disks.specs.Creating.{HasMember}
-use Rattle.group_disks.specs.group_engine.Commits.{StandsIn}
-use Rattle.group_disks.specs.group_engine.Frames.{SameDisk, SparesGroup}
-use Rattle.group_disks.specs.group_engine.Mounts.{IsOwn, MountedGroup, Mounts}
-use Rattle.group_disks.specs.group_engine.Own.{KeepsGroup, OnOwnDisks}
-use Rattle.group_disks.specs.group_mount.Recovered.{ChangesMembers, KeepsSlot}
-use Rattle.group_disks.specs.status_register.Elsewhere.{IsNoMember}
+use Rattle.mounted_groups.specs.Creating.{HasMember}
+use Rattle.mounted_groups.specs.group_engine.Commits.{StandsIn}
+use Rattle.mounted_groups.specs.group_engine.Frames.{SameDisk, SparesGroup}
+use Rattle.mounted_groups.specs.group_engine.Mounts.{IsOwn, MountedGroup, Mounts}
+use Rattle.mounted_groups.specs.group_engine.Own.{KeepsGroup, OnOwnDisks}
+use Rattle.mounted_groups.specs.group_recovery.Recovered.{ChangesMembers, KeepsSlot}
+use Rattle.mounted_groups.specs.status_register.Elsewhere.{IsNoMember}
 use Rattle.session_claims.specs.Claims.{HoldsMembers}
 use Rattle.session_claims.proofs.Images.{has_slot, slot_has}
 

@@ -7,8 +7,8 @@ use Rattle.asm_group.specs.Group.{Group}
 use Rattle.asm_world.specs.Between.{groups_between}
 use Rattle.asm_world.specs.Command.{Command}
 use Rattle.asm_world.specs.World.{SessionEntry, World, groups_of, has_mounted, is_mounted}
-use Rattle.group_disks.specs.group_engine.Mounts.{MountedGroup}
-use Rattle.group_disks.specs.group_mount.Mounting.{Allows}
+use Rattle.mounted_groups.specs.group_engine.Mounts.{MountedGroup}
+use Rattle.mounted_groups.specs.group_recovery.Mounting.{Allows}
 use Rattle.session_claims.specs.Claims.{IsMountedAs, IsPaired, KeepsWorlds, StandsFor}
 use Rattle.session_claims.specs.Laws.{MountKeeps, RefusedMountKeeps, WorksUnder}
 use Rattle.session_claims.proofs.Carried.{others_stay, replaced}

@@ -5,12 +5,12 @@ use Rattle.bay.specs.Moments.{Runs}
 use Rattle.bay.specs.State.{BayState, IsSound}
 use Rattle.asm_world.specs.World.{SessionEntry, World, groups_of, has_mounted, is_mounted}
 use Rattle.edit_laws.proofs.Spared.{spared_is_sound}
-use Rattle.group_disks.specs.Creating.{HasMember}
-use Rattle.group_disks.specs.group_engine.Frames.{StaysAttached}
-use Rattle.group_disks.specs.group_engine.Mounts.{MountedGroup}
-use Rattle.group_disks.proofs.group_engine.Elsewhere.{mounts_elsewhere, spared_is_held}
-use Rattle.group_disks.specs.group_mount.Mounting.{Allows}
-use Rattle.group_disks.specs.group_mount.Recovered.{ChangesMembers}
+use Rattle.mounted_groups.specs.Creating.{HasMember}
+use Rattle.mounted_groups.specs.group_engine.Frames.{StaysAttached}
+use Rattle.mounted_groups.specs.group_engine.Mounts.{MountedGroup}
+use Rattle.mounted_groups.proofs.group_engine.Elsewhere.{mounts_elsewhere, spared_is_held}
+use Rattle.mounted_groups.specs.group_recovery.Mounting.{Allows}
+use Rattle.mounted_groups.specs.group_recovery.Recovered.{ChangesMembers}
 use Rattle.session_claims.specs.Claims.{HoldsMembers, IsMountedAs, IsPaired, IsStanding, StandsFor}
 use Rattle.session_claims.proofs.Images.{all_stand}
 use Rattle.session_claims.proofs.Members.{changed_keeps, changed_spares, still_held, was_member}

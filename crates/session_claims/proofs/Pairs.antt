@@ -3,7 +3,7 @@ use Rattle.std.proofs.Common.{◌≡◌, inl, inr, ⊎_elim, ◌⊎◌, ℕ, Boo
 use Rattle.std.specs.List.{list_any}
 use Rattle.std.proofs.lemmas.Bool.{and_parts, eq-eqb, eqb-true, false≢true}
 use Rattle.asm_world.specs.World.{SessionEntry, is_mounted}
-use Rattle.group_disks.specs.group_engine.Mounts.{MountedGroup}
+use Rattle.mounted_groups.specs.group_engine.Mounts.{MountedGroup}
 use Rattle.session_claims.specs.Claims.{IsPaired}
 
 pub either_true : (a b : Bool) → (a || b) ≡ true → (a ≡ true) ⊎ (b ≡ true)

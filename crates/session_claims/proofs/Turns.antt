@@ -4,9 +4,9 @@ use Rattle.std.proofs.lemmas.List.Filters.{length-filter_both}
 use Rattle.asm_formats.specs.Status.{Entry}
 use Rattle.asm_formats.proofs.Sizes.{are_small}
 use Rattle.asm_placement.specs.Modes.{serves}
-use Rattle.group_disks.specs.group_engine.Commits.{KeepsRecord, turns_at_most}
-use Rattle.group_disks.specs.group_engine.Mounts.{IsWhole, MountedGroup}
-use Rattle.group_disks.specs.group_engine.Pending.{OutlastsFaults, serving_in}
+use Rattle.mounted_groups.specs.group_engine.Commits.{KeepsRecord, turns_at_most}
+use Rattle.mounted_groups.specs.group_engine.Mounts.{IsWhole, MountedGroup}
+use Rattle.mounted_groups.specs.group_engine.Pending.{OutlastsFaults, serving_in}
 
 -- at most 64 disks serve
 few_serve : (m : MountedGroup) → IsWhole m → serving_in m.register.value.entries ≤ 64

@@ -7,9 +7,9 @@ use Rattle.asm_formats.specs.Among.{IsAmong}
 use Rattle.asm_world.specs.Between.{groups_between}
 use Rattle.asm_world.specs.Command.{Command}
 use Rattle.asm_world.specs.World.{SessionEntry, World, groups_of}
-use Rattle.group_disks.specs.group_mount.Mounting.{Allows}
-use Rattle.group_disks.proofs.BroughtMounts.{still_later}
-use Rattle.group_disks.specs.group_engine.Mounts.{IsMounted, MountedGroup, Mounts}
+use Rattle.mounted_groups.specs.group_recovery.Mounting.{Allows}
+use Rattle.mounted_groups.proofs.BroughtMounts.{still_later}
+use Rattle.mounted_groups.specs.group_engine.Mounts.{IsMounted, MountedGroup, Mounts}
 use Rattle.session_claims.specs.Claims.{IsMountedAs, KeepsWorlds, StandsFor}
 use Rattle.session_claims.specs.Laws.{HoldsWrite, IsWrittenIn, MountsGoOn, ReplacesGroups, WriteKeeps, WriteTears, WritesGroup}
 use Rattle.session_claims.proofs.Carried.{allows_then, work_keeps}

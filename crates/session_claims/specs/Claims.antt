@@ -11,10 +11,10 @@ use Rattle.asm_images.specs.Stands.{Standing}
 use Rattle.asm_world.specs.Between.{groups_between}
 use Rattle.asm_world.specs.Command.{Command}
 use Rattle.asm_world.specs.World.{SessionEntry, World, groups_of, has_mounted, is_mounted}
-use Rattle.group_disks.specs.Creating.{HasMember}
-use Rattle.group_disks.specs.group_mount.Mounting.{Allows}
-use Rattle.group_disks.specs.group_engine.Mounts.{MountedGroup, Mounts}
-use Rattle.group_disks.specs.group_engine.Pending.{OutlastsFaults}
+use Rattle.mounted_groups.specs.Creating.{HasMember}
+use Rattle.mounted_groups.specs.group_recovery.Mounting.{Allows}
+use Rattle.mounted_groups.specs.group_engine.Mounts.{MountedGroup, Mounts}
+use Rattle.mounted_groups.specs.group_engine.Pending.{OutlastsFaults}
 use Rattle.world_steps.specs.Told.{AreIdsApart}
 
 -- ---- a group and its entry

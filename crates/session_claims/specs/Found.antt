@@ -9,10 +9,10 @@ use Rattle.asm_formats.specs.Among.{IsAmong}
 use Rattle.asm_formats.specs.Header.{Header}
 use Rattle.asm_images.specs.Kept.{header_in}
 use Rattle.asm_world.specs.World.{SessionEntry, World, groups_of, has_mounted, is_mounted}
-use Rattle.group_disks.specs.Creating.{HasMember}
-use Rattle.group_disks.specs.Mounting.{WasQuorate}
-use Rattle.group_disks.specs.group_engine.Mounts.{MountedGroup}
-use Rattle.group_disks.specs.group_mount.declared.quorum.MountOption.{MountOption}
+use Rattle.mounted_groups.specs.Creating.{HasMember}
+use Rattle.mounted_groups.specs.Mounting.{WasQuorate}
+use Rattle.mounted_groups.specs.group_engine.Mounts.{MountedGroup}
+use Rattle.mounted_groups.specs.group_recovery.declared.quorum.MountOption.{MountOption}
 use Rattle.session_claims.specs.Claims.{StandsFor}
 
 -- ---- what was found

@@ -11,19 +11,19 @@ use Rattle.asm_world.specs.Between.{groups_between}
 use Rattle.asm_world.specs.Command.{Command}
 use Rattle.asm_world.specs.World.{SessionEntry, World, groups_of, has_mounted, is_mounted}
 use Rattle.edit_laws.specs.Edits.{edited_by}
-use Rattle.group_disks.specs.Creating.{HasCreated}
-use Rattle.group_disks.specs.FirstParts.{MountsNew}
-use Rattle.group_disks.specs.Leaving.{IsMountedOn}
-use Rattle.group_disks.specs.group_engine.Commits.{StandsIn}
-use Rattle.group_disks.specs.group_engine.Frames.{StaysAttached}
-use Rattle.group_disks.specs.group_engine.Mounts.{IsMounted, MountedGroup, Mounts}
-use Rattle.group_disks.specs.group_engine.Own.{KeepsGroup}
-use Rattle.group_disks.specs.group_engine.Pending.{OutlastsFaults}
+use Rattle.mounted_groups.specs.Creating.{HasCreated}
+use Rattle.mounted_groups.specs.FirstParts.{MountsNew}
+use Rattle.mounted_groups.specs.Leaving.{IsMountedOn}
+use Rattle.mounted_groups.specs.group_engine.Commits.{StandsIn}
+use Rattle.mounted_groups.specs.group_engine.Frames.{StaysAttached}
+use Rattle.mounted_groups.specs.group_engine.Mounts.{IsMounted, MountedGroup, Mounts}
+use Rattle.mounted_groups.specs.group_engine.Own.{KeepsGroup}
+use Rattle.mounted_groups.specs.group_engine.Pending.{OutlastsFaults}
 use Rattle.edit_laws.specs.group_files.Edits.{IsCommitted}
 use Rattle.edit_laws.specs.group_files.GroupEdits.{IsEditPlan}
 use Rattle.edit_laws.specs.group_files.declared.edit.GroupEdit.{GroupEdit}
-use Rattle.group_disks.specs.group_mount.Mounting.{Allows}
-use Rattle.group_disks.specs.group_mount.Recovered.{ChangesMembers}
+use Rattle.mounted_groups.specs.group_recovery.Mounting.{Allows}
+use Rattle.mounted_groups.specs.group_recovery.Recovered.{ChangesMembers}
 use Rattle.session_claims.specs.Claims.{IsPaired, KeepsWorlds, StandsFor}
 use Rattle.world_steps.specs.Told.{AreIdsApart}
 

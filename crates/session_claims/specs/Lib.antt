@@ -2,6 +2,6 @@ pub mod Claims
 pub mod Laws
 pub mod Found
 pub mod edit_laws
-pub mod group_disks
+pub mod mounted_groups
 pub mod group_files
-pub mod group_mount
+pub mod group_recovery

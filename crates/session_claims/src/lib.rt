@@ -5,7 +5,7 @@
 ghost use Rattle.session_claims.specs.Laws.{CreationKeeps, EditKeeps, LooksKeep, MountKeeps, RefusalKeeps, RefusedMountKeeps, TearingKeeps, WriteKeeps, WriteTears};
 
 pub use edit_laws::{GroupEdit, edit_group};
-pub use group_disks::{create_disk, create_group, drop_group, mount_group};
+pub use mounted_groups::{create_disk, create_group, drop_group, mount_group};
 
 mod found;
 

@@ -3,7 +3,7 @@
 #![tactic(auto)]
 
 pub use asm_base::{Block, DiskSet};
-pub use disk_regions::{BLOCK, FIRST_CLAIM, FIRST_STATUS, SECOND_CLAIM, SECOND_STATUS};
+pub use disk_blocks::{BLOCK, FIRST_CLAIM, FIRST_STATUS, SECOND_CLAIM, SECOND_STATUS};
 
 mod changes;
 mod claim;

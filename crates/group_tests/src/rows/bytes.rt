@@ -7,7 +7,7 @@ use crate::rows::shared::{FIRST, FOURTH, IS_MOUNTED, IS_NOT_MOUNTED, MAKE, SECON
 use crate::steps::{Next, Piece, Step, Wrong};
 use crate::trials::{Then, play};
 use asm_base::Mode;
-use group_mount::MountOption;
+use group_recovery::MountOption;
 use std::alloc::Global;
 
 /// Both copies are on Online disks.

@@ -6,7 +6,7 @@ use crate::rows::shared::{HAS_A, IS_MOUNTED, IS_NOT_MOUNTED, MAKE_A, OFFLINE};
 use crate::steps::{Step, Wrong};
 use crate::trials::{SIZE, Then, play};
 use asm_base::Mode;
-use group_mount::MountOption;
+use group_recovery::MountOption;
 use std::alloc::Global;
 
 /// The record and the directories are on the first three disks. Of the 128 blocks of a copy two are kept, and six have the records

@@ -5,7 +5,7 @@ use crate::facts::Fact;
 use crate::rows::shared::{HAS_A, IS_MOUNTED, IS_NOT_MOUNTED, MAKE_A};
 use crate::steps::{Next, Step, Wrong};
 use crate::trials::{Then, play};
-use group_mount::MountOption;
+use group_recovery::MountOption;
 use std::alloc::Global;
 
 /// The record names the copy once it is there. A disk that is named has one.

@@ -6,7 +6,7 @@ use crate::rows::shared::{IS_MOUNTED, MAKE_A};
 use crate::steps::{Step, Wrong};
 use crate::trials::{SIZE, Then, play};
 use asm_base::Mode;
-use group_mount::MountOption;
+use group_recovery::MountOption;
 use std::alloc::Global;
 
 /// A disk leaves the record, the attached disks and the disk records. Its image may come to another number then.

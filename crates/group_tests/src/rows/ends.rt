@@ -5,7 +5,7 @@ use crate::facts::Fact;
 use crate::rows::shared::{IS_NOT_MOUNTED, MAKE_A, OFFLINE};
 use crate::steps::{Step, Wrong};
 use crate::trials::{Then, play};
-use group_mount::MountOption;
+use group_recovery::MountOption;
 use std::alloc::Global;
 
 /// Where nothing is pending there is nothing to end.

@@ -7,7 +7,7 @@ use crate::rows::shared::{HAS_A, IS_MOUNTED, IS_NOT_MOUNTED, MAKE_A, OFFLINE};
 use crate::steps::{Next, Step, Wrong};
 use crate::trials::{Then, play};
 use asm_base::Mode;
-use group_mount::MountOption;
+use group_recovery::MountOption;
 use std::alloc::Global;
 
 /// The record holds under the next number, and the tables stay.

@@ -6,7 +6,7 @@ use crate::rows::shared::{FOURTH, MAKE, SECOND};
 use crate::steps::{Next, Statement, Step, Wrong};
 use crate::trials::{Then, play};
 use asm_base::{ExtentId, Mode};
-use group_mount::MountOption;
+use group_recovery::MountOption;
 use relocation::Resynced;
 use std::alloc::Global;
 

@@ -7,7 +7,7 @@ use crate::rows::shared::{D0, D3, F3, MAKE, SECOND};
 use crate::steps::{Next, Statement, Step, Wrong};
 use crate::trials::{Then, play};
 use asm_base::{ExtentId, Mode};
-use group_mount::MountOption;
+use group_recovery::MountOption;
 use relocation::Slice;
 use std::alloc::Global;
 

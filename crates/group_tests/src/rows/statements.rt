@@ -8,7 +8,7 @@ use crate::steps::{Next, Statement, Step, Wrong};
 use crate::trials::{Then, play};
 use asm_base::Mode;
 use disk_modes::GroupSort;
-use group_mount::MountOption;
+use group_recovery::MountOption;
 use std::alloc::Global;
 
 const UNIT: u64 = 4096;

@@ -4,7 +4,7 @@ use asm_base::Name;
 use bay::Bay;
 use bay_mem::MemBay;
 use command_refusals::Refusal;
-use group_disks::{
+use mounted_groups::{
     Found, MountError, MountOption, Mounted, create_disk, create_group, drop_group, mount_group,
 };
 use std::alloc::Global;

@@ -1,7 +1,7 @@
 use Rattle.std.proofs.Common.{◌≡◌, refl, true, sym, ap, subst, ◌∙◌}
 use Rattle.asm_group.specs.Shape.{Shape, is_shape}
 use Rattle.file_extents.specs.catalog_tables.Tables.{Catalogued}
-use Rattle.new_groups.proofs.group_disks.Staying.{stays_keeps}
+use Rattle.new_groups.proofs.mounted_groups.Staying.{stays_keeps}
 use Rattle.new_groups.specs.Forming.{AreLong}
 use Rattle.disk_joining.proofs.Adds.{given_back}
 use Rattle.disk_joining.proofs.Joiners.{joiners_headable, joiners_long, joiners_stay, works_taken}

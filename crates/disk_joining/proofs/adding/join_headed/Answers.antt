@@ -1,7 +1,7 @@
 use Rattle.std.proofs.Common.{List, sym, subst, ◌∙◌, Err}
 use Rattle.asm_formats.specs.Status.{Status}
-use Rattle.new_groups.specs.group_mount.declared.finding.Headed.{Headed}
-use Rattle.new_groups.proofs.group_disks.Staying.{stays_keeps}
+use Rattle.new_groups.specs.group_recovery.declared.finding.Headed.{Headed}
+use Rattle.new_groups.proofs.mounted_groups.Staying.{stays_keeps}
 use Rattle.disk_joining.specs.Joiners.{AreJoiners, AreEntered}
 use Rattle.disk_joining.proofs.Adds.{joins_goes}
 use Rattle.disk_joining.proofs.Headers.{show_over}

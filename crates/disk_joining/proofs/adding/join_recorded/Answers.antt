@@ -1,5 +1,5 @@
 use Rattle.std.proofs.Common.{List, sym, subst}
-use Rattle.new_groups.specs.group_mount.declared.finding.Headed.{Headed}
+use Rattle.new_groups.specs.group_recovery.declared.finding.Headed.{Headed}
 use Rattle.new_groups.specs.Drafts.{AreDisksApart}
 use Rattle.disk_joining.specs.Joiners.{AreJoiners, ShowHeaders}
 use Rattle.disk_joining.proofs.Adds.{joins_on}

@@ -1,5 +1,5 @@
 use Rattle.std.proofs.Common.{List, sym, subst, ◌∙◌, ◌≡◌, true}
-use Rattle.new_groups.specs.group_mount.declared.finding.Headed.{Headed}
+use Rattle.new_groups.specs.group_recovery.declared.finding.Headed.{Headed}
 use Rattle.disk_joining.specs.Joiners.{are_entered}
 use Rattle.disk_joining.proofs.Joiners.{entries_written}
 use Rattle.disk_joining.proofs.Takings.{nothing_goes}

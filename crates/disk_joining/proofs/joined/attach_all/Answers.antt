@@ -1,5 +1,5 @@
 use Rattle.std.proofs.Common.{◌≡◌, Some, refl, sym, subst, ◌∙◌}
-use Rattle.new_groups.specs.group_mount.declared.finding.Headed.{Headed}
+use Rattle.new_groups.specs.group_recovery.declared.finding.Headed.{Headed}
 use Rattle.new_groups.proofs.DiskLists.{item_among}
 use Rattle.disk_joining.proofs.Takings.{nothing_taken, taken_on, takes_then}
 use Rattle.disk_joining.proofs.joined.attach_all.Goals as goal

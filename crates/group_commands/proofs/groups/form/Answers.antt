@@ -6,10 +6,10 @@ use Rattle.std.proofs.lemmas.Option.{IfSome_then}
 use Rattle.asm_group.specs.Refusal as r
 use Rattle.command_refusals.specs.Refusals.{meaning_of}
 use Rattle.asm_world.specs.Reply.{Done, Refused}
-use Rattle.session.specs.group_disks.Found.{IsEarly, RefusalCause, counts_of}
+use Rattle.session.specs.mounted_groups.Found.{IsEarly, RefusalCause, counts_of}
 use Rattle.session.specs.Sessions.{SessionView}
-use Rattle.session.specs.group_disks.Creating.{made_group}
-use Rattle.session.specs.group_disks.FirstParts.{IsNewlyMounted, MountsNew}
+use Rattle.session.specs.mounted_groups.Creating.{made_group}
+use Rattle.session.specs.mounted_groups.FirstParts.{IsNewlyMounted, MountsNew}
 use Rattle.group_commands.proofs.Formed.{answered-found, formed_ready, short_told, still_ready}
 use Rattle.group_commands.proofs.Named.{of_ok, of_err, of_value, as_many, was_created, was_refused}
 use Rattle.group_commands.proofs.groups.form.Goals as goal

@@ -1,5 +1,5 @@
 use Rattle.std.proofs.Common.{ap, length, refl}
-use Rattle.session.specs.group_disks.FirstParts.{IsNewlyMounted}
+use Rattle.session.specs.mounted_groups.FirstParts.{IsNewlyMounted}
 use Rattle.session.specs.Sessions.{SessionView}
 use Rattle.session.proofs.Desks.{answered-only}
 use Rattle.group_commands.proofs.Formed.{formed_ready, still_ready}

@@ -1,6 +1,6 @@
 use Rattle.std.proofs.Common.{rules, ap, arith, ◌-◌, ◌<◌, List, length, take, drop, subst, inl, inr, refl}
 use Rattle.asm_formats.specs.Among.{IsAmong}
-use Rattle.group_disks.specs.group_mount.declared.finding.Headed.{Headed}
+use Rattle.mounted_groups.specs.group_recovery.declared.finding.Headed.{Headed}
 use Rattle.directory_store.proofs.page_map.Changing.{first_and_rest}
 use Rattle.new_groups.proofs.lists.+put_numbers.Goals as goal
 

@@ -1,10 +1,10 @@
 use Rattle.std.proofs.Common.{List, Option, sym, ap, subst, ◌∙◌}
 use Rattle.asm_formats.specs.Among.{IsAmong}
-use Rattle.group_disks.specs.Mounting.{by_number}
-use Rattle.group_disks.specs.group_engine.Making.{group_of_parts}
-use Rattle.group_disks.specs.group_engine.Mounts.{IsWhole}
-use Rattle.group_disks.specs.group_engine.declared.attached.Attached.{Attached}
-use Rattle.group_disks.specs.group_mount.declared.finding.Headed.{Headed}
+use Rattle.mounted_groups.specs.Mounting.{by_number}
+use Rattle.mounted_groups.specs.group_engine.Making.{group_of_parts}
+use Rattle.mounted_groups.specs.group_engine.Mounts.{IsWhole}
+use Rattle.mounted_groups.specs.group_engine.declared.attached.Attached.{Attached}
+use Rattle.mounted_groups.specs.group_recovery.declared.finding.Headed.{Headed}
 use Rattle.new_groups.specs.Drafts.{disk_list}
 use Rattle.new_groups.proofs.Formed.{parts_whole}
 use Rattle.new_groups.proofs.DiskLists.{numbers_small}

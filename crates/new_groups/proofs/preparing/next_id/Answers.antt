@@ -1,5 +1,5 @@
 use Rattle.std.proofs.Common.{arith}
-use Rattle.group_disks.proofs.Choosing.{all_more, all_of_taken}
+use Rattle.mounted_groups.proofs.Choosing.{all_more, all_of_taken}
 use Rattle.new_groups.proofs.preparing.next_id.Goals as goal
 
 pub loop-id-preserved : goal.loop-id-preserved

@@ -3,7 +3,7 @@ use Rattle.std.specs.String.{string_bytes}
 use Rattle.std.proofs.lemmas.List.{length-map}
 use Rattle.std.proofs.lemmas.Result.{IfErr-weaker, IfOk-weaker}
 use Rattle.command_refusals.specs.Refusals.{meaning_of}
-use Rattle.group_disks.specs.attribute_values.Creations.{creation_meant}
+use Rattle.mounted_groups.specs.attribute_values.Creations.{creation_meant}
 use Rattle.new_groups.proofs.Formed.{looks_none}
 use Rattle.new_groups.proofs.Passing.{prepared_above, prepared_agrees, prepared_free}
 use Rattle.new_groups.specs.Preparing.{by_memory}

@@ -1,5 +1,0 @@
-use Rattle.group_disks.specs.Dropping.{ClosesHeaders}
-use Rattle.group_disks.proofs.dropping.close_all.Given as goal
-
-abbrev pub invariant-loop-number : goal.invariant-loop-number
-invariant-loop-number g l = ClosesHeaders l.m l.number (g.B.Bay.state l.fn.bay) (g.B.Bay.state l.bay)

@@ -1,5 +1,0 @@
-use Rattle.group_disks.proofs.MountRefusals.{refusals_have_causes}
-use Rattle.group_disks.proofs.laws.refusals_have_causes.Goals as goal
-
-pub returns : goal.returns
-returns g c = refusals_have_causes g.B.Bay.state g.met.B.Bay.sound (g.B.Bay.state c.args.start.now) (g.B.Bay.state c.args.end.now) (g.met.B.Bay.sound c.args.end.now)

@@ -1,9 +1,0 @@
-use Rattle.std.proofs.Common.{◌≡◌, drop, length}
-use Rattle.group_disks.specs.Mounting.{by_number, put_disks}
-use Rattle.group_disks.proofs.mount.by_number.Given as goal
-
-abbrev pub invariant-loop-member : goal.invariant-loop-member
-invariant-loop-member l = record {
-  places : put_disks l.places (drop l.member-index l.disks) ≡ by_number l.disks;
-  all : length l.places ≡ 64;
-}

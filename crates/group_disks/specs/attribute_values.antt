@@ -1,2 +1,0 @@
--- The definitions of `attribute_values` that crates above name.
-pub use Rattle.group_mount.specs.attribute_values.Creations

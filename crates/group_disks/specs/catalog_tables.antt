@@ -1,3 +1,0 @@
--- The definitions of `catalog_tables` that crates above name.
-pub use Rattle.group_mount.specs.catalog_tables.Faults
-pub use Rattle.group_mount.specs.catalog_tables.Tables

@@ -1,2 +1,0 @@
--- The definitions of `disk_directory` that crates above name.
-pub use Rattle.group_mount.specs.disk_directory.Disks

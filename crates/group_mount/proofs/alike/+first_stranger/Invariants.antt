@@ -1,5 +1,0 @@
-use Rattle.std.proofs.Common.{length}
-use Rattle.group_mount.proofs.alike.+first_stranger.Given as goal
-
-abbrev pub decreases-first_stranger : goal.decreases-first_stranger
-decreases-first_stranger l = length l.headed.now

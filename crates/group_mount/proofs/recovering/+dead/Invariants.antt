@@ -1,5 +1,0 @@
-use Rattle.std.proofs.Common.{length}
-use Rattle.group_mount.proofs.recovering.+dead.Given as goal
-
-abbrev pub decreases-dead : goal.decreases-dead
-decreases-dead l = length l.headed.now

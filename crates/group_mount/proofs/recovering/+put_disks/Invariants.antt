@@ -1,5 +1,0 @@
-use Rattle.std.proofs.Common.{length}
-use Rattle.group_mount.proofs.recovering.+put_disks.Given as goal
-
-abbrev pub decreases-put_disks : goal.decreases-put_disks
-decreases-put_disks l = length l.headed.now

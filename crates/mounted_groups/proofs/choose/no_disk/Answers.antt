@@ -1,0 +1,12 @@
+use Rattle.std.proofs.Common.{inl, inr, ℕ, List, refl, ap}
+use Rattle.asm_group.specs.Refusal.{NoDisk}
+use Rattle.command_refusals.specs.Refusals.{meaning_of}
+use Rattle.mounted_groups.proofs.choose.no_disk.Goals as goal
+
+pub returns-in-Ok : goal.returns-in-Ok
+unfolding meaning_of
+returns-in-Ok c = inl (ap (λ (t : List ℕ). NoDisk t) c.in-Ok.ensures)
+
+pub returns-in-Err : goal.returns-in-Err
+unfolding meaning_of
+returns-in-Err c = inr refl

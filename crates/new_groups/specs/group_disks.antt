@@ -1,4 +1,0 @@
--- The definitions of `group_disks` that crates above name.
-pub use Rattle.group_disks.specs.FirstParts
-pub use Rattle.group_disks.specs.Holding
-pub use Rattle.group_disks.specs.Mounting

@@ -1,0 +1,4 @@
+-- The definitions of `group_recovery` that crates above name.
+pub use Rattle.mounted_groups.specs.group_recovery.Founds
+pub use Rattle.mounted_groups.specs.group_recovery.Verdicts
+pub mod declared

@@ -1,3 +1,0 @@
--- What crates above cite of the proofs of `group_disks`.
-pub use Rattle.group_disks.proofs.MountRefusals
-pub use Rattle.group_disks.proofs.ReadNames
