@@ -9,7 +9,7 @@ use Rattle.std.proofs.lemmas.List.Elements.{recursion_from_All}
 use Rattle.asm_formats.specs.Items.{DiskInfo, Key, disk_item, is_item}
 use Rattle.asm_formats.specs.Values.{value}
 use Rattle.asm_base.specs.Records.{DirectoryRecord}
-use Rattle.command_refusals.specs.declared.refusal.Refusal.TheVariants as cause
+use Rattle.refusal_lines.specs.declared.refusal.Refusal.TheVariants as cause
 use Rattle.plan_records.specs.page_map.Changes.{last_put}
 use Rattle.plan_records.specs.disk_directory.Disks.{Disk, IsDiskTable, info_at, record_of_disk, with_info}
 use Rattle.plan_records.specs.catalog_tables.Faults.{IsCatalog, disk_key}

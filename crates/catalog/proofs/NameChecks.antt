@@ -8,9 +8,9 @@ use Rattle.asm_group.specs.Refusal as r
 use Rattle.asm_group.specs.Shape.{Shape, is_sector, is_shape, is_step, is_unit_size}
 use Rattle.asm_group.specs.TreeEdits.{Tree}
 use Rattle.asm_formats.specs.Items.{Settings}
-use Rattle.command_refusals.specs.Refusals.{meaning_of}
-use Rattle.command_refusals.specs.declared.refusal.Refusal.{Refusal}
-use Rattle.command_refusals.specs.declared.refusal.Refusal.TheVariants as cause
+use Rattle.refusal_lines.specs.Refusals.{meaning_of}
+use Rattle.refusal_lines.specs.declared.refusal.Refusal.{Refusal}
+use Rattle.refusal_lines.specs.declared.refusal.Refusal.TheVariants as cause
 use Rattle.plan_records.specs.asm_world.Files.{NewName, new_path}
 use Rattle.plan_records.specs.alias_edits.Edits.{IsRefusal, cause_said}
 use Rattle.plan_records.specs.alias_edits.Filing.{file_causes, tree_with_file, nodes_missing, with_file, with_nodes}

@@ -21,9 +21,9 @@ use Rattle.asm_formats.specs.Items.{FileHead, Item, Key, Node, Pending, Settings
 use Rattle.asm_formats.specs.Values.{value}
 use Rattle.asm_base.specs.Records.{DirectoryRecord, is_key}
 use Rattle.asm_base.specs.Tables.{item_record}
-use Rattle.command_refusals.specs.Refusals.{meaning_of}
-use Rattle.command_refusals.specs.declared.refusal.Refusal.{Refusal}
-use Rattle.command_refusals.specs.declared.refusal.Refusal.TheVariants as cause
+use Rattle.refusal_lines.specs.Refusals.{meaning_of}
+use Rattle.refusal_lines.specs.declared.refusal.Refusal.{Refusal}
+use Rattle.refusal_lines.specs.declared.refusal.Refusal.TheVariants as cause
 use Rattle.asm_base.proofs.Exact.{some_is}
 use Rattle.plan_records.specs.asm_world.Files.{NewName, new_path, next_incarnation}
 use Rattle.plan_records.specs.page_map.Changes.{last_put, value_after}

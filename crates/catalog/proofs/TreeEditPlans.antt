@@ -13,9 +13,9 @@ use Rattle.asm_group.specs.TreeEdits.{Tree, edit_causes, edited, entry_at, file_
 use Rattle.asm_formats.specs.Items.{FileHead, Key, Node}
 use Rattle.asm_formats.specs.Nodes.{entry_of_node, node_kind}
 use Rattle.asm_base.specs.Records.{DirectoryRecord}
-use Rattle.command_refusals.specs.Refusals.{meaning_of}
-use Rattle.command_refusals.specs.declared.refusal.Refusal.{Refusal}
-use Rattle.command_refusals.specs.declared.refusal.Refusal.TheVariants as cause
+use Rattle.refusal_lines.specs.Refusals.{meaning_of}
+use Rattle.refusal_lines.specs.declared.refusal.Refusal.{Refusal}
+use Rattle.refusal_lines.specs.declared.refusal.Refusal.TheVariants as cause
 use Rattle.asm_base.proofs.Exact.{some_is}
 use Rattle.plan_records.specs.alias_edits.declared.editing.TreeError.{TreeError}
 use Rattle.plan_records.specs.alias_edits.declared.planning.TreeChange.{TreeChange}

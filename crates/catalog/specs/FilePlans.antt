@@ -5,8 +5,8 @@ use Rattle.asm_group.specs.Names.{Bytes}
 use Rattle.asm_group.specs.Shape.{Shape}
 use Rattle.asm_formats.specs.Items.{FileHead, Key, Pending, Settings}
 use Rattle.asm_base.specs.Records.{DirectoryRecord}
-use Rattle.command_refusals.specs.declared.refusal.Refusal.{Refusal}
-use Rattle.command_refusals.specs.declared.refusal.Refusal.TheVariants as cause
+use Rattle.refusal_lines.specs.declared.refusal.Refusal.{Refusal}
+use Rattle.refusal_lines.specs.declared.refusal.Refusal.TheVariants as cause
 use Rattle.plan_records.specs.file_directory.Files.{NumberedFile, head_at, is_file_number, with_head, without_head}
 use Rattle.plan_records.specs.alias_tree.Nodes.{Numbered, without_numbered_node}
 use Rattle.plan_records.specs.attribute_values.Edits.{settings_with}

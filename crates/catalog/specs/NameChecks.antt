@@ -5,8 +5,8 @@ use Rattle.asm_group.specs.Names.{Path}
 use Rattle.asm_group.specs.Refusal as r
 use Rattle.asm_group.specs.Shape.{Shape}
 use Rattle.asm_group.specs.TreeEdits.{Tree}
-use Rattle.command_refusals.specs.Refusals.{meaning_of}
-use Rattle.command_refusals.specs.declared.refusal.Refusal.{Refusal}
+use Rattle.refusal_lines.specs.Refusals.{meaning_of}
+use Rattle.refusal_lines.specs.declared.refusal.Refusal.{Refusal}
 use Rattle.plan_records.specs.asm_world.Files.{NewName}
 use Rattle.plan_records.specs.alias_edits.Filing.{file_causes, nodes_missing}
 use Rattle.plan_records.specs.alias_tree.Trees.{tree_of}

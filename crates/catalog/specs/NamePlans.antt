@@ -10,9 +10,9 @@ use Rattle.asm_group.specs.TreeEdits.{Tree}
 use Rattle.asm_formats.specs.Items.{FileHead, Key, Pending, is_item, is_redundancy, node_item}
 use Rattle.asm_placement.specs.Layout.{has_extent_by_size}
 use Rattle.asm_base.specs.Records.{DirectoryRecord}
-use Rattle.command_refusals.specs.Refusals.{meaning_of}
-use Rattle.command_refusals.specs.declared.refusal.Refusal.{Refusal}
-use Rattle.command_refusals.specs.declared.refusal.Refusal.TheVariants as cause
+use Rattle.refusal_lines.specs.Refusals.{meaning_of}
+use Rattle.refusal_lines.specs.declared.refusal.Refusal.{Refusal}
+use Rattle.refusal_lines.specs.declared.refusal.Refusal.TheVariants as cause
 use Rattle.plan_records.specs.asm_world.Files as world
 use Rattle.plan_records.specs.asm_world.Files.{NewName, new_file_causes, new_path, next_incarnation, next_number, is_sectors, template_for}
 use Rattle.plan_records.specs.file_directory.Files.{head_at, with_head}

@@ -8,8 +8,8 @@ use Rattle.asm_formats.specs.Among.{IsAmong}
 use Rattle.asm_formats.specs.Items.{DiskInfo, Item, Key, disk_item, is_item}
 use Rattle.asm_formats.specs.Status as status
 use Rattle.asm_base.specs.Records.{DirectoryRecord}
-use Rattle.command_refusals.specs.declared.refusal.Refusal.{Refusal}
-use Rattle.command_refusals.specs.declared.refusal.Refusal.TheVariants as cause
+use Rattle.refusal_lines.specs.declared.refusal.Refusal.{Refusal}
+use Rattle.refusal_lines.specs.declared.refusal.Refusal.TheVariants as cause
 use Rattle.plan_records.specs.allocator.UnitMaps.{UnitMap}
 use Rattle.plan_records.specs.page_map.Contents.{IsItemOf}
 use Rattle.plan_records.specs.catalog_tables.Changing.{IsAfter}

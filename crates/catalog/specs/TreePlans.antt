@@ -6,9 +6,9 @@ use Rattle.asm_group.specs.declared.NodeKind.{NodeKind}
 use Rattle.asm_group.specs.declared.NodeKind.TheVariants.{Directory, Alias}
 use Rattle.asm_formats.specs.Items.{FileHead, Key, Node}
 use Rattle.asm_base.specs.Records.{DirectoryRecord}
-use Rattle.command_refusals.specs.Refusals.{meaning_of}
-use Rattle.command_refusals.specs.declared.refusal.Refusal.{Refusal}
-use Rattle.command_refusals.specs.declared.refusal.Refusal.TheVariants as cause
+use Rattle.refusal_lines.specs.Refusals.{meaning_of}
+use Rattle.refusal_lines.specs.declared.refusal.Refusal.{Refusal}
+use Rattle.refusal_lines.specs.declared.refusal.Refusal.TheVariants as cause
 use Rattle.plan_records.specs.alias_edits.declared.planning.TreeChange.{TreeChange}
 use Rattle.plan_records.specs.alias_edits.declared.planning.TreeChange.TheVariants as change
 use Rattle.plan_records.specs.alias_edits.Edits.{ChangesNodes}

@@ -3,9 +3,9 @@ use Rattle.std.proofs.Common.{◌≡◌, ◌⊎◌, inl, inr, ⊎_elim, ℕ, ◌
 use Rattle.std.specs.Prelude.{nat_lt, nat_le}
 use Rattle.std.proofs.lemmas.Bool.{cases_Bool, cond-true, cond-false, lt-ltb, le-leb, ltb-true, leb-true, false≢true}
 use Rattle.bay.specs.Image.{Image, ChangesOnly}
-use Rattle.gate_slot.specs.declared.place.Place.{Place}
-use Rattle.gate_slot.specs.Slot.{GateOf, MayClose, shown_body, body_in}
-use Rattle.gate_slot.proofs.Steps.{shown-elsewhere}
+use Rattle.body_slot.specs.declared.place.Place.{Place}
+use Rattle.body_slot.specs.Slot.{GateOf, MayClose, shown_body, body_in}
+use Rattle.body_slot.proofs.Steps.{shown-elsewhere}
 use Rattle.asm_formats.specs.Bytes.{block_size}
 use Rattle.asm_formats.specs.Regions.{second_log}
 use Rattle.change_directory.specs.declared.copy.DirCopy.{DirCopy}

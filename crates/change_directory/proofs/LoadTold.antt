@@ -6,8 +6,8 @@ use Rattle.bay.specs.Image.{Image, Same, window}
 use Rattle.bay.specs.State.{BayState, IsSound}
 use Rattle.bay.specs.Moments.{Runs}
 use Rattle.bay.proofs.Images.{window-same}
-use Rattle.gate_slot.specs.declared.place.Place.{Place}
-use Rattle.gate_slot.specs.Slot.{is_open_in}
+use Rattle.body_slot.specs.declared.place.Place.{Place}
+use Rattle.body_slot.specs.Slot.{is_open_in}
 use Rattle.asm_group.specs.Names.{Bytes}
 use Rattle.asm_formats.specs.Logs.{PageImage, decoded_log_head, images_at, log_head_at}
 use Rattle.asm_formats.specs.Damage.{head_damage}

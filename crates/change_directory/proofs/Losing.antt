@@ -9,9 +9,9 @@ use Rattle.bay.specs.Calls.{Call, ChangesEachImage, cost}
 use Rattle.bay.proofs.Calls.{stops}
 use Rattle.bay.proofs.OneCall.{Follows, afforded, wider}
 use Rattle.bay.proofs.Images.{changes-within}
-use Rattle.gate_slot.specs.declared.place.Place.{Place}
-use Rattle.gate_slot.specs.Slot.{GateOf, MayClose, Closes, FromHeld, WaitsFor, shown_body, body_in}
-use Rattle.gate_slot.proofs.Steps.{shown-closed}
+use Rattle.body_slot.specs.declared.place.Place.{Place}
+use Rattle.body_slot.specs.Slot.{GateOf, MayClose, Closes, FromHeld, WaitsFor, shown_body, body_in}
+use Rattle.body_slot.proofs.Steps.{shown-closed}
 use Rattle.asm_group.specs.Names.{Bytes}
 use Rattle.asm_formats.specs.Logs.{logs_decode}
 use Rattle.asm_formats.specs.Bytes.{block_size, is_open}

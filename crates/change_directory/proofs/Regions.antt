@@ -4,7 +4,7 @@ use Rattle.std.specs.Prelude.{IsTrue}
 use Rattle.std.proofs.lemmas.List.{length-map}
 use Rattle.bay.specs.Image.{Image, ChangesOnly}
 use Rattle.bay.proofs.Images.{changes-within, changes-same}
-use Rattle.gate_slot.specs.Slot.{GateOf, PlaceOf}
+use Rattle.body_slot.specs.Slot.{GateOf, PlaceOf}
 use Rattle.asm_base.specs.declared.block.Block.{Block}
 use Rattle.asm_formats.specs.Regions.{region_start}
 use Rattle.asm_formats.specs.Logs.{Log, PageImage, head_of_log}

@@ -9,9 +9,9 @@ use Rattle.bay.specs.State.{BayState, IsSound}
 use Rattle.bay.specs.Moments.{Runs, Ends, Joins}
 use Rattle.bay.proofs.Calls.{goes_on, both_done}
 use Rattle.bay.proofs.Images.{window-same, changes-within, changes-same, changes-trans, length-window, get_or-window}
-use Rattle.gate_slot.proofs.Steps.{shown-elsewhere}
-use Rattle.gate_slot.specs.declared.place.Place.{Place}
-use Rattle.gate_slot.specs.Slot.{PlaceOf, MayPut, HasPut, shown_body, body_in}
+use Rattle.body_slot.proofs.Steps.{shown-elsewhere}
+use Rattle.body_slot.specs.declared.place.Place.{Place}
+use Rattle.body_slot.specs.Slot.{PlaceOf, MayPut, HasPut, shown_body, body_in}
 use Rattle.asm_base.specs.declared.block.Block.{Block}
 use Rattle.asm_group.specs.Names.{Bytes}
 use Rattle.asm_formats.specs.Bytes.{block_size, is_open}

@@ -7,8 +7,8 @@ use Rattle.bay.specs.Moments.{Runs, Ends, Durable}
 use Rattle.bay.specs.Calls.{Went, cost}
 use Rattle.bay.proofs.Calls.{stops}
 use Rattle.bay.proofs.OneCall.{Follows}
-use Rattle.gate_slot.specs.declared.place.Place.{Place}
-use Rattle.gate_slot.specs.Slot.{IsGateSettled, MayPut, HasPut}
+use Rattle.body_slot.specs.declared.place.Place.{Place}
+use Rattle.body_slot.specs.Slot.{IsGateSettled, MayPut, HasPut}
 use Rattle.asm_base.specs.declared.block.Block.{Block}
 use Rattle.asm_group.specs.Names.{Bytes}
 use Rattle.change_directory.specs.declared.copy.DirCopy.{DirCopy}

@@ -3,9 +3,9 @@ use Rattle.std.proofs.Common.{◌≡◌, ◌⊎◌, inl, inr, ⊎_elim, ℕ, ◌
 use Rattle.bay.specs.Image.{Image, Same, ChangesOnly, Range}
 use Rattle.bay.specs.State.{BayState}
 use Rattle.bay.proofs.Images.{changes-within, changes-same, changes-trans, same-trans}
-use Rattle.gate_slot.specs.declared.place.Place.{Place}
-use Rattle.gate_slot.specs.Slot.{GateOf, PlaceOf, MayClose, Closes, FromHeld, WaitsFor, shown_body}
-use Rattle.gate_slot.proofs.Steps.{shown-elsewhere, shown-shut}
+use Rattle.body_slot.specs.declared.place.Place.{Place}
+use Rattle.body_slot.specs.Slot.{GateOf, PlaceOf, MayClose, Closes, FromHeld, WaitsFor, shown_body}
+use Rattle.body_slot.proofs.Steps.{shown-elsewhere, shown-shut}
 use Rattle.asm_formats.specs.Bytes.{block_size}
 use Rattle.change_directory.specs.declared.copy.DirCopy.{DirCopy}
 use Rattle.change_directory.specs.declared.copy.LogSlot.{LogSlot}

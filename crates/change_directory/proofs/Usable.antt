@@ -2,8 +2,8 @@
 use Rattle.std.proofs.Common.{◌≡◌, ◌⊎◌, inl, ⊎_elim, ℕ, ◌+◌, ◌*◌, ◌%◌, ◌<◌, ◌≤◌, true, sym, subst, Option, arith}
 use Rattle.std.specs.Prelude.{IsSome, unwrap_or, List, length}
 use Rattle.bay.specs.State.{BayState, KeepsAttached, size_of}
-use Rattle.gate_slot.specs.Slot.{IsUsablePlace}
-pub use Rattle.gate_slot.proofs.Sectors.{block_sectors, short_sector, some_sector}
+use Rattle.body_slot.specs.Slot.{IsUsablePlace}
+pub use Rattle.body_slot.proofs.Sectors.{block_sectors, short_sector, some_sector}
 use Rattle.asm_base.specs.declared.block.Block.{Block}
 use Rattle.asm_formats.specs.Bytes.{block_size}
 use Rattle.asm_formats.specs.Regions.{region_end}

@@ -1,7 +1,7 @@
 -- What a commit does to an image.
 use Rattle.std.specs.Prelude.{◌≡◌, ◌⊎◌, ℕ, ◌+◌, ◌<◌, true, List, length, Option, Some, IsTrue}
 use Rattle.bay.specs.Image.{Image, Same}
-use Rattle.gate_slot.specs.Slot.{MayPut, HasPut}
+use Rattle.body_slot.specs.Slot.{MayPut, HasPut}
 use Rattle.asm_group.specs.Names.{Bytes}
 use Rattle.asm_formats.specs.Content.{Content}
 use Rattle.asm_formats.specs.Logs.{Log, logs_decode}

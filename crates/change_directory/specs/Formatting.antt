@@ -1,7 +1,7 @@
 -- What a format does to an image.
 use Rattle.std.specs.Prelude.{◌≡◌, ◌⊎◌, ℕ, ◌+◌, ◌*◌, ◌<◌, ◌≤◌, false, None}
 use Rattle.bay.specs.Image.{Image, Range, ChangesOnly}
-use Rattle.gate_slot.specs.Slot.{GateOf, MayClose, shown_body}
+use Rattle.body_slot.specs.Slot.{GateOf, MayClose, shown_body}
 use Rattle.asm_formats.specs.Bytes.{block_size}
 use Rattle.asm_formats.specs.Regions.{region_start, region_end}
 use Rattle.change_directory.specs.declared.copy.DirCopy.{DirCopy}

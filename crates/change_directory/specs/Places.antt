@@ -2,8 +2,8 @@
 use Rattle.std.specs.Prelude.{◌≡◌, ◌⊎◌, ℕ, ◌+◌, ◌*◌, ◌≤◌, IsSome}
 use Rattle.bay.specs.Image.{Range}
 use Rattle.bay.specs.State.{BayState, size_of}
-use Rattle.gate_slot.specs.Slot.{IsSectorSize}
-use Rattle.gate_slot.specs.declared.place.Place.{Place}
+use Rattle.body_slot.specs.Slot.{IsSectorSize}
+use Rattle.body_slot.specs.declared.place.Place.{Place}
 use Rattle.asm_formats.specs.Bytes.{block_size}
 use Rattle.asm_formats.specs.Regions.{region_start, region_end, first_log, second_log}
 use Rattle.change_directory.specs.declared.copy.DirCopy.{DirCopy}

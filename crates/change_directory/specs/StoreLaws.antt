@@ -2,7 +2,7 @@
 use Rattle.std.specs.Prelude.{◌≡◌, ◌≢◌, ◌⊎◌, ℕ, ◌-◌, ◌*◌, ◌<◌, ◌≤◌, true, not, List, [], map, replicate, Option, Some, None, IsTrue}
 use Rattle.std.specs.List.{list_all, range_with_len}
 use Rattle.bay.specs.Image.{Image, Range, ChangesOnly}
-use Rattle.gate_slot.specs.Slot.{IsSectorSize}
+use Rattle.body_slot.specs.Slot.{IsSectorSize}
 use Rattle.asm_group.specs.Names.{Bytes}
 use Rattle.asm_base.specs.declared.block.Block.{Block}
 use Rattle.asm_formats.specs.Among.{IsAmong}

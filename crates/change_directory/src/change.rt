@@ -13,7 +13,7 @@ use crate::head::{LOG_BODY, fill_body};
 use crate::spare::spare_slot;
 use asm_base::Block;
 use bay::{Bay, Fault};
-use gate_slot::put_settled;
+use body_slot::put_settled;
 
 /// Puts changed pages, by their numbers, into the log slot that doesn't hold the content, under a commit number. With its
 /// gate the copy has the content with them. A fault leaves the content before or after.

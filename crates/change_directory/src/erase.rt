@@ -11,8 +11,8 @@ ghost use Rattle.change_directory.specs.CopyCalls.{FormatsCopy};
 use crate::copy::{DirCopy, LogSlot, log_place, other_slot};
 use crate::spare::spare_slot;
 use bay::{Bay, Fault};
+use body_slot::close_gate;
 use disk_blocks::{BLOCK, LEAST_SIZE};
-use gate_slot::close_gate;
 
 /// The most bytes that one write of zeros takes.
 const PIECE: usize = 262_144;

@@ -15,9 +15,9 @@ use crate::numbers::{head_number, head_pages};
 use crate::open_log::{OpenLog, OpenLogs};
 use asm_base::{Block, NoMemory};
 use bay::{Bay, Fault};
+use body_slot::is_open;
 use directory_page::is_page;
 use disk_blocks::BLOCK;
-use gate_slot::is_open;
 use std::alloc::Global;
 
 /// The most bytes of the images in a log slot.

@@ -1,8 +1,8 @@
 -- Why what a statement waits for is refused, by the group as it is left.
 use Rattle.std.specs.Prelude.{◌≡◌, ⊤, [], IfErr, IfOk, IfSome, Option, Some, None, Result, Ok, Err}
-use Rattle.command_refusals.specs.Refusals.{meaning_of}
-use Rattle.command_refusals.specs.declared.refusal.Refusal.{Refusal}
-use Rattle.command_refusals.specs.declared.refusal.Refusal.TheVariants as cause
+use Rattle.refusal_lines.specs.Refusals.{meaning_of}
+use Rattle.refusal_lines.specs.declared.refusal.Refusal.{Refusal}
+use Rattle.refusal_lines.specs.declared.refusal.Refusal.TheVariants as cause
 use Rattle.asm_group.specs.Names.{Bytes}
 use Rattle.asm_group.specs.Refusal as r
 use Rattle.session.specs.group_engine.Mounts.{MountedGroup}

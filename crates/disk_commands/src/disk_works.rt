@@ -6,8 +6,8 @@ ghost use Rattle.session.specs.group_engine.Members.{LetsGo};
 
 use asm_base::{DiskSet, MOST_DISKS, Name, NoMemory};
 use bay::Bay;
-use command_refusals::Refusal;
 use group_sql::{DroppedDisk, FailgroupKind, NewFailgroup, Rebalance};
+use refusal_lines::Refusal;
 use session::{
     Attaching, DropDisk, GroupSort, GroupWork, Known, Mounted, add_disks, disk_named,
     disks_in_group, drop_disks, offline_disks, offline_set, online_disks, resize_disks,

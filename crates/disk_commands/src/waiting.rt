@@ -1,7 +1,7 @@
 // Statements on disks, and what they wait for: rebalances and resyncs to their ends, with their lines.
 ghost use Rattle.std.specs.Prelude.{◌≡◌, ◌⊎◌, ⊤, ◌≤◌, [], length, IfErr, IfOk, IfSome, Some};
-ghost use Rattle.command_refusals.specs.Refusals.{meaning_of};
-ghost use Rattle.command_refusals.specs.declared.refusal.Refusal.TheVariants as cause;
+ghost use Rattle.refusal_lines.specs.Refusals.{meaning_of};
+ghost use Rattle.refusal_lines.specs.declared.refusal.Refusal.TheVariants as cause;
 ghost use Rattle.disk_commands.specs.Waits.{HasShortCause, HasWaited, IsNoShortfall, ReplyWaited, WaitCause, WaitsForRebalance, refusal_in, refused_after, refusal_of_rebalance};
 ghost use Rattle.session.specs.group_engine.Mounts.{Takes};
 ghost use Rattle.session.specs.group_engine.Own.{KeepsGroup};
@@ -12,10 +12,10 @@ ghost use Rattle.session.specs.Sessions.{AreReady};
 use crate::disk_works::{ChangeDisks, Chosen, DiskChange, Joining, checked_power};
 use asm_base::{DiskSet, List, MOST_DISKS, Name, NoMemory, Text};
 use bay::Bay;
-use command_refusals::Refusal;
 use event_lines::Event;
 use group_sql::NewFailgroup;
 use line_buffer::LineBuffer;
+use refusal_lines::Refusal;
 use session::{
     GroupWork, Mounted, Reply, Session, Slice, SyncedSlice as Resynced, group_resynced as resynced,
     rebalanced, run_to_end, shown_name, spelt, sync_slice,

@@ -7,10 +7,10 @@ use Rattle.std.specs.Prelude.{zero, suc, Option, IsSome, unwrap_or}
 use Rattle.bay.specs.State.{BayState, KeepsAttached, size_of}
 use Rattle.bay.proofs.Images.{changes-within, changes-trans}
 use Rattle.bay.proofs.OneCall.{Follows}
-use Rattle.gate_slot.specs.declared.place.Place.{Place}
-use Rattle.gate_slot.specs.Slot.{IsUsablePlace, GateOf, is_open_in, Closes, MayClose}
-pub use Rattle.gate_slot.proofs.Sectors.{block_sectors, short_sector, some_sector}
-use Rattle.gate_slot.proofs.Steps.{shown-shut}
+use Rattle.body_slot.specs.declared.place.Place.{Place}
+use Rattle.body_slot.specs.Slot.{IsUsablePlace, GateOf, is_open_in, Closes, MayClose}
+pub use Rattle.body_slot.proofs.Sectors.{block_sectors, short_sector, some_sector}
+use Rattle.body_slot.proofs.Steps.{shown-shut}
 use Rattle.disk_forming.specs.Places.{gated_slot_at, all_gates, other_gates}
 use Rattle.asm_formats.specs.Regions.{region_end}
 use Rattle.asm_formats.specs.Bytes.{block_size}

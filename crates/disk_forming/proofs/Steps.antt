@@ -4,8 +4,8 @@ use Rattle.std.specs.Prelude.{◌==◌}
 use Rattle.bay.specs.Image.{Image, ChangesOnly}
 use Rattle.bay.proofs.Images.{changes-within, changes-trans}
 use Rattle.bay.proofs.OneCall.{Follows}
-use Rattle.gate_slot.specs.Slot.{PlaceOf, shown_body, is_open_in, MayPut, HasPut}
-use Rattle.gate_slot.proofs.Steps.{shown-elsewhere, shown-closed}
+use Rattle.body_slot.specs.Slot.{PlaceOf, shown_body, is_open_in, MayPut, HasPut}
+use Rattle.body_slot.proofs.Steps.{shown-elsewhere, shown-closed}
 use Rattle.disk_forming.proofs.Shutting.{other_gates_inside}
 use Rattle.disk_forming.specs.Places.{gated_slot_at, all_gates}
 use Rattle.asm_formats.specs.Regions.{region_end}

@@ -8,8 +8,8 @@ ghost use Rattle.disk_forming.specs.Forming.{MayGiveHeader, HasHeader, MayGiveRe
 use crate::gates::close_all_gates;
 use crate::places::{block_slot, header_slot};
 use bay::{Bay, Fault};
+use body_slot::put;
 use disk_blocks::{FIRST_CLAIM, FIRST_STATUS};
-use gate_slot::put;
 
 /// Closes every gate of a disk, that of its old header first, and then gives it a header of one block. `dir_blocks` are the
 /// record blocks of the directory.

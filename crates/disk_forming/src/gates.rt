@@ -7,8 +7,8 @@ ghost use Rattle.disk_forming.specs.Gates.{HasAttachedRegion, GatesOf, ShutsGate
 
 use crate::places::{block_slot, header_slot};
 use bay::{Bay, Fault};
+use body_slot::close_gate;
 use disk_blocks::{FIRST_CLAIM, FIRST_STATUS, SECOND_CLAIM, SECOND_STATUS};
-use gate_slot::close_gate;
 
 /// Closes every gate of a disk of a group, that of the header first.
 pub fn close_all_gates<B: Bay>(

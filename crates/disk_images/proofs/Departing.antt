@@ -8,8 +8,8 @@ use Rattle.std.proofs.Math.Seq.{map-set_same}
 use Rattle.bay.specs.Image as bay
 use Rattle.bay.specs.Image.{Range, ChangesOnly, Makes, MayMake}
 use Rattle.bay.proofs.Images.{window-same, changes-within}
-use Rattle.gate_slot.specs.Slot.{GateOf, is_open_in, shown_body, MayClose}
-use Rattle.gate_slot.proofs.Steps.{shown-closed, shown-shut}
+use Rattle.body_slot.specs.Slot.{GateOf, is_open_in, shown_body, MayClose}
+use Rattle.body_slot.proofs.Steps.{shown-closed, shown-shut}
 use Rattle.disk_forming.specs.Places.{gated_slot_at}
 use Rattle.disk_forming.specs.Gates.{MayCloseAll}
 use Rattle.asm_formats.specs.Bytes.{block_size, is_open, block}

@@ -5,8 +5,8 @@ use Rattle.std.proofs.lemmas.Bool.{cond-true, cond-false, cond_both, le-leb, lt-
 use Rattle.std.proofs.lemmas.Option.{same_Some, none-some}
 use Rattle.bay.specs.Image.{Image, Same, window}
 use Rattle.bay.proofs.Images.{window-same}
-use Rattle.gate_slot.specs.Slot.{shown_body, is_open_in, body_in}
-use Rattle.gate_slot.proofs.Steps.{shown-shut}
+use Rattle.body_slot.specs.Slot.{shown_body, is_open_in, body_in}
+use Rattle.body_slot.proofs.Steps.{shown-shut}
 use Rattle.disk_forming.specs.Places.{gated_slot_at}
 use Rattle.asm_formats.specs.Bytes.{block, is_open}
 use Rattle.asm_formats.specs.Regions.{least_size, header_gate}

@@ -7,8 +7,8 @@ use Rattle.bay.specs.Image as bay
 use Rattle.bay.specs.Image.{Range, ChangesOnly}
 use Rattle.bay.specs.State.{BayState, IsSound, size_of}
 use Rattle.bay.proofs.Images.{changes-within}
-use Rattle.gate_slot.specs.Slot.{IsUsablePlace, PlaceOf, is_open_in, shown_body, MayPut}
-use Rattle.gate_slot.proofs.Steps.{shown-closed}
+use Rattle.body_slot.specs.Slot.{IsUsablePlace, PlaceOf, is_open_in, shown_body, MayPut}
+use Rattle.body_slot.proofs.Steps.{shown-closed}
 use Rattle.disk_forming.specs.Places.{gated_slot_at}
 use Rattle.disk_forming.specs.Gates.{ClosesAll}
 use Rattle.disk_forming.proofs.Steps.{has_put_header}

@@ -6,7 +6,7 @@ use Rattle.bay.specs.Image.{Image, Same, window}
 use Rattle.bay.specs.State.{BayState, IsSound}
 use Rattle.bay.specs.Moments.{Runs, Holds, Durable, NowOnly}
 use Rattle.bay.proofs.Images.{window-same}
-use Rattle.gate_slot.specs.Slot.{is_open_in}
+use Rattle.body_slot.specs.Slot.{is_open_in}
 use Rattle.disk_forming.specs.Places.{gated_slot_at}
 use Rattle.asm_formats.specs.Header.{Header, decoded_header}
 use Rattle.asm_formats.specs.Metadata.{header_of}

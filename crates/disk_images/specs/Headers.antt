@@ -2,7 +2,7 @@
 use Rattle.std.specs.Prelude.{◌≡◌, ◌⊎◌, ℕ, ◌*◌, ◌<◌, ◌≤◌, false, List, [], ◌∷◌, Option, IsSome, IsTrue}
 use Rattle.bay.specs.Image.{Image, MayMake}
 use Rattle.bay.specs.State.{BayState, size_of}
-use Rattle.gate_slot.specs.Slot.{IsSectorSize, MayClose, MayPut, HasPut}
+use Rattle.body_slot.specs.Slot.{IsSectorSize, MayClose, MayPut, HasPut}
 use Rattle.disk_forming.specs.Places.{gated_slot_at}
 use Rattle.disk_forming.specs.Gates.{MayCloseAll, ClosesAll}
 use Rattle.disk_forming.specs.Forming.{HasHeader}

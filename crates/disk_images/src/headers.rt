@@ -2,7 +2,7 @@
 ghost use Rattle.std.specs.Prelude.{◌≡◌, ◌+◌, ◌*◌, Some, None, OnOk, IsTrue};
 ghost use Rattle.bay.specs.Moments.{NowOnly};
 ghost use Rattle.bay.specs.Calls.{Call, ChangesEachImage, cost};
-ghost use Rattle.gate_slot.specs.Slot.{MayClose, Closes, MayPut, HasPut};
+ghost use Rattle.body_slot.specs.Slot.{MayClose, Closes, MayPut, HasPut};
 ghost use Rattle.disk_forming.specs.Places.{gated_slot_at};
 ghost use Rattle.disk_forming.specs.Gates.{HasAttachedRegion, MayCloseAll, ClosesAll};
 ghost use Rattle.asm_group.specs.Shape.{is_shape};
@@ -11,9 +11,9 @@ ghost use Rattle.asm_images.specs.Kept.{header_in};
 ghost use Rattle.disk_images.specs.Headers.{HasHeaderSlot, IsBlank};
 
 use bay::{Bay, Fault};
+use body_slot::{close_gate, put};
 use disk_forming::{close_all_gates, header_slot};
 use disk_header::{Block, Header, Shape, encode};
-use gate_slot::{close_gate, put};
 
 /// Closes every gate of a disk, the header's first: before another gate is written no image that a stop may leave has
 /// the header open. After Ok the disk is blank. A Fault is that of the disk, whose gates may then be open or shut.

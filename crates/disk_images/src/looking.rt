@@ -5,9 +5,9 @@ ghost use Rattle.asm_formats.specs.Header.{is_header};
 ghost use Rattle.disk_images.specs.Looks.{Looks, IsAllowed, IsDecoded, IsHeaderHeld, IsHeaderLeft, IsLooked, AreLooked, ReadsHeader};
 
 use bay::{Bay, BayError, Fault};
+use body_slot::is_open;
 use disk_forming::header_slot;
 use disk_header::{BLOCK, Block, Header, LEAST_SIZE, NoMemory, decode};
-use gate_slot::is_open;
 use std::alloc::Global;
 
 /// What a look at an image has shown. Sizes are in bytes.

@@ -5,9 +5,9 @@ use Rattle.bay.specs.Counts.{Rose}
 use Rattle.bay.specs.Image.{Image}
 use Rattle.bay.specs.Moments.{Runs}
 use Rattle.bay.specs.State.{BayState}
-use Rattle.command_refusals.specs.declared.refusal.DiskRef.TheVariants as disk
-use Rattle.command_refusals.specs.declared.refusal.Refusal.{Refusal}
-use Rattle.command_refusals.specs.declared.refusal.Refusal.TheVariants as refusal
+use Rattle.refusal_lines.specs.declared.refusal.DiskRef.TheVariants as disk
+use Rattle.refusal_lines.specs.declared.refusal.Refusal.{Refusal}
+use Rattle.refusal_lines.specs.declared.refusal.Refusal.TheVariants as refusal
 use Rattle.asm_group.specs.Names.{Bytes}
 use Rattle.asm_world.specs.NewDisks.{PlannedDisk}
 use Rattle.asm_world.specs.Statement.{NewFailgroup}

@@ -26,8 +26,8 @@ use Rattle.disk_images.specs.Headers.{HasHeaderSlot}
 use Rattle.disk_images.specs.Looks.{AreLooked, IsLooked}
 use Rattle.disk_images.specs.declared.looking.Looked.{Looked}
 use Rattle.file_extents.proofs.extent_map.Lookups.{put_other}
-use Rattle.gate_slot.specs.Slot.{GateOf, MayClose}
-use Rattle.gate_slot.specs.declared.place.Place.{Place}
+use Rattle.body_slot.specs.Slot.{GateOf, MayClose}
+use Rattle.body_slot.specs.declared.place.Place.{Place}
 use Rattle.new_groups.specs.mounted_groups.Holding.{IsHeldSlot}
 use Rattle.new_groups.proofs.mounted_groups.Spared.{change_held}
 use Rattle.new_groups.proofs.mounted_groups.Staying.{stays_keeps}

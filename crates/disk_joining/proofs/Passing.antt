@@ -1,8 +1,8 @@
 -- Disks of a set that pass a test, from the least.
 use Rattle.std.proofs.Common.{◌≡◌, ⊎_elim, ℕ, ◌+◌, ◌<◌, ◌≤◌, Bool, true, false, List, Option, Some, refl, sym, ap, subst, ◌∙◌, arith}
 use Rattle.std.proofs.lemmas.Bool.{cases_lt, true≢false}
-use Rattle.command_refusals.specs.declared.refusal.DiskRef.TheVariants as disk
-use Rattle.command_refusals.specs.declared.refusal.Refusal.TheVariants as refusal
+use Rattle.refusal_lines.specs.declared.refusal.DiskRef.TheVariants as disk
+use Rattle.refusal_lines.specs.declared.refusal.Refusal.TheVariants as refusal
 use Rattle.asm_formats.specs.Sets.{has_bit}
 use Rattle.asm_formats.specs.Status.{Entry, Status, entry_of}
 use Rattle.asm_group.specs.declared.Mode.{Mode}

@@ -1,8 +1,8 @@
 -- Memory was wanted behind the first write: the group takes no more calls.
 use Rattle.std.proofs.Common.{List, ℕ, Result, Ok, Err}
 use Rattle.bay.specs.State.{BayState}
-use Rattle.command_refusals.specs.declared.refusal.Refusal.{Refusal}
-use Rattle.command_refusals.specs.declared.refusal.Refusal.TheVariants as refusal
+use Rattle.refusal_lines.specs.declared.refusal.Refusal.{Refusal}
+use Rattle.refusal_lines.specs.declared.refusal.Refusal.TheVariants as refusal
 use Rattle.file_extents.specs.Closing.{or_shut, shut_group}
 use Rattle.file_extents.specs.group_engine.Mounts.{MountedGroup}
 use Rattle.file_extents.proofs.group_engine.Endings.{closed_takes_none}

@@ -6,9 +6,9 @@ use Rattle.bay.specs.Moments.{Runs}
 use Rattle.bay.specs.State.{BayState}
 use Rattle.bay.proofs.Calls.{goes_on, on_more, started, stops, widened}
 use Rattle.bay.proofs.Images.{same-refl}
-use Rattle.command_refusals.specs.declared.refusal.DiskRef.TheVariants as disk
-use Rattle.command_refusals.specs.declared.refusal.Refusal.{Refusal}
-use Rattle.command_refusals.specs.declared.refusal.Refusal.TheVariants as refusal
+use Rattle.refusal_lines.specs.declared.refusal.DiskRef.TheVariants as disk
+use Rattle.refusal_lines.specs.declared.refusal.Refusal.{Refusal}
+use Rattle.refusal_lines.specs.declared.refusal.Refusal.TheVariants as refusal
 use Rattle.disk_images.specs.Looks.{Looks}
 use Rattle.new_groups.specs.mounted_groups.Holding.{SameHeld}
 use Rattle.new_groups.proofs.mounted_groups.Spared.{change_held, held_trans, same_held}

@@ -2,7 +2,7 @@
 use Rattle.std.specs.Prelude.{◌≡◌, ℕ, ◌*◌, ◌≤◌, Bool, true, false, ◌&&◌, ◌||◌, ◌==◌, not, is_some, nat_le, List, [], ◌∷◌, length, Some, None, IsTrue, IfErr, OnOk, Result}
 use Rattle.bay.specs.Moments.{NowOnly}
 use Rattle.bay.specs.State.{BayState}
-use Rattle.command_refusals.specs.declared.refusal.Refusal.{Refusal}
+use Rattle.refusal_lines.specs.declared.refusal.Refusal.{Refusal}
 use Rattle.asm_formats.specs.Bytes.{block_size}
 use Rattle.asm_formats.specs.Header.{is_header}
 use Rattle.asm_formats.specs.Items.{disk_item, is_item}

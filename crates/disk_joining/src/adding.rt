@@ -19,9 +19,9 @@ use crate::recording::write_next;
 use crate::returning::give_back;
 use asm_base::{DiskSet, Mode, NoMemory};
 use bay::Bay;
-use command_refusals::Refusal;
 use file_extents::{DiskInfo, Mounted, or_shut};
 use new_groups::{Headed, Known, NewFailgroup, partners};
+use refusal_lines::Refusal;
 use status_table::{PstEntry, PstRecord, with_births, with_entry, with_partners};
 use std::alloc::Global;
 

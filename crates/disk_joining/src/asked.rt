@@ -1,7 +1,7 @@
 //! The disks that an ADD names, each with its number and what is said of it.
 ghost use Rattle.std.specs.Prelude.{◌≡◌, ◌<◌, ◌≤◌, ◌+◌, ◌++◌, ◌∷◌, [], IfErr, IfOk, OnOk, length};
 ghost use Rattle.std.specs.Bool.{OnFalse};
-ghost use Rattle.command_refusals.specs.Refusals.{meaning_of};
+ghost use Rattle.refusal_lines.specs.Refusals.{meaning_of};
 ghost use Rattle.asm_formats.specs.Status.{has_entry};
 ghost use Rattle.asm_world.specs.NewDisks.{planned_disk};
 ghost use Rattle.new_groups.specs.Causes.{terms_in, terms_of};
@@ -11,9 +11,9 @@ ghost use Rattle.disk_joining.specs.Asking.{asked_disks, asked_from, asked_in, f
 
 use crate::recording::entry_of;
 use asm_base::{MOST_DISKS, NoMemory};
-use command_refusals::{Limited, Refusal};
 use file_extents::Mounted;
 use new_groups::{NewDisk, NewFailgroup, PlannedDisk, Terms, disks_within, planned_disk};
+use refusal_lines::{Limited, Refusal};
 use status_table::PstRecord;
 use std::alloc::Global;
 

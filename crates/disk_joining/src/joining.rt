@@ -1,7 +1,7 @@
 //! What new disks become before anything is written: their headers, their records, and their units.
 ghost use Rattle.std.specs.Prelude.{◌≡◌, ◌≤◌, ◌<◌, ◌*◌, [], IfErr, IfOk, IsTrue, length, map, true};
 ghost use Rattle.std.specs.String.{string_bytes};
-ghost use Rattle.command_refusals.specs.Refusals.{meaning_of};
+ghost use Rattle.refusal_lines.specs.Refusals.{meaning_of};
 ghost use Rattle.asm_group.specs.Refusal.{NoMemory as NoMemoryLeft};
 ghost use Rattle.asm_group.specs.Shape.{is_shape};
 ghost use Rattle.disk_images.specs.Looks.{Looks};
@@ -15,11 +15,11 @@ use crate::checking::{are_asked, may_join};
 use crate::looking::{Fitting, fit_disks, known_with};
 use asm_base::NoMemory;
 use bay::Bay;
-use command_refusals::Refusal;
 use disk_header::Header;
 use disk_images::{Looked, look_at_images};
 use file_extents::{DiskInfo, Mounted};
 use new_groups::{Headed, Known, NewFailgroup, Place, PlannedDisk};
+use refusal_lines::Refusal;
 use std::alloc::Global;
 
 /// The disks that join a group, in the order of the statement: each with its image and the header that it gets, with its

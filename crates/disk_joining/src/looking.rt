@@ -1,7 +1,7 @@
 //! Whether the images of new disks may be taken.
 ghost use Rattle.std.specs.Prelude.{◌≡◌, ◌≤◌, ◌++◌, [], IfErr, IfOk, IsTrue, None, OnOk, length, map};
 ghost use Rattle.std.specs.String.{string_bytes};
-ghost use Rattle.command_refusals.specs.Refusals.{meaning_of};
+ghost use Rattle.refusal_lines.specs.Refusals.{meaning_of};
 ghost use Rattle.asm_group.specs.Shape.{is_shape};
 ghost use Rattle.new_groups.specs.Causes.{IsThisRefusal, creation_disks, first_refusal, first_refused, image_refusals, places_at, small_refusal};
 ghost use Rattle.disk_joining.specs.AddCauses.{add_refusal, free_blocks, full_refusal, group_refusals};
@@ -10,10 +10,10 @@ ghost use Rattle.disk_joining.specs.Asking.{IsKnownWith, own_disks, own_slots};
 use crate::asked::Asked;
 use crate::naming::check_names;
 use asm_base::NoMemory;
-use command_refusals::Refusal;
 use disk_images::Looked;
 use file_extents::{Attached, Mounted};
 use new_groups::{Known, Place, PlannedDisk, Taken, all_units, check_all_free, find_places};
+use refusal_lines::Refusal;
 use status_table::PstEntry;
 use std::alloc::Global;
 

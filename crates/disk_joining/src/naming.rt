@@ -1,15 +1,15 @@
 //! Whether names of new disks are taken, and the numbers of failure groups.
 ghost use Rattle.std.specs.Prelude.{◌≡◌, ◌++◌, [], IfErr, IfOk, None, OnOk};
 ghost use Rattle.std.specs.List.{filter_map};
-ghost use Rattle.command_refusals.specs.Refusals.{meaning_of};
+ghost use Rattle.refusal_lines.specs.Refusals.{meaning_of};
 ghost use Rattle.new_groups.specs.Causes.{IsThisRefusal};
 ghost use Rattle.disk_joining.specs.AddCauses.{names_refusal};
 ghost use Rattle.disk_joining.specs.Asking.{row_of, group_rows};
 
 use asm_base::{Name, NoMemory};
-use command_refusals::Refusal;
 use file_extents::{Catalog, DiskInfo, Mounted};
 use new_groups::{DiskRow, PlannedDisk, is_name_taken};
+use refusal_lines::Refusal;
 use status_table::{PstEntry, PstRecord, least_free_failgroup};
 use std::alloc::Global;
 

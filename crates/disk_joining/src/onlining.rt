@@ -11,10 +11,10 @@ use crate::recording::{entry_of, write_next};
 use crate::slots::{is_held, is_own};
 use asm_base::{DiskSet, Mode, NoMemory};
 use bay::Bay;
-use command_refusals::{DiskRef, Refusal};
 use disk_header::Header;
 use disk_images::{Looked, look_at_images};
 use file_extents::Mounted;
+use refusal_lines::{DiskRef, Refusal};
 use status_table::{PstEntry, PstRecord, with_mode};
 use std::alloc::Global;
 

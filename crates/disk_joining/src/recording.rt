@@ -6,8 +6,8 @@ ghost use Rattle.file_extents.specs.group_engine.Pending.{GoesOn};
 ghost use Rattle.status_register.specs.Holders.{with_next_number};
 
 use bay::Bay;
-use command_refusals::Refusal;
 use file_extents::Mounted;
+use refusal_lines::Refusal;
 use status_table::{PstEntry, PstRecord};
 use std::alloc::Global;
 

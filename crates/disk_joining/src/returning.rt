@@ -10,9 +10,9 @@ ghost use Rattle.disk_joining.specs.Taking.{IsApart, TakesIn};
 use crate::heading::take_headers;
 use asm_base::{NoMemory, Text};
 use bay::Bay;
-use command_refusals::{DiskRef, Refusal};
 use file_extents::Mounted;
 use new_groups::Headed;
+use refusal_lines::{DiskRef, Refusal};
 use std::alloc::Global;
 
 /// Takes away the directory record of a disk that didn't join.

@@ -7,7 +7,7 @@ use Rattle.asm_group.specs.Group.{Group}
 use Rattle.asm_group.specs.Shape.{Shape}
 use Rattle.asm_images.specs.Kept.{Kept}
 use Rattle.asm_base.specs.Records as records
-use Rattle.command_refusals.specs.declared.refusal.Refusal.{Refusal}
+use Rattle.refusal_lines.specs.declared.refusal.Refusal.{Refusal}
 use Rattle.asm_formats.specs.Items.{Key}
 use Rattle.group_reports.specs.catalog.Plans.{IsPlan}
 use Rattle.group_reports.specs.catalog_tables.Changing.{IsAfter}

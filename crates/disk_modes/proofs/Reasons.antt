@@ -2,7 +2,7 @@
 use Rattle.std.proofs.Common.{◌≡◌, ◌∙◌, ℕ, ◌<◌, Bool, true, false, ◌==◌, ◌||◌, List, map, Result, refl, ap, subst}
 use Rattle.std.specs.Prelude.{IfErr}
 use Rattle.asm_group.specs.declared.GroupKind.{GroupKind}
-use Rattle.command_refusals.specs.declared.refusal.Refusal.{Refusal}
+use Rattle.refusal_lines.specs.declared.refusal.Refusal.{Refusal}
 use Rattle.asm_formats.specs.Sets.{has_bit}
 use Rattle.asm_formats.specs.Status.{Entry, Status}
 use Rattle.group_reports.specs.catalog_tables.Tables.{Catalogued}

@@ -3,7 +3,7 @@ use Rattle.std.proofs.Common.{◌≡◌, ◌≢◌, ⊎_elim, ℕ, ◌+◌, ◌-
 use Rattle.std.specs.Prelude.{OnOk, nat_lt, nat_le}
 use Rattle.std.specs.List.{list_all, list_any}
 use Rattle.std.proofs.lemmas.Bool.{and_parts, cases_eq, eq-eqb, eqb-true, ne_eqb, leb-true, lt-ltb, le-ltb, cases_lt}
-use Rattle.command_refusals.specs.declared.refusal.Refusal.{Refusal}
+use Rattle.refusal_lines.specs.declared.refusal.Refusal.{Refusal}
 use Rattle.asm_group.specs.Shape.{Shape}
 use Rattle.asm_formats.specs.Regions.{most_units}
 use Rattle.asm_formats.specs.Sets.{has_bit, most_disks}

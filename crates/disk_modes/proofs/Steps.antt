@@ -2,8 +2,8 @@
 use Rattle.std.proofs.Common.{◌≡◌, inl, None, Result, Ok, Err, refl, sym, ap, subst, ◌∙◌}
 use Rattle.std.specs.Prelude.{IfErr}
 use Rattle.bay.specs.State.{BayState}
-use Rattle.command_refusals.specs.declared.refusal.Refusal.{Refusal}
-use Rattle.command_refusals.specs.declared.refusal.Refusal.TheVariants as cause
+use Rattle.refusal_lines.specs.declared.refusal.Refusal.{Refusal}
+use Rattle.refusal_lines.specs.declared.refusal.Refusal.TheVariants as cause
 use Rattle.record_laws.specs.group_engine.Commits.{StatusCause}
 use Rattle.record_laws.specs.group_engine.Making.{IsShut}
 use Rattle.record_laws.specs.group_engine.Mounts.{IsMounted, MountedGroup, Takes}

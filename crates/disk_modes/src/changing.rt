@@ -9,8 +9,8 @@ ghost use Rattle.disk_modes.specs.Stops.{CommitsRebalance, MayMakeChanges, MayPu
 use crate::records::{NewModes, next_record};
 use asm_base::NoMemory;
 use bay::Bay;
-use command_refusals::Refusal;
 use record_laws::Mounted;
+use refusal_lines::Refusal;
 use std::alloc::Global;
 
 /// The changes that a statement makes, in their order. The rebalance is of a power.

@@ -8,8 +8,8 @@ ghost use Rattle.disk_modes.specs.Modes.{TakesEachDisk, GroupsCause, ModeStateCa
 
 use crate::losing::{Counted, first_losing};
 use asm_base::{DiskSet, GroupKind, Mode};
-use command_refusals::{DiskRef, Refusal};
 use group_reports::{Catalog, serving_groups};
+use refusal_lines::{DiskRef, Refusal};
 use status_table::{PstEntry, PstRecord};
 
 /// A statement that takes disks of some modes.

@@ -22,8 +22,8 @@ use crate::losing::Counted;
 use crate::records::{NewModes, with_modes};
 use asm_base::{DiskSet, GroupKind, Mode};
 use bay::Bay;
-use command_refusals::Refusal;
 use record_laws::Mounted;
+use refusal_lines::Refusal;
 use status_table::PstEntry;
 use std::alloc::Global;
 

@@ -13,9 +13,9 @@ use crate::finding::with_number;
 use crate::records::NewModes;
 use asm_base::DiskSet;
 use bay::Bay;
-use command_refusals::Refusal;
 use group_reports::expiring;
 use record_laws::Mounted;
+use refusal_lines::Refusal;
 use std::alloc::Global;
 
 /// Drops by force the least Offline disk whose time is up at a second, and which has neither the only directory copy nor all current

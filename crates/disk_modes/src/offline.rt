@@ -16,8 +16,8 @@ use crate::losing::Counted;
 use crate::records::NewModes;
 use asm_base::DiskSet;
 use bay::Bay;
-use command_refusals::Refusal;
 use record_laws::Mounted;
+use refusal_lines::Refusal;
 use std::alloc::Global;
 
 /// Takes disks Offline since a second. They expire after so many seconds, or after those of the group's attribute, and have no directory

@@ -18,8 +18,8 @@ use crate::checking::{Statement, check_modes};
 use crate::sizes::{Asked, check_sizes, units_asked};
 use asm_base::DiskSet;
 use bay::Bay;
-use command_refusals::Refusal;
 use record_laws::Mounted;
+use refusal_lines::Refusal;
 use status_table::{PstEntry, PstRecord, with_units};
 use std::alloc::Global;
 

@@ -8,9 +8,9 @@ ghost use Rattle.disk_modes.specs.Ends.{AreUsedTo, HasEnds, IsChunkEnd, IsCopyEn
 ghost use Rattle.disk_modes.specs.Sizes.{image_units, units_asked, whole_units_in};
 
 use asm_base::{DiskSet, Home, Homes, MOST_UNITS, Shape};
-use command_refusals::{DiskRef, Refusal};
 use group_reports::{Catalog, units_of};
 use record_laws::Mounted;
+use refusal_lines::{DiskRef, Refusal};
 
 /// What a RESIZE asks for: of some disks a size in bytes, or else that of their images.
 #[derive(Clone, Copy)]

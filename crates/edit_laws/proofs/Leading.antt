@@ -9,7 +9,7 @@ use Rattle.asm_group.specs.Group.{File, Group}
 use Rattle.asm_group.specs.Refusal as r
 use Rattle.asm_formats.specs.Items.{Key}
 use Rattle.asm_base.specs.Records.{DirectoryRecord}
-use Rattle.command_refusals.specs.declared.refusal.Refusal.{Refusal}
+use Rattle.refusal_lines.specs.declared.refusal.Refusal.{Refusal}
 use Rattle.asm_images.specs.Kept.{Kept}
 use Rattle.group_files.specs.alias_edits.Edits as names
 use Rattle.group_files.specs.template_directory.Meant as templates

@@ -1,8 +1,8 @@
 -- Writes of bytes that are refused before any call.
 use Rattle.std.proofs.Common.{◌≡◌, ⊎_elim, ℕ, List, [], Option, Some, None, refl, sym, ◌∙◌, ap, subst}
 use Rattle.bay.specs.State.{BayState}
-use Rattle.command_refusals.specs.Refusals.{meaning_of}
-use Rattle.command_refusals.specs.declared.refusal.Refusal.{Refusal}
+use Rattle.refusal_lines.specs.Refusals.{meaning_of}
+use Rattle.refusal_lines.specs.declared.refusal.Refusal.{Refusal}
 use Rattle.asm_group.specs.Names.{Bytes, Path}
 use Rattle.asm_group.specs.Refusal as r
 use Rattle.asm_world.specs.Below.{GroupBelow}

@@ -5,8 +5,8 @@ use Rattle.std.proofs.lemmas.Option.{same_Some}
 use Rattle.bay.specs.State.{BayState, IsSound}
 use Rattle.bay.specs.declared.disk.Bay as Bay
 use Rattle.bay.specs.declared.host.Host as Host
-use Rattle.command_refusals.specs.Refusals.{meaning_of}
-use Rattle.command_refusals.specs.declared.refusal.Refusal.{Refusal}
+use Rattle.refusal_lines.specs.Refusals.{meaning_of}
+use Rattle.refusal_lines.specs.declared.refusal.Refusal.{Refusal}
 use Rattle.asm_group.specs.Names.{Bytes, Path}
 use Rattle.asm_world.specs.Below.{GroupBelow}
 use Rattle.asm_world.specs.Command.{Asked, Command, DbFill, DbWrite}

@@ -16,7 +16,7 @@ use crate::files::{read_from, system_line};
 use crate::works::{Begin, Finish, GiveUp, Put};
 use asm_base::{List, Name, NoMemory, Path, Text};
 use bay::{Bay, Host, HostError};
-use command_refusals::Refusal;
+use refusal_lines::Refusal;
 use report_laws::{FileBy, NewFile};
 use session::{
     Answer, Desk, Filling, OpenFile, Session, answer_lines, buffer, check_source, path_of_verb,

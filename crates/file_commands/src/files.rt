@@ -16,7 +16,7 @@ use crate::works::{Create, OnFile};
 use asm_base::{List, Name, NoMemory, Path, Text};
 use asmcmd::Runs;
 use bay::{Bay, Host};
-use command_refusals::Refusal;
+use refusal_lines::Refusal;
 use report_laws::{FileBy, NewFile, path_to};
 use session::{
     Answer, Desk, FileWork, Mounted, OpenFile, Session, answer_lines, answer_of, buffer,

@@ -8,7 +8,7 @@ ghost use Rattle.session.specs.group_contents.Creating.{BeginCause, NamesFile};
 ghost use Rattle.session.specs.group_contents.Works.{WorkDoes};
 
 use bay::Bay;
-use command_refusals::Refusal;
+use refusal_lines::Refusal;
 use report_laws::NewFile;
 use session::{
     Contents, FileWork, Filling, GroupWork, Mounted, begin_new, create, finish_new, give_up,

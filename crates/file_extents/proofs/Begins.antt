@@ -4,7 +4,7 @@ use Rattle.std.specs.Prelude.{OnOk}
 use Rattle.bay.specs.State.{BayState}
 use Rattle.asm_group.specs.declared.PendingKind.{PendingKind}
 use Rattle.asm_base.specs.Records.{DirectoryRecord}
-use Rattle.command_refusals.specs.declared.refusal.Refusal.{Refusal}
+use Rattle.refusal_lines.specs.declared.refusal.Refusal.{Refusal}
 use Rattle.asm_formats.specs.Items.{Key}
 use Rattle.catalog_tables.specs.Changing.{IsAfter}
 use Rattle.group_pieces.specs.catalog.Plans.{IsPlan}

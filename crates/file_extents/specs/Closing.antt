@@ -1,7 +1,7 @@
 -- How a call ends behind a commit.
 use Rattle.std.specs.Prelude.{◌≡◌, Result, Err}
-use Rattle.command_refusals.specs.declared.refusal.Refusal.{Refusal}
-use Rattle.command_refusals.specs.declared.refusal.Refusal.TheVariants as cause
+use Rattle.refusal_lines.specs.declared.refusal.Refusal.{Refusal}
+use Rattle.refusal_lines.specs.declared.refusal.Refusal.TheVariants as cause
 use Rattle.group_pieces.specs.group_engine.Making.{access_after_closing}
 use Rattle.group_pieces.specs.group_engine.Mounts.{MountedGroup}
 

@@ -3,8 +3,8 @@ use Rattle.std.specs.Prelude.{◌≡◌, ⊤, ◌+◌, ◌<◌, List, length, No
 use Rattle.catalog_tables.specs.allocator.UnitMaps.{UnitMap}
 use Rattle.asm_formats.specs.Items.{Homes}
 use Rattle.asm_base.specs.declared.kinds.ExtentId.{ExtentId}
-use Rattle.command_refusals.specs.declared.refusal.Refusal.{Refusal}
-use Rattle.command_refusals.specs.declared.refusal.Refusal.TheVariants as cause
+use Rattle.refusal_lines.specs.declared.refusal.Refusal.{Refusal}
+use Rattle.refusal_lines.specs.declared.refusal.Refusal.TheVariants as cause
 use Rattle.catalog_tables.specs.partnership.Rows.{Choosing, IsRow, homes_for_extent}
 use Rattle.group_pieces.specs.group_engine.Mounts.{MountedGroup}
 use Rattle.file_extents.specs.declared.rows.NewExtents.{NewExtents}

@@ -18,8 +18,8 @@ use crate::rows::{CHUNK, MOST_EXTENTS};
 use asm_base::{ExtentId, Home, Homes, NoMemory};
 use bay::Bay;
 use catalog_tables::{are_on_disks, are_within};
-use command_refusals::Refusal;
 use group_pieces::{Catalog, Mounted};
+use refusal_lines::Refusal;
 use std::alloc::Global;
 
 // ---- one extent

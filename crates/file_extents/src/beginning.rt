@@ -10,8 +10,8 @@ use crate::filling::{Filling, choose_all, open_part};
 use crate::rows::NewExtents;
 use bay::Bay;
 use catalog_tables::{Pending, PendingKind};
-use command_refusals::Refusal;
 use group_pieces::Mounted;
+use refusal_lines::Refusal;
 use std::alloc::Global;
 
 /// Begins an operation on a file: it is committed as the pending one. The move that is on its way is given up. Refusals: Dismounted, and

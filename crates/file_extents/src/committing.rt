@@ -5,12 +5,12 @@ ghost use Rattle.group_pieces.specs.group_engine.Commits.{KeepsRecord, StatusCau
 ghost use Rattle.group_pieces.specs.group_engine.Making.{access_after_closing};
 ghost use Rattle.group_pieces.specs.group_engine.Mounts.{IsMounted, Takes};
 ghost use Rattle.group_pieces.specs.group_engine.Own.{KeepsGroup};
-ghost use Rattle.command_refusals.specs.declared.refusal.Refusal.TheVariants as cause;
+ghost use Rattle.refusal_lines.specs.declared.refusal.Refusal.TheVariants as cause;
 ghost use Rattle.file_extents.specs.Closing.{IsOrShut};
 
 use bay::Bay;
-use command_refusals::Refusal;
 use group_pieces::Mounted;
+use refusal_lines::Refusal;
 use std::alloc::Global;
 
 /// Memory was wanted behind a commit: the group takes no more calls.

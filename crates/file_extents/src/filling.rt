@@ -16,8 +16,8 @@ use crate::sparing::{Filled, are_all_marked, fill_copies};
 use asm_base::{DiskSet, Homes, NoMemory, Stripe};
 use bay::Bay;
 use catalog_tables::Layout;
-use command_refusals::{DiskRef, Refusal};
 use group_pieces::Mounted;
+use refusal_lines::{DiskRef, Refusal};
 use std::alloc::Global;
 
 /// What the new extents of a file are filled with.

@@ -6,8 +6,8 @@ ghost use Rattle.file_extents.specs.Rows.{ChoiceCause, SpaceCause};
 use crate::placing::copy_units;
 use asm_base::{ExtentId, Homes};
 use catalog_tables::{Units, choose_row};
-use command_refusals::Refusal;
 use group_pieces::Mounted;
+use refusal_lines::Refusal;
 use std::alloc::Global;
 
 /// Extents of a chunk.

@@ -16,8 +16,8 @@ ghost use Rattle.session.specs.Meaning.{meaning};
 use crate::mounting::{mount_named, option_of};
 use asm_base::{GroupKind, List, Name, NoMemory, Text};
 use bay::{Bay, Host};
-use command_refusals::Refusal;
 use group_sql::{Attribute, NewDisk, NewFailgroup};
+use refusal_lines::Refusal;
 use session::{
     Answer, Desk, FoundIds, GroupAsked, GroupWork, Known, Mounted, Reply,
     create_on_disk as create_group, drop_group as drop_disks_of, no_memory, refused,

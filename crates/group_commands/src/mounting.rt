@@ -1,14 +1,14 @@
 // A group is mounted into the session.
 ghost use Rattle.std.specs.Prelude.{◌≡◌, [], IfOk, get_or, map};
 ghost use Rattle.std.specs.String.{string_bytes};
-ghost use Rattle.command_refusals.specs.Refusals.{referred_disk_name, meaning_of};
+ghost use Rattle.refusal_lines.specs.Refusals.{referred_disk_name, meaning_of};
 ghost use Rattle.group_commands.specs.Mounting.{MountsInto, mount_said, option_of};
 ghost use Rattle.session.specs.Sessions.{AreReady};
 
 use asm_base::{Name, NoMemory, Text};
 use bay::{Bay, Host};
-use command_refusals::{DiskRef, Refusal};
 use group_recovery::{MountError, MountOption};
+use refusal_lines::{DiskRef, Refusal};
 use session::{Desk, mount_group};
 use std::alloc::Global;
 

@@ -4,7 +4,7 @@ use Rattle.std.proofs.lemmas.List.{drop-take, length-replicate, length-take-le, 
 use Rattle.bay.specs.State.{BayState}
 use Rattle.asm_group.specs.Names.{Bytes}
 use Rattle.asm_base.specs.declared.kinds.ExtentId.{ExtentId}
-use Rattle.command_refusals.specs.declared.refusal.Refusal.{Refusal}
+use Rattle.refusal_lines.specs.declared.refusal.Refusal.{Refusal}
 use Rattle.piece_laws.specs.Walks.{IsStep}
 use Rattle.file_extents.specs.group_engine.Mounts.{IsMounted, MountedGroup}
 use Rattle.file_extents.specs.group_pieces.Held.{PieceHeld}

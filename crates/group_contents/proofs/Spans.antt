@@ -14,8 +14,8 @@ use Rattle.asm_group.specs.Names.{Bytes}
 use Rattle.asm_group.specs.Shape.{Shape, is_shape}
 use Rattle.asm_group.specs.Group.{File, Free, Group, Known}
 use Rattle.asm_base.specs.declared.kinds.ExtentId.{ExtentId}
-use Rattle.command_refusals.specs.declared.refusal.Refusal.{Refusal}
-use Rattle.command_refusals.specs.declared.refusal.Refusal.TheVariants as cause
+use Rattle.refusal_lines.specs.declared.refusal.Refusal.{Refusal}
+use Rattle.refusal_lines.specs.declared.refusal.Refusal.TheVariants as cause
 use Rattle.asm_images.specs.Kept.{Kept}
 use Rattle.asm_images.specs.Spans.{Span, settled}
 use Rattle.asm_world.specs.Files.{known, with_cells, with_file_cells}

@@ -7,10 +7,10 @@ use Rattle.asm_group.specs.TreeEdits as e
 use Rattle.asm_group.specs.declared.PendingKind.TheVariants.{Create, Grow}
 use Rattle.asm_group.specs.declared.Stripe.{Stripe}
 use Rattle.asm_base.specs.Records.{DirectoryRecord}
-use Rattle.command_refusals.specs.declared.refusal.DiskRef.{DiskRef}
-use Rattle.command_refusals.specs.declared.refusal.DiskRef.TheVariants.{Number, Spelt}
-use Rattle.command_refusals.specs.declared.refusal.Refusal.{Refusal}
-use Rattle.command_refusals.specs.declared.refusal.Refusal.TheVariants as cause
+use Rattle.refusal_lines.specs.declared.refusal.DiskRef.{DiskRef}
+use Rattle.refusal_lines.specs.declared.refusal.DiskRef.TheVariants.{Number, Spelt}
+use Rattle.refusal_lines.specs.declared.refusal.Refusal.{Refusal}
+use Rattle.refusal_lines.specs.declared.refusal.Refusal.TheVariants as cause
 use Rattle.asm_formats.specs.Items.{Key}
 use Rattle.file_extents.specs.catalog_tables.Changing.{IsAfter}
 use Rattle.file_extents.specs.catalog.FilePlans.{IsRemovalPlan, IsSizePlan, is_on_file, with_removal_pending, tables_with_size}

@@ -5,8 +5,8 @@ use Rattle.bay.specs.State.{BayState}
 use Rattle.bay.proofs.Calls.{started}
 use Rattle.bay.proofs.Images.{same-refl}
 use Rattle.asm_group.specs.Names.{Bytes, Path}
-use Rattle.command_refusals.specs.declared.refusal.Refusal.{Refusal}
-use Rattle.command_refusals.specs.declared.refusal.Refusal.TheVariants as cause
+use Rattle.refusal_lines.specs.declared.refusal.Refusal.{Refusal}
+use Rattle.refusal_lines.specs.declared.refusal.Refusal.TheVariants as cause
 use Rattle.file_extents.specs.group_engine.Making.{IsShut}
 use Rattle.file_extents.specs.group_engine.Mounts.{IsMounted, MountedGroup}
 use Rattle.file_extents.specs.group_engine.declared.access.Access.{Access}

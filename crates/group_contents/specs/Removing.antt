@@ -4,7 +4,7 @@ use Rattle.bay.specs.State.{BayState}
 use Rattle.asm_group.specs.Names.{Path}
 use Rattle.asm_group.specs.TreeEdits as e
 use Rattle.asm_base.specs.Records.{DirectoryRecord}
-use Rattle.command_refusals.specs.declared.refusal.Refusal.{Refusal}
+use Rattle.refusal_lines.specs.declared.refusal.Refusal.{Refusal}
 use Rattle.asm_formats.specs.Items.{Key, Node}
 use Rattle.asm_placement.specs.Naming.{is_kind_directory}
 use Rattle.file_extents.specs.alias_tree.Nodes.{node_at, number_of}

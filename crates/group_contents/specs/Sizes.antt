@@ -4,9 +4,9 @@ use Rattle.bay.specs.State.{BayState}
 use Rattle.asm_group.specs.Names.{Path}
 use Rattle.asm_group.specs.declared.PendingKind.TheVariants.{Grow}
 use Rattle.asm_base.specs.Records.{DirectoryRecord}
-use Rattle.command_refusals.specs.declared.refusal.DiskRef.{DiskRef}
-use Rattle.command_refusals.specs.declared.refusal.Refusal.{Refusal}
-use Rattle.command_refusals.specs.declared.refusal.Refusal.TheVariants as cause
+use Rattle.refusal_lines.specs.declared.refusal.DiskRef.{DiskRef}
+use Rattle.refusal_lines.specs.declared.refusal.Refusal.{Refusal}
+use Rattle.refusal_lines.specs.declared.refusal.Refusal.TheVariants as cause
 use Rattle.asm_formats.specs.Items.{Key}
 use Rattle.asm_placement.specs.Layout.{has_extent_by_size}
 use Rattle.file_extents.specs.catalog_tables.Changing.{IsAfter}

@@ -1,7 +1,7 @@
 -- A piece of work on a group's files: what it does, and why it is refused.
 use Rattle.std.specs.Prelude.{◌⊎◌, ⊤, length, replicate, OnOk, Result}
 use Rattle.bay.specs.State.{BayState}
-use Rattle.command_refusals.specs.declared.refusal.Refusal.{Refusal}
+use Rattle.refusal_lines.specs.declared.refusal.Refusal.{Refusal}
 use Rattle.file_extents.specs.group_engine.Commits.{StatusCause}
 use Rattle.file_extents.specs.group_engine.Mounts.{MountedGroup}
 use Rattle.group_contents.specs.Files.{OpenCause, WriteFileCause}

@@ -6,8 +6,8 @@ use Rattle.bay.specs.State.{BayState}
 use Rattle.asm_group.specs.Group.{File, Group}
 use Rattle.asm_group.specs.Names.{Bytes, Path}
 use Rattle.asm_group.specs.Shape.{Shape}
-use Rattle.command_refusals.specs.declared.refusal.Refusal.{Refusal}
-use Rattle.command_refusals.specs.declared.refusal.Refusal.TheVariants as cause
+use Rattle.refusal_lines.specs.declared.refusal.Refusal.{Refusal}
+use Rattle.refusal_lines.specs.declared.refusal.Refusal.TheVariants as cause
 use Rattle.asm_images.specs.Kept.{Kept}
 use Rattle.file_extents.specs.directory_store.Answers.{NoCalls}
 use Rattle.file_extents.specs.group_of.Describing.{KeepsNames}

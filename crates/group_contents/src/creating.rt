@@ -2,7 +2,7 @@
 ghost use Rattle.std.specs.Bool.{OnTrue};
 ghost use Rattle.std.specs.Option.{option_copied};
 ghost use Rattle.std.specs.Prelude.{◌≡◌, ◌⊎◌, IfErr, IfOk, None, OnOk};
-ghost use Rattle.command_refusals.specs.declared.refusal.Refusal.TheVariants.{NoTemplate};
+ghost use Rattle.refusal_lines.specs.declared.refusal.Refusal.TheVariants.{NoTemplate};
 ghost use Rattle.file_extents.specs.catalog.NamePlans.{IsFileBeingMade, made_file};
 ghost use Rattle.file_extents.specs.group_engine.Commits.{StatusCause};
 ghost use Rattle.file_extents.specs.group_engine.Mounts.{IsMounted, MountedGroup, Takes};
@@ -16,12 +16,12 @@ use crate::buffers::buffer;
 use crate::chunks::chunks_of;
 use asm_base::{Name, NoMemory, Path, Stripe};
 use bay::Bay;
-use command_refusals::Refusal;
 use file_extents::{
     Catalog, Contents, FileBy, Filling, LONGEST_PIECE, Mounted, NewExtents, NewFile, PendingKind,
     begin_operation, copies_for, give_back, give_homes, has_all, is_within_file, layout_of,
     or_shut, prepare, put_zeros, serving_groups, template_for,
 };
+use refusal_lines::Refusal;
 use std::alloc::Global;
 use striping::extents_for;
 

@@ -6,8 +6,8 @@ ghost use Rattle.asm_group.specs.Shape.{is_shape};
 ghost use Rattle.group_contents.specs.Files.{AtFile, IsOpened, IsSpan, LostFileCause, LostIn, OpenCause, SpanCause, are_sectors, named_file_number};
 
 use asm_base::{ExtentId, NodeKind, Path, Stripe};
-use command_refusals::Refusal;
 use file_extents::{Catalog, Mounted, first_piece, is_lost, layout_of};
+use refusal_lines::Refusal;
 use striping::Layout;
 
 /// A file of a mounted group, as its head has it.

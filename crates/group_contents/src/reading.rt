@@ -15,8 +15,8 @@ ghost use Rattle.group_contents.specs.Reading.{ShowsFile, KeepsMounted, WhereMou
 use crate::opening::{OpenFile, open_span};
 use asm_base::{Path, Span};
 use bay::Bay;
-use command_refusals::{DiskRef, Refusal};
 use file_extents::{Mounted, Piece, ReadError, first_piece, layout_of, read_piece};
+use refusal_lines::{DiskRef, Refusal};
 use striping::Layout;
 
 /// Fills the buffer with a piece.

@@ -14,8 +14,8 @@ ghost use Rattle.group_contents.specs.Removing.{DropsDirectory, IsRemoved, Remov
 use crate::opening::open;
 use asm_base::{Change, NoMemory, NodeKind, Path};
 use bay::Bay;
-use command_refusals::Refusal;
 use file_extents::{Catalog, Mounted, TreeEdit, is_at_rest};
+use refusal_lines::Refusal;
 use std::alloc::Global;
 
 /// Whether no operation is pending, and the file has a head.

@@ -17,12 +17,12 @@ use crate::opening::{OpenFile, first_lost, is_sectors, open};
 use crate::writing::fill_span;
 use asm_base::{NoMemory, Path};
 use bay::Bay;
-use command_refusals::{DiskRef, Refusal};
 use file_extents::{
     Catalog, Contents, Filling, LONGEST_PIECE, Mounted, NewExtents, PendingKind, begin_operation,
     bytes_before, give_back, give_homes, has_all, is_at_rest, layout_of, or_shut, prepare,
     put_zeros,
 };
+use refusal_lines::{DiskRef, Refusal};
 use std::alloc::Global;
 use striping::extents_for;
 

@@ -9,8 +9,8 @@ use crate::resizing::resize;
 use crate::writing::{fill, write};
 use asm_base::{Path, Text};
 use bay::Bay;
-use command_refusals::Refusal;
 use file_extents::Mounted;
+use refusal_lines::Refusal;
 use std::alloc::Global;
 
 /// What is asked of a group's files.

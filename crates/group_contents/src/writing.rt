@@ -1,7 +1,7 @@
 //! The bytes of a file are written.
 ghost use Rattle.std.specs.Prelude.{◌≡◌, ◌⊎◌, ◌+◌, ◌<◌, ◌^◌, ℕ, IfErr, IfOk, IfSome, OnOk, length, replicate, true};
 ghost use Rattle.asm_formats.specs.Sets.{has_bit};
-ghost use Rattle.command_refusals.specs.declared.refusal.Refusal.TheVariants.{WriteFault};
+ghost use Rattle.refusal_lines.specs.declared.refusal.Refusal.TheVariants.{WriteFault};
 ghost use Rattle.striping.specs.Pieces.{IsAllowedLayout};
 ghost use Rattle.file_extents.specs.group_engine.Mounts.{IsMounted, Takes};
 ghost use Rattle.file_extents.specs.group_engine.Own.{KeepsGroup};
@@ -16,8 +16,8 @@ use crate::entry_copies::EntryCopies;
 use crate::opening::{OpenFile, open_span};
 use asm_base::{DiskSet, Path};
 use bay::Bay;
-use command_refusals::{DiskRef, Refusal};
 use file_extents::{Mounted, Piece, first_piece, layout_of, write_piece};
+use refusal_lines::{DiskRef, Refusal};
 use std::alloc::Global;
 use striping::Layout;
 

@@ -2,7 +2,7 @@
 use Rattle.std.proofs.Common.{◌≡◌, inl, inr, ℕ, zero, suc, List, ◌++◌, get_or, refl, sym, ap, subst, Option, None, Result, Ok, Err, arith}
 use Rattle.bay.specs.State.{BayState}
 use Rattle.bay.specs.Moments.{Runs}
-use Rattle.command_refusals.specs.declared.refusal.Refusal.{Refusal}
+use Rattle.refusal_lines.specs.declared.refusal.Refusal.{Refusal}
 use Rattle.asm_formats.specs.Status.{Status}
 use Rattle.status_register.specs.Holders.{holder_in, holders_below}
 use Rattle.status_register.specs.Registered.{Registered}

@@ -5,8 +5,8 @@ use Rattle.std.specs.List.Sorted.{IsStrictlySortedBy}
 use Rattle.bay.specs.State.{BayState}
 use Rattle.asm_formats.specs.Items.{Key}
 use Rattle.asm_base.specs.Records.{DirectoryRecord, key_cmp}
-use Rattle.command_refusals.specs.declared.refusal.Refusal.{Refusal}
-use Rattle.command_refusals.specs.declared.refusal.Refusal.TheVariants as cause
+use Rattle.refusal_lines.specs.declared.refusal.Refusal.{Refusal}
+use Rattle.refusal_lines.specs.declared.refusal.Refusal.TheVariants as cause
 use Rattle.directory_store.specs.page_map.Listing.{key_of_place}
 use Rattle.directory_store.specs.page_map.Tables.{new_in, room}
 use Rattle.rebalance.specs.catalog_laws.Blocks.{PlansHaveRoom}

@@ -1,8 +1,8 @@
 -- A group whose record is marked gone.
 use Rattle.std.specs.Prelude.{◌≡◌, ℕ, true, IfErr, OnOk, Result, Ok}
 use Rattle.bay.specs.State.{BayState}
-use Rattle.command_refusals.specs.declared.refusal.Refusal.{Refusal}
-use Rattle.command_refusals.specs.declared.refusal.Refusal.TheVariants as cause
+use Rattle.refusal_lines.specs.declared.refusal.Refusal.{Refusal}
+use Rattle.refusal_lines.specs.declared.refusal.Refusal.TheVariants as cause
 use Rattle.asm_formats.specs.Status.{Status}
 use Rattle.group_engine.specs.Commits.{DismountCause}
 use Rattle.status_register.specs.RegisterCalls.{HasWritten}

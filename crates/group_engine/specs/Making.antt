@@ -1,9 +1,9 @@
 -- How a mounted group begins, and whether it takes calls.
 use Rattle.std.specs.Prelude.{◌≡◌, ℕ, List, Option, Some, None}
 use Rattle.asm_group.specs.Names.{Bytes}
-use Rattle.command_refusals.specs.declared.refusal.DiskRef.TheVariants as disk
-use Rattle.command_refusals.specs.declared.refusal.Refusal.{Refusal}
-use Rattle.command_refusals.specs.declared.refusal.Refusal.TheVariants as cause
+use Rattle.refusal_lines.specs.declared.refusal.DiskRef.TheVariants as disk
+use Rattle.refusal_lines.specs.declared.refusal.Refusal.{Refusal}
+use Rattle.refusal_lines.specs.declared.refusal.Refusal.TheVariants as cause
 use Rattle.rebalance.specs.catalog_tables.Tables.{Catalogued}
 use Rattle.directory_store.specs.Stores.{Stored}
 use Rattle.status_register.specs.Registered.{Registered}

@@ -4,7 +4,7 @@ use Rattle.bay.specs.Moments.{LeavesOnly}
 use Rattle.bay.specs.State.{BayState}
 use Rattle.asm_group.specs.Group.{Group}
 use Rattle.asm_group.specs.Shape.{Shape}
-use Rattle.command_refusals.specs.declared.refusal.Refusal.{Refusal}
+use Rattle.refusal_lines.specs.declared.refusal.Refusal.{Refusal}
 use Rattle.asm_formats.specs.Items.{FileHead}
 use Rattle.asm_formats.specs.Status.{Entry}
 use Rattle.asm_placement.specs.Modes.{serves}

@@ -23,9 +23,9 @@ use crate::mounted::{Mounted, disk_in};
 use crate::search::Search;
 use asm_base::Change;
 use bay::Bay;
-use command_refusals::{DiskRef, Refusal};
 use directory_store::StoreError;
 use rebalance::blocks_are_counted;
+use refusal_lines::{DiskRef, Refusal};
 use std::alloc::Global;
 
 impl Mounted {

@@ -2,8 +2,8 @@
 ghost use Rattle.std.specs.Prelude.{◌≡◌, ◌+◌, ◌<◌, ◌≤◌, false, true, IfErr, IfSome, IsTrue, OnErr, OnOk};
 ghost use Rattle.asm_formats.specs.Sets.{has_bit};
 ghost use Rattle.asm_formats.specs.Status.{has_entry, is_status};
-ghost use Rattle.command_refusals.specs.declared.refusal.DiskRef.TheVariants as refused;
-ghost use Rattle.command_refusals.specs.declared.refusal.Refusal.TheVariants as cause;
+ghost use Rattle.refusal_lines.specs.declared.refusal.DiskRef.TheVariants as refused;
+ghost use Rattle.refusal_lines.specs.declared.refusal.Refusal.TheVariants as cause;
 ghost use Rattle.group_engine.specs.Commits.{turns_at_most};
 ghost use Rattle.group_engine.specs.Copying.{CopiesTo, DirectoryCopyCause, IsOneMore, LeavesGroup, MountsLater, MountsStill, StandThrough, WritesMore};
 ghost use Rattle.group_engine.specs.Mounts.{IsMounted, IsReady, IsWhole, Takes};
@@ -15,9 +15,9 @@ use crate::mounted::Mounted;
 use crate::search::Search;
 use asm_base::DiskSet;
 use bay::Bay;
-use command_refusals::{DiskRef, Refusal};
 use directory_store::{CopyError, DirCopy};
 use disk_sizes::region_bytes;
+use refusal_lines::{DiskRef, Refusal};
 use status_register::{Dead, Register, is_of_entry, with_dirs};
 use std::alloc::Global;
 

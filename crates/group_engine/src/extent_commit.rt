@@ -10,7 +10,7 @@ use crate::mounted::Mounted;
 use crate::search::Search;
 use asm_base::{Change, ExtentId};
 use bay::Bay;
-use command_refusals::Refusal;
+use refusal_lines::Refusal;
 use std::alloc::Global;
 
 impl Mounted {

@@ -4,7 +4,7 @@ ghost use Rattle.bay.specs.Image.{Image};
 ghost use Rattle.bay.specs.State.{BayState, KeepsAttached};
 ghost use Rattle.bay.specs.Moments.{Runs};
 ghost use Rattle.asm_group.specs.Group.{Group};
-ghost use Rattle.command_refusals.specs.declared.refusal.DiskRef.{DiskRef};
+ghost use Rattle.refusal_lines.specs.declared.refusal.DiskRef.{DiskRef};
 ghost use Rattle.asm_images.specs.Kept.{Kept};
 ghost use Rattle.group_engine.specs.Commits.{DismountCause};
 ghost use Rattle.group_engine.specs.Frames.{KeepsOwn, KeptSparesOthers, SparedIsHeld, SparesDisks, SparesGroup, StaysAttached};

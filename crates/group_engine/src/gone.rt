@@ -13,7 +13,7 @@ use crate::mounted::Mounted;
 use crate::search::Search;
 use asm_base::DiskSet;
 use bay::Bay;
-use command_refusals::{DiskRef, Refusal};
+use refusal_lines::{DiskRef, Refusal};
 use status_register::{Dead, Register, with_gone};
 
 /// Writes the record that holds, marked gone.

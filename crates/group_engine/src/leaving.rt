@@ -10,7 +10,7 @@ ghost use Rattle.group_engine.specs.Statuses.{IsNextOf};
 
 use crate::mounted::Mounted;
 use bay::Bay;
-use command_refusals::Refusal;
+use refusal_lines::Refusal;
 use status_register::{PstRecord, with_dirs, without_entry};
 use std::alloc::Global;
 

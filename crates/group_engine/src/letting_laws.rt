@@ -1,5 +1,5 @@
 //! Calls that may let disks of a mounted group go. Each function does nothing; its contract is the law.
-ghost use Rattle.command_refusals.specs.declared.refusal.Refusal.{Refusal};
+ghost use Rattle.refusal_lines.specs.declared.refusal.Refusal.{Refusal};
 ghost use Rattle.group_engine.specs.Commits.{StatusCause};
 ghost use Rattle.group_engine.specs.Members.{LetsGo, LettingCause};
 ghost use Rattle.group_engine.specs.Mounts.{IsMounted, IsWhole, MountedGroup};

@@ -13,9 +13,9 @@ use crate::attached::Attached;
 use crate::flight::Flight;
 use crate::search::Search;
 use asm_base::Name;
-use command_refusals::{DiskRef, Refusal};
 use directory_store::Store;
 use rebalance::{Catalog, Next};
+use refusal_lines::{DiskRef, Refusal};
 use status_register::{PstRecord, Register};
 use std::marker::Model;
 

@@ -18,8 +18,8 @@ use crate::access::Access;
 use crate::mounted::Mounted;
 use asm_base::{ExtentId, Shape};
 use bay::Bay;
-use command_refusals::{DiskRef, Refusal};
 use rebalance::{Catalog, FileHead, Layout, extents_for};
+use refusal_lines::{DiskRef, Refusal};
 use std::alloc::Global;
 
 /// Extents of a chunk.

@@ -16,7 +16,7 @@ use crate::forgetting::forget_others;
 use crate::mounted::Mounted;
 use crate::search::Search;
 use bay::Bay;
-use command_refusals::{DiskRef, Refusal};
+use refusal_lines::{DiskRef, Refusal};
 use status_register::PstRecord;
 use std::alloc::Global;
 

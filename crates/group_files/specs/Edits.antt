@@ -7,7 +7,7 @@ use Rattle.asm_group.specs.NewGroup.{templates_by_name}
 use Rattle.asm_group.specs.TemplateEdits.{TemplateEdit, templates_edited}
 use Rattle.asm_formats.specs.Items.{Key}
 use Rattle.asm_base.specs.Records.{DirectoryRecord}
-use Rattle.command_refusals.specs.declared.refusal.Refusal.{Refusal}
+use Rattle.refusal_lines.specs.declared.refusal.Refusal.{Refusal}
 use Rattle.group_engine.specs.catalog_tables.Tables.{Catalogued}
 use Rattle.template_directory.specs.Meant.{IsTemplateEditRefusal}
 use Rattle.group_engine.specs.Commits.{CommitsPlan}

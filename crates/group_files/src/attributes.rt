@@ -6,8 +6,8 @@ ghost use Rattle.group_files.specs.Edits.{Edits};
 
 use asm_base::Name;
 use bay::Bay;
-use command_refusals::Refusal;
 use group_engine::Mounted;
+use refusal_lines::Refusal;
 use std::alloc::Global;
 
 /// Gives an attribute that may be set at any time another value, as it is written in the statement. The refusals are tried in

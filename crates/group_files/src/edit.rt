@@ -12,8 +12,8 @@ use crate::names::edit_tree;
 use crate::templates::edit_template;
 use asm_base::{Name, Text};
 use bay::Bay;
-use command_refusals::Refusal;
 use group_engine::{Mounted, TreeEdit};
+use refusal_lines::Refusal;
 use std::alloc::Global;
 use template_directory::TemplateEdit;
 

@@ -7,8 +7,8 @@ ghost use Rattle.group_engine.specs.Own.{KeepsGroup};
 ghost use Rattle.group_files.specs.Edits.{Edits};
 
 use bay::Bay;
-use command_refusals::Refusal;
 use group_engine::{Mounted, TreeEdit};
+use refusal_lines::Refusal;
 use std::alloc::Global;
 
 /// Edits the tree of a group's names. The refusals are tried in this order: those of the edit, DirectoryFull where it makes a

@@ -9,8 +9,8 @@ ghost use Rattle.group_files.specs.Edits.{Edits, IsTemplateRefusal};
 ghost use Rattle.template_directory.specs.Meant.{template_edit_meant, is_template_edit};
 
 use bay::Bay;
-use command_refusals::Refusal;
 use group_engine::Mounted;
+use refusal_lines::Refusal;
 use std::alloc::Global;
 use template_directory::TemplateEdit;
 

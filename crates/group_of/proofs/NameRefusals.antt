@@ -5,7 +5,7 @@ use Rattle.asm_group.specs.Causes.{Causes, first_cause, unless_refused}
 use Rattle.asm_group.specs.Names.{Bytes}
 use Rattle.asm_group.specs.Refusal as r
 use Rattle.asm_group.specs.Group.{Group}
-use Rattle.command_refusals.specs.Refusals.{meaning_of}
+use Rattle.refusal_lines.specs.Refusals.{meaning_of}
 use Rattle.asm_world.specs.Files as bytes
 use Rattle.asm_world.specs.Files.{NewName}
 use Rattle.catalog_laws.specs.alias_edits.Filing.{file_causes, with_file}

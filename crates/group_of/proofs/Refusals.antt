@@ -11,9 +11,9 @@ use Rattle.asm_group.specs.Group.{Attributes}
 use Rattle.asm_group.specs.TemplateEdits as templates
 use Rattle.asm_group.specs.TreeEdits as tree
 use Rattle.asm_formats.specs.Items.{Settings}
-use Rattle.command_refusals.specs.Refusals.{meaning_of}
-use Rattle.command_refusals.specs.declared.refusal.Refusal.{Refusal}
-use Rattle.command_refusals.specs.declared.refusal.Refusal.TheVariants as cause
+use Rattle.refusal_lines.specs.Refusals.{meaning_of}
+use Rattle.refusal_lines.specs.declared.refusal.Refusal.{Refusal}
+use Rattle.refusal_lines.specs.declared.refusal.Refusal.TheVariants as cause
 use Rattle.asm_world.specs.Edits as world
 use Rattle.asm_world.specs.Settings as settings
 use Rattle.catalog_laws.specs.alias_tree.Trees.{tree_of}

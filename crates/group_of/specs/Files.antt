@@ -11,7 +11,7 @@ use Rattle.asm_group.specs.Group.{Cell, File, Group, Template}
 use Rattle.asm_formats.specs.Items.{FileHead, Key, Pending}
 use Rattle.asm_formats.specs.Status.{Status}
 use Rattle.asm_base.specs.Records.{DirectoryRecord}
-use Rattle.command_refusals.specs.declared.refusal.Refusal.{Refusal}
+use Rattle.refusal_lines.specs.declared.refusal.Refusal.{Refusal}
 use Rattle.asm_world.specs.Edits as world
 use Rattle.asm_world.specs.Files as bytes
 use Rattle.catalog_laws.specs.file_directory.Files.{head_at, with_head}

@@ -10,7 +10,7 @@ use Rattle.asm_group.specs.Names.{Bytes}
 use Rattle.asm_group.specs.Shape.{Shape}
 use Rattle.asm_base.specs.Records.{DirectoryRecord}
 use Rattle.asm_base.specs.declared.kinds.ExtentId.{ExtentId}
-use Rattle.command_refusals.specs.declared.refusal.Refusal.{Refusal}
+use Rattle.refusal_lines.specs.declared.refusal.Refusal.{Refusal}
 use Rattle.asm_formats.specs.Among.{IsAmong}
 use Rattle.asm_formats.specs.Items.{Key}
 use Rattle.asm_formats.specs.Status as status

@@ -3,8 +3,8 @@ use Rattle.std.proofs.Common.{◌≡◌, inl, ℕ, refl, sym, subst, Result, Ok,
 use Rattle.std.specs.Prelude.{OnOk}
 use Rattle.bay.specs.State.{BayState}
 use Rattle.asm_base.specs.declared.kinds.ExtentId.{ExtentId}
-use Rattle.command_refusals.specs.declared.refusal.Refusal.{Refusal}
-use Rattle.command_refusals.specs.declared.refusal.Refusal.TheVariants as cause
+use Rattle.refusal_lines.specs.declared.refusal.Refusal.{Refusal}
+use Rattle.refusal_lines.specs.declared.refusal.Refusal.TheVariants as cause
 use Rattle.record_laws.specs.group_engine.Commits.{StatusCause}
 use Rattle.record_laws.specs.group_engine.Making.{IsShut}
 use Rattle.record_laws.specs.group_engine.Mounts.{IsMounted, MountedGroup, Takes}

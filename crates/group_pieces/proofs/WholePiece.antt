@@ -6,7 +6,7 @@ use Rattle.bay.proofs.Calls.{leaves_less, leaves_on}
 use Rattle.asm_group.specs.Group.{Group}
 use Rattle.asm_group.specs.Names.{Bytes}
 use Rattle.asm_base.specs.declared.kinds.ExtentId.{ExtentId}
-use Rattle.command_refusals.specs.declared.refusal.Refusal.{Refusal}
+use Rattle.refusal_lines.specs.declared.refusal.Refusal.{Refusal}
 use Rattle.asm_images.specs.Kept.{Kept}
 use Rattle.record_laws.specs.group_of.Describing.{KeepsNames}
 use Rattle.record_laws.specs.group_engine.declared.flight.Flight.{Flight}

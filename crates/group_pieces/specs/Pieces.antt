@@ -2,10 +2,10 @@
 use Rattle.std.specs.Prelude.{◌≡◌, ⊤, ℕ}
 use Rattle.bay.specs.State.{BayState}
 use Rattle.asm_base.specs.declared.kinds.ExtentId.{ExtentId}
-use Rattle.command_refusals.specs.declared.refusal.DiskRef.{DiskRef}
-use Rattle.command_refusals.specs.declared.refusal.DiskRef.TheVariants as disk
-use Rattle.command_refusals.specs.declared.refusal.Refusal.{Refusal}
-use Rattle.command_refusals.specs.declared.refusal.Refusal.TheVariants as cause
+use Rattle.refusal_lines.specs.declared.refusal.DiskRef.{DiskRef}
+use Rattle.refusal_lines.specs.declared.refusal.DiskRef.TheVariants as disk
+use Rattle.refusal_lines.specs.declared.refusal.Refusal.{Refusal}
+use Rattle.refusal_lines.specs.declared.refusal.Refusal.TheVariants as cause
 use Rattle.record_laws.specs.group_engine.Commits.{DismountCause}
 use Rattle.record_laws.specs.group_engine.Mounts.{MountedGroup}
 use Rattle.group_pieces.specs.declared.writing.WriteError.{WriteError}

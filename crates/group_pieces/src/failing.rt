@@ -10,10 +10,10 @@ ghost use Rattle.group_pieces.specs.Held.{FailedHeld};
 
 use asm_base::{DiskSet, Mode, NoMemory};
 use bay::Bay;
-use command_refusals::Refusal;
 use record_laws::{
     Mounted, PstEntry, PstRecord, partners_of as partners, with_offline, with_partners,
 };
+use refusal_lines::Refusal;
 use std::alloc::Global;
 
 /// Takes disks Offline since a second, with the repair time of the group's attribute. Refusals: Dismounted; NoMemory.

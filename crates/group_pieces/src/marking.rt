@@ -12,8 +12,8 @@ use crate::copies::Place;
 use crate::usable::{extent_of, place};
 use asm_base::{DiskSet, ExtentId};
 use bay::Bay;
-use command_refusals::Refusal;
 use record_laws::{Extent, Mounted};
+use refusal_lines::Refusal;
 use std::alloc::Global;
 
 /// Marks the copies of an extent stale that are there and aren't marked, and that didn't take the bytes from an inner byte on, which the

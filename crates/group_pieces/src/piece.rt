@@ -19,8 +19,8 @@ use crate::moving::follow_move;
 use crate::writing::{WriteError, write_usable};
 use asm_base::{DiskSet, ExtentId};
 use bay::Bay;
-use command_refusals::{DiskRef, Refusal};
 use record_laws::Mounted;
+use refusal_lines::{DiskRef, Refusal};
 use std::alloc::Global;
 
 /// Writes and syncs bytes of an extent, from an inner byte on, at its usable copies. A copy that didn't take them is marked stale, and a

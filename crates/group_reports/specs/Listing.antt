@@ -9,8 +9,8 @@ use Rattle.asm_group.specs.TreeEdits.{last_part, up}
 use Rattle.asm_formats.specs.Items.{FileHead, Node}
 use Rattle.asm_base.specs.Names.{path_text_in_group}
 use Rattle.asm_base.specs.declared.path.Path as code
-use Rattle.command_refusals.specs.declared.refusal.Refusal.{Refusal}
-use Rattle.command_refusals.specs.declared.refusal.Refusal.TheVariants as cause
+use Rattle.refusal_lines.specs.declared.refusal.Refusal.{Refusal}
+use Rattle.refusal_lines.specs.declared.refusal.Refusal.TheVariants as cause
 use Rattle.asm_world.specs.Listings.{has_star, is_match}
 use Rattle.asm_world.specs.Reports as reports
 use Rattle.asm_world.specs.Reports.{Listed}

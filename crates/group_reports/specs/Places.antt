@@ -6,8 +6,8 @@ use Rattle.asm_group.specs.Names.{Bytes, Path, folded_path, is_part}
 use Rattle.asm_group.specs.TreeEdits.{is_under}
 use Rattle.asm_formats.specs.Items.{Node}
 use Rattle.asm_base.specs.declared.path.Path as code
-use Rattle.command_refusals.specs.declared.refusal.Refusal.{Refusal}
-use Rattle.command_refusals.specs.declared.refusal.Refusal.TheVariants.{NoName, NotDirectory}
+use Rattle.refusal_lines.specs.declared.refusal.Refusal.{Refusal}
+use Rattle.refusal_lines.specs.declared.refusal.Refusal.TheVariants.{NoName, NotDirectory}
 use Rattle.alias_tree.specs.Nodes.{is_directory, node_at, number_of}
 use Rattle.alias_tree.specs.Spelling.{names_to}
 use Rattle.catalog_laws.specs.catalog_tables.Tables.{Tables}

@@ -2,7 +2,7 @@
 
 ghost use Rattle.std.specs.Prelude.{◌≡◌, ◌++◌, false, true, IfErr, IfOk, IfSome, IsSomeAnd, MatchOption, OnOk};
 ghost use Rattle.std.specs.Option.{option_map, option_to_list};
-ghost use Rattle.command_refusals.specs.declared.refusal.Refusal.TheVariants as cause;
+ghost use Rattle.refusal_lines.specs.declared.refusal.Refusal.TheVariants as cause;
 ghost use Rattle.asm_group.specs.TreeEdits.{last_part, up};
 ghost use Rattle.asm_world.specs.Listings.{has_star};
 ghost use Rattle.asm_world.specs.Reports.{AliasName, Directory, ListedSystemName};
@@ -16,8 +16,8 @@ use alias_tree::Node;
 use asm_base::{List, Name, NoMemory, NodeKind, Text};
 use asmcmd::{LsRow, path_text};
 use catalog_laws::Catalog;
-use command_refusals::Refusal;
 use file_directory::FileHead;
+use refusal_lines::Refusal;
 use std::alloc::Global;
 use verb_paths::{has_star, is_match};
 

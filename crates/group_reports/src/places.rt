@@ -7,7 +7,7 @@ ghost use Rattle.group_reports.specs.Places.{directory_at, directory_in, is_dire
 
 use asm_base::{List, Name, NoMemory, NodeKind, Path, Text};
 use catalog_laws::Catalog;
-use command_refusals::Refusal;
+use refusal_lines::Refusal;
 use std::alloc::Global;
 
 /// Whether a node is a directory. The root is 0.

@@ -10,8 +10,8 @@ use crate::words::{copies_text, disk_kind, kind_text, stripe_text, yes_or_no};
 use asm_base::{List, Name, NoMemory, Text};
 use asmcmd::{DiskRow, GroupRow, TemplateRow};
 use catalog_laws::Catalog;
-use command_refusals::mode_text;
 use extent_copies::Template;
+use refusal_lines::mode_text;
 use status_table::{PstEntry, PstRecord};
 use std::alloc::Global;
 

@@ -1,7 +1,7 @@
 //! What comes of calls.
 
 use asm_base::Mode;
-use command_refusals::{DiskRef, Refusal};
+use refusal_lines::{DiskRef, Refusal};
 use relocation::{Resynced, Slice};
 
 /// What comes of a call.

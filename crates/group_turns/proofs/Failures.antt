@@ -1,8 +1,8 @@
 -- What a refusal of an expiry or a slice says.
 use Rattle.std.proofs.Common.{◌≡◌, refl}
-use Rattle.command_refusals.specs.declared.refusal.DiskRef.{DiskRef}
-use Rattle.command_refusals.specs.declared.refusal.Refusal.{Refusal}
-use Rattle.command_refusals.specs.declared.refusal.Refusal.TheVariants as cause
+use Rattle.refusal_lines.specs.declared.refusal.DiskRef.{DiskRef}
+use Rattle.refusal_lines.specs.declared.refusal.Refusal.{Refusal}
+use Rattle.refusal_lines.specs.declared.refusal.Refusal.TheVariants as cause
 use Rattle.group_turns.specs.Slices.{failure_of}
 use Rattle.group_turns.specs.declared.failure.Failure.TheVariants as failure
 

@@ -2,10 +2,10 @@
 use Rattle.std.specs.Prelude.{◌≡◌, ⊤, ℕ, Option, Some, None, Result, Ok, Err}
 use Rattle.asm_formats.specs.Items.{DiskInfo}
 use Rattle.asm_group.specs.Names.{Bytes}
-use Rattle.command_refusals.specs.declared.refusal.DiskRef.{DiskRef}
-use Rattle.command_refusals.specs.declared.refusal.DiskRef.TheVariants as disk
-use Rattle.command_refusals.specs.declared.refusal.Refusal.{Refusal}
-use Rattle.command_refusals.specs.declared.refusal.Refusal.TheVariants as cause
+use Rattle.refusal_lines.specs.declared.refusal.DiskRef.{DiskRef}
+use Rattle.refusal_lines.specs.declared.refusal.DiskRef.TheVariants as disk
+use Rattle.refusal_lines.specs.declared.refusal.Refusal.{Refusal}
+use Rattle.refusal_lines.specs.declared.refusal.Refusal.TheVariants as cause
 use Rattle.asm_world.specs.Reply as w
 use Rattle.asm_world.specs.Text.{event_text}
 use Rattle.disk_modes.specs.disk_directory.Disks.{info_at}

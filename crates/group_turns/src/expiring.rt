@@ -7,10 +7,10 @@ ghost use Rattle.group_turns.specs.Turns.{BeforeText, IsLineOf, OnEvent, OnIdle,
 use crate::failure::{Failure, failure_of, shown_name};
 use crate::taking::Turned;
 use bay::Bay;
-use command_refusals::Refusal;
 use disk_modes::{Mounted, expire, expiring_disk as expiring};
 use event_lines::Event;
 use line_buffer::LineBuffer;
+use refusal_lines::Refusal;
 use std::alloc::Global;
 
 /// Drops the least Offline disk whose time is up at a second and that may go, where there is one, and writes the line of it.

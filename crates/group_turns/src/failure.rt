@@ -4,8 +4,8 @@ ghost use Rattle.std.specs.Option.{option_copied};
 ghost use Rattle.group_turns.specs.Slices.{failure_by, failure_of, fault_by, shown_name};
 
 use asm_base::Name;
-use command_refusals::{DiskRef, Refusal};
 use disk_modes::Mounted;
+use refusal_lines::{DiskRef, Refusal};
 
 /// Why an expiry or a slice ended early, with the disk by its number.
 #[derive(Clone, Copy, Debug)]

@@ -11,10 +11,10 @@ ghost use Rattle.group_turns.specs.Turns.{AfterReply, IsLineOf, OnEvent, OnIdle,
 use crate::failure::{Failure, failure_of, shown_name};
 use crate::taking::Turned;
 use bay::Bay;
-use command_refusals::Refusal;
 use disk_modes::Mounted;
 use event_lines::{Event, Rebalanced, Resynced};
 use line_buffer::LineBuffer;
+use refusal_lines::Refusal;
 use relocation::{Resynced as Synced, Slice, slice, sync_slice, syncing_disk};
 use std::alloc::Global;
 

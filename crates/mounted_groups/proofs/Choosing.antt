@@ -8,8 +8,8 @@ use Rattle.std.proofs.lemmas.List.Elements.{All-append}
 use Rattle.std.proofs.lemmas.List.Folds.{list_all-append}
 use Rattle.asm_group.specs.Names.{Bytes, is_letter, is_name_byte, is_name, is_part}
 use Rattle.asm_group.specs.Refusal as r
-use Rattle.command_refusals.specs.declared.refusal.Refusal.{Refusal}
-use Rattle.command_refusals.specs.Refusals.{meaning_of}
+use Rattle.refusal_lines.specs.declared.refusal.Refusal.{Refusal}
+use Rattle.refusal_lines.specs.Refusals.{meaning_of}
 use Rattle.asm_base.specs.Names.{name_of}
 use Rattle.asm_base.proofs.NameLaws.{name_is_part}
 use Rattle.mounted_groups.specs.declared.find.Probe.{Probe}

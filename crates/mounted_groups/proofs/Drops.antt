@@ -9,10 +9,10 @@ use Rattle.bay.specs.Moments.{NowOnly, Runs}
 use Rattle.bay.specs.State.{BayState, IsSlot, KeepsAttached, size_of}
 use Rattle.bay.proofs.Calls.{attached-trans, goes_on, on_more, started, stops, widened}
 use Rattle.bay.proofs.Images.{changes-same, changes-trans, changes-within, same-refl}
-use Rattle.gate_slot.specs.Slot.{GateOf, MayClose}
-use Rattle.gate_slot.specs.declared.place.Place.{Place}
-use Rattle.command_refusals.specs.declared.refusal.Refusal.{Refusal}
-use Rattle.command_refusals.specs.declared.refusal.Refusal.TheVariants as refusal
+use Rattle.body_slot.specs.Slot.{GateOf, MayClose}
+use Rattle.body_slot.specs.declared.place.Place.{Place}
+use Rattle.refusal_lines.specs.declared.refusal.Refusal.{Refusal}
+use Rattle.refusal_lines.specs.declared.refusal.Refusal.TheVariants as refusal
 use Rattle.asm_group.specs.Shape.{Shape, is_dir_blocks, is_sector, is_shape, is_step, is_unit_size}
 use Rattle.asm_formats.specs.Metadata.{header_of}
 use Rattle.asm_images.specs.Kept.{header_in}

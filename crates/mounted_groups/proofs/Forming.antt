@@ -5,8 +5,8 @@ use Rattle.std.proofs.lemmas.Bool.{cases_Bool, false≢true}
 use Rattle.std.proofs.lemmas.Option.{same_Some, none-some}
 use Rattle.bay.specs.Image.{Image, ChangesOnly}
 use Rattle.bay.proofs.Images.{window-same}
-use Rattle.gate_slot.specs.Slot.{is_open_in, shown_body, MayClose}
-use Rattle.gate_slot.proofs.Steps.{shown-closed, shown-shut}
+use Rattle.body_slot.specs.Slot.{is_open_in, shown_body, MayClose}
+use Rattle.body_slot.proofs.Steps.{shown-closed, shown-shut}
 use Rattle.disk_forming.specs.Places.{gated_slot_at}
 use Rattle.disk_forming.specs.Gates.{MayCloseAll}
 use Rattle.disk_forming.specs.Forming.{MetaOf}

@@ -1,7 +1,7 @@
 -- A group that was found is taken over: what that leaves on the disks, until its record is written anew and once it is.
 use Rattle.std.proofs.Common.{◌≡◌, inl, ℕ, ◌<◌, IsSome, List, [], ◌∷◌, refl, sym, subst, ◌∙◌, Option, Some, None, Result, Ok}
 use Rattle.std.proofs.lemmas.Bool.{false≢true}
-use Rattle.command_refusals.specs.declared.refusal.Refusal.{Refusal}
+use Rattle.refusal_lines.specs.declared.refusal.Refusal.{Refusal}
 use Rattle.bay.specs.Image.{Image, Same}
 use Rattle.bay.specs.Moments.{NowOnly, Runs}
 use Rattle.bay.specs.State.{BayState, IsSound}

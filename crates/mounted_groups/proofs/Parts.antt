@@ -6,8 +6,8 @@ use Rattle.bay.specs.State.{BayState, IsSound, KeepsAttached, size_of}
 use Rattle.bay.specs.Moments.{Runs, Ends, NowOnly, LeavesOnly}
 use Rattle.bay.proofs.Calls.{goes_on, stops, leaves_only, now_only, both_done, widened}
 use Rattle.bay.proofs.Images.{changes-within, changes-trans}
-use Rattle.gate_slot.specs.Slot.{PlaceOf, shown_body}
-use Rattle.gate_slot.proofs.Steps.{shown-elsewhere}
+use Rattle.body_slot.specs.Slot.{PlaceOf, shown_body}
+use Rattle.body_slot.proofs.Steps.{shown-elsewhere}
 use Rattle.change_directory.specs.declared.copy.DirCopy.{DirCopy}
 use Rattle.change_directory.specs.declared.copy.LogSlot.TheVariants.{First, Second}
 use Rattle.change_directory.specs.Places.{IsCopy}

@@ -3,8 +3,8 @@ use Rattle.std.proofs.Common.{◌≡◌, ℕ, ◌+◌, ◌*◌, ◌<◌, ◌≤�
 use Rattle.std.proofs.lemmas.Bool.{cond_both}
 use Rattle.std.proofs.lemmas.Option.{same_Some, none-some}
 use Rattle.bay.specs.Image.{Image, window}
-use Rattle.gate_slot.specs.Slot.{shown_body, is_open_in, body_in}
-use Rattle.gate_slot.proofs.Steps.{shown-shut}
+use Rattle.body_slot.specs.Slot.{shown_body, is_open_in, body_in}
+use Rattle.body_slot.proofs.Steps.{shown-shut}
 use Rattle.disk_forming.specs.Places.{gated_slot_at}
 use Rattle.asm_formats.specs.Bytes.{is_open, block}
 use Rattle.asm_images.specs.Bridge.{disk_bytes}

@@ -3,9 +3,9 @@ use Rattle.std.specs.Prelude.{◌≡◌, ◌<◌, ⊤, ℕ, Bool, false, not, if
 use Rattle.std.specs.Option.{option_map}
 use Rattle.bay.specs.Counts.{Rose}
 use Rattle.bay.specs.State.{BayState}
-use Rattle.command_refusals.specs.declared.refusal.DiskRef.TheVariants as disk
-use Rattle.command_refusals.specs.declared.refusal.Refusal.{Refusal}
-use Rattle.command_refusals.specs.declared.refusal.Refusal.TheVariants as refusal
+use Rattle.refusal_lines.specs.declared.refusal.DiskRef.TheVariants as disk
+use Rattle.refusal_lines.specs.declared.refusal.Refusal.{Refusal}
+use Rattle.refusal_lines.specs.declared.refusal.Refusal.TheVariants as refusal
 use Rattle.asm_formats.specs.Among.{IsAmong}
 use Rattle.asm_formats.specs.Items.{DiskInfo}
 use Rattle.asm_formats.specs.Status.{Entry, entry_of}

@@ -4,8 +4,8 @@ use Rattle.bay.specs.Counts.{Rose}
 use Rattle.bay.specs.Image.{Image, ChangesOnly}
 use Rattle.bay.specs.Moments.{NowOnly, Runs}
 use Rattle.bay.specs.State.{BayState, KeepsAttached}
-use Rattle.command_refusals.specs.declared.refusal.Refusal.{Refusal}
-use Rattle.command_refusals.specs.declared.refusal.Refusal.TheVariants as refusal
+use Rattle.refusal_lines.specs.declared.refusal.Refusal.{Refusal}
+use Rattle.refusal_lines.specs.declared.refusal.Refusal.TheVariants as refusal
 use Rattle.asm_images.specs.Kept.{header_in}
 use Rattle.group_recovery.specs.disk_images.Headers.{HasHeaderSlot}
 use Rattle.group_engine.specs.file_directory.Files.{is_file_number}

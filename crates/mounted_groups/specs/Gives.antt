@@ -6,8 +6,8 @@ use Rattle.bay.specs.Moments.{Ends, LeavesOnly, NowOnly, Runs}
 use Rattle.bay.specs.State.{BayState, IsSlot, KeepsAttached}
 use Rattle.bay.specs.declared.fault.BayError.{BayError}
 use Rattle.bay.specs.declared.fault.BayError.TheVariants.{Fault}
-use Rattle.command_refusals.specs.declared.refusal.Refusal.{Refusal}
-use Rattle.command_refusals.specs.Refusals.{meaning_of}
+use Rattle.refusal_lines.specs.declared.refusal.Refusal.{Refusal}
+use Rattle.refusal_lines.specs.Refusals.{meaning_of}
 use Rattle.change_directory.specs.StoreLaws.{RegionOf}
 use Rattle.group_recovery.specs.directory_store.Stores.{Stored}
 use Rattle.disk_forming.specs.Forming.{MetaOf}

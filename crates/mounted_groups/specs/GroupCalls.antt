@@ -4,8 +4,8 @@ use Rattle.bay.specs.Counts.{last_count}
 use Rattle.bay.specs.Image.{Same}
 use Rattle.bay.specs.Moments.{Runs}
 use Rattle.bay.specs.State.{BayState}
-use Rattle.command_refusals.specs.declared.refusal.Refusal.{Refusal}
-use Rattle.command_refusals.specs.Refusals.{meaning_of}
+use Rattle.refusal_lines.specs.declared.refusal.Refusal.{Refusal}
+use Rattle.refusal_lines.specs.Refusals.{meaning_of}
 use Rattle.asm_group.specs.Names.{Bytes}
 use Rattle.group_recovery.specs.declared.error.MountError.{MountError}
 use Rattle.group_recovery.specs.declared.quorum.MountOption.{MountOption}

@@ -2,8 +2,8 @@
 use Rattle.std.specs.Prelude.{◌≡◌, ℕ, ◌<◌, ◌≤◌, All, List, [], None, Result, Some, IfErr, IfOk}
 use Rattle.bay.specs.Counts.{last_count}
 use Rattle.bay.specs.State.{BayState}
-use Rattle.command_refusals.specs.declared.refusal.Refusal.{Refusal}
-use Rattle.command_refusals.specs.Refusals.{meaning_of}
+use Rattle.refusal_lines.specs.declared.refusal.Refusal.{Refusal}
+use Rattle.refusal_lines.specs.Refusals.{meaning_of}
 use Rattle.asm_group.specs.Names.{Bytes}
 use Rattle.asm_images.specs.Kept.{header_in}
 use Rattle.group_engine.specs.declared.attached.Attached.{Attached}

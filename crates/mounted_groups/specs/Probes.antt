@@ -5,8 +5,8 @@ use Rattle.bay.specs.Image.{Image}
 use Rattle.bay.specs.Counts.{Rose}
 use Rattle.asm_group.specs.Names.{Bytes}
 use Rattle.asm_group.specs.Refusal as r
-use Rattle.command_refusals.specs.declared.refusal.Refusal.{Refusal}
-use Rattle.command_refusals.specs.Refusals.{meaning_of}
+use Rattle.refusal_lines.specs.declared.refusal.Refusal.{Refusal}
+use Rattle.refusal_lines.specs.Refusals.{meaning_of}
 use Rattle.asm_formats.specs.Header.{Header}
 use Rattle.asm_formats.specs.Regions.{most_units}
 use Rattle.asm_images.specs.Kept.{header_in}

@@ -1,6 +1,6 @@
 // The directory copies that lag behind are brought up by the mount: those that the record named, on disks that were read.
 ghost use Rattle.std.specs.Prelude.{◌≡◌, ◌+◌, ◌*◌, ◌<◌, ◌≤◌, None, Some, get_or, OnOk, IfErr};
-ghost use Rattle.command_refusals.specs.declared.refusal.Refusal.TheVariants.{NoMemory as WithoutMemory};
+ghost use Rattle.refusal_lines.specs.declared.refusal.Refusal.TheVariants.{NoMemory as WithoutMemory};
 ghost use Rattle.asm_formats.specs.Regions.{has_region};
 ghost use Rattle.mounted_groups.specs.Bringing.{HasNamedCopies, BringsCopiesUp, BringsCopyUp, has_named_copy};
 ghost use Rattle.group_engine.specs.Mounts.{IsMounted, Takes};
@@ -9,9 +9,9 @@ ghost use Rattle.status_register.specs.Registered.{AreNumbered};
 
 use asm_base::DiskSet;
 use bay::Bay;
-use command_refusals::Refusal;
 use group_engine::Mounted;
 use group_recovery::has_region;
+use refusal_lines::Refusal;
 use status_register::{Member, is_of_entry};
 use status_table::PstRecord;
 use std::alloc::Global;

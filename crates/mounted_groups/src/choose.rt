@@ -3,14 +3,14 @@ ghost use Rattle.std.specs.Prelude.{◌≡◌, ◌==◌, ◌≤◌, ◌<◌, ◌
 ghost use Rattle.std.specs.List.{list_any};
 ghost use Rattle.bay.specs.Counts.{last_count};
 ghost use Rattle.asm_group.specs.Names.{is_name};
-ghost use Rattle.command_refusals.specs.Refusals.{meaning_of};
+ghost use Rattle.refusal_lines.specs.Refusals.{meaning_of};
 ghost use Rattle.asm_group.specs.Refusal.{NoDisk, DiskTaken, TooSmall, WriteFault};
 ghost use Rattle.mounted_groups.specs.Creating.{units_needed};
 ghost use Rattle.mounted_groups.specs.Probes.{IsUsableProbe, IsUnusable, SaysRefusal, size_shown};
 
 use crate::find::Probe;
 use asm_base::{MOST_UNITS, Name, NoMemory, Text};
-use command_refusals::{DiskRef, Refusal};
+use refusal_lines::{DiskRef, Refusal};
 use std::alloc::Global;
 
 /// The bytes of a unit.

@@ -5,9 +5,9 @@ ghost use Rattle.group_engine.specs.Mounts.{IsMounted, Takes};
 ghost use Rattle.group_engine.specs.Pending.{EndsOn};
 
 use bay::Bay;
-use command_refusals::{DiskRef, Refusal};
 use group_engine::Mounted;
 use group_recovery::{Catalog, MountError};
+use refusal_lines::{DiskRef, Refusal};
 use status_register::{Member, is_of_entry};
 use status_table::PstRecord;
 use std::alloc::Global;

@@ -2,7 +2,7 @@
 ghost use Rattle.std.specs.Prelude.{◌≡◌, ◌≤◌, ◌<◌, [], IsTrue, map, length, IfErr, IfOk};
 ghost use Rattle.asm_group.specs.Names.{is_name};
 ghost use Rattle.std.specs.String.{string_bytes};
-ghost use Rattle.command_refusals.specs.Refusals.{meaning_of};
+ghost use Rattle.refusal_lines.specs.Refusals.{meaning_of};
 ghost use Rattle.asm_group.specs.Refusal.{NoMemory};
 ghost use Rattle.asm_formats.specs.Regions.{most_units};
 ghost use Rattle.mounted_groups.specs.Creating.{units_needed};
@@ -21,9 +21,9 @@ use crate::mount_new::mount_new;
 use crate::new_group::{Bodies, NewGroup, first_bodies};
 use asm_base::Name;
 use bay::{Bay, BayError};
-use command_refusals::Refusal;
 use group_engine::{Attached, Mounted};
 use group_recovery::Store;
+use refusal_lines::Refusal;
 use std::alloc::Global;
 
 /// Creates an EXTERNAL group on the image at a path, which is one of the program's images. The ids in the headers that were

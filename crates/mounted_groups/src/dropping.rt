@@ -5,9 +5,9 @@ ghost use Rattle.mounted_groups.specs.GroupCalls.{DropsGroup};
 ghost use Rattle.group_engine.specs.Mounts.{Takes};
 
 use bay::Bay;
-use command_refusals::Refusal;
 use group_engine::Mounted;
 use group_recovery::close_header;
+use refusal_lines::Refusal;
 
 /// Whether the group has a file.
 fn has_file(m: &Mounted) -> bool

@@ -1,7 +1,7 @@
 //! An image is made anew, of zeros.
 ghost use Rattle.std.specs.Prelude.{◌≤◌, [], IfErr, OnOk, length, map};
 ghost use Rattle.std.specs.String.{string_bytes};
-ghost use Rattle.command_refusals.specs.Refusals.{meaning_of};
+ghost use Rattle.refusal_lines.specs.Refusals.{meaning_of};
 ghost use Rattle.asm_group.specs.Refusal.{ReadFault};
 ghost use Rattle.mounted_groups.specs.FirstParts.{SparesAllBut};
 ghost use Rattle.mounted_groups.specs.Found.{counts_of};
@@ -13,8 +13,8 @@ use crate::choose::{disk_taken, is_held, no_disk};
 use crate::find::slot_of;
 use asm_base::{NoMemory, Text};
 use bay::{Bay, BayError};
-use command_refusals::{DiskRef, Refusal};
 use group_recovery::{Looked, look_at};
+use refusal_lines::{DiskRef, Refusal};
 use std::alloc::Global;
 
 /// The image at the path couldn't be read.

@@ -10,9 +10,9 @@ use crate::bringing::{bring_all, named_disks};
 use crate::clearing::{clean_up, refusal_of_commit};
 use asm_base::{DiskSet, Name};
 use bay::Bay;
-use command_refusals::Refusal;
 use group_engine::{Attached, Mounted};
 use group_recovery::{Found, MountError, MountOption, Parts};
+use refusal_lines::Refusal;
 use status_register::Member;
 use std::alloc::Global;
 

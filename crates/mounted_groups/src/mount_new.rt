@@ -1,6 +1,6 @@
 // A new group is mounted as it was created: its parts are what was written.
 ghost use Rattle.std.specs.Prelude.{◌≡◌, [], Some, IfErr, IfOk};
-ghost use Rattle.command_refusals.specs.Refusals.{meaning_of};
+ghost use Rattle.refusal_lines.specs.Refusals.{meaning_of};
 ghost use Rattle.asm_group.specs.Refusal.{NoMemory as WithoutMemory};
 ghost use Rattle.group_recovery.specs.catalog_tables.Faults.{IsCatalogOf};
 ghost use Rattle.group_recovery.specs.directory_store.Stores.{AreFirst};
@@ -11,9 +11,9 @@ ghost use Rattle.mounted_groups.specs.Planned.{IsGroupPlan, first_entries, recor
 use crate::new_group::{NewGroup, first_status};
 use asm_base::{GroupKind, NoMemory, Shape};
 use bay::Bay;
-use command_refusals::Refusal;
 use group_engine::{Attached, Mounted};
 use group_recovery::{Catalog, CatalogError, Store};
+use refusal_lines::Refusal;
 use status_register::{Member, Register};
 use status_table::PstRecord;
 use std::alloc::Global;

@@ -17,7 +17,7 @@ ghost use Rattle.session.specs.Sessions.{AreReady};
 use alias_edits::TreeEdit;
 use asm_base::{Name, NoMemory, Path, Text};
 use bay::{Bay, Host};
-use command_refusals::Refusal;
+use refusal_lines::Refusal;
 use session::{Answer, Desk, GroupEdit, answer_of, no_memory, path_in, path_of_verb, refused};
 use std::alloc::Global;
 use verb_paths::target;

@@ -11,8 +11,8 @@ ghost use Rattle.session.specs.Sessions.{AreReady};
 use crate::names::{edit_named, refused_in};
 use asm_base::{Name, NoMemory, Redundancy, Stripe};
 use bay::{Bay, Host};
-use command_refusals::Refusal;
 use group_sql::{Attribute, TemplateWords};
+use refusal_lines::Refusal;
 use session::{Answer, Desk, GroupEdit, no_memory};
 use template_directory::TemplateEdit;
 

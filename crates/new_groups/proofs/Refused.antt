@@ -8,8 +8,8 @@ use Rattle.bay.specs.State.{BayState}
 use Rattle.asm_group.specs.declared.GroupKind.{GroupKind}
 use Rattle.asm_world.specs.NewDisks.{PlannedDisk, is_name_taken, needed_groups, regular_groups}
 use Rattle.asm_group.specs.Refusal as r
-use Rattle.command_refusals.specs.Refusals.{meaning_of}
-use Rattle.command_refusals.specs.declared.refusal.Refusal.{Refusal}
+use Rattle.refusal_lines.specs.Refusals.{meaning_of}
+use Rattle.refusal_lines.specs.declared.refusal.Refusal.{Refusal}
 use Rattle.mounted_groups.specs.Probes.{SaysRefusal}
 use Rattle.mounted_groups.proofs.group_recovery.Told.{rose_before}
 use Rattle.mounted_groups.specs.group_recovery.declared.finding.Headed.{Headed}

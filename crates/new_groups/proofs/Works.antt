@@ -15,8 +15,8 @@ use Rattle.directory_store.specs.Answers.{IsFirstRefusal}
 use Rattle.directory_store.specs.Copies as copies
 use Rattle.directory_store.specs.declared.error.StoreError.{StoreError}
 use Rattle.directory_store.specs.declared.error.StoreError.TheVariants.{Gone}
-use Rattle.gate_slot.specs.Slot.{MayPut, PlaceOf}
-use Rattle.gate_slot.specs.declared.place.Place.{Place}
+use Rattle.body_slot.specs.Slot.{MayPut, PlaceOf}
+use Rattle.body_slot.specs.declared.place.Place.{Place}
 use Rattle.disk_images.specs.disk_forming.Gates.{GatesOf, MayCloseAll}
 use Rattle.disk_images.specs.disk_forming.Places.{all_gates}
 use Rattle.mounted_groups.specs.group_recovery.Verdicts.{IsSlotIn}

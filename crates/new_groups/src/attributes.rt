@@ -1,6 +1,6 @@
 //! The attributes of a creation.
 ghost use Rattle.std.specs.Prelude.{◌≡◌, [], IfErr, IfOk, IsTrue, Ok, Some};
-ghost use Rattle.command_refusals.specs.Refusals.{meaning_of};
+ghost use Rattle.refusal_lines.specs.Refusals.{meaning_of};
 ghost use Rattle.asm_group.specs.Shape.{is_shape};
 ghost use Rattle.asm_world.specs.Settings.{created_with, creation, with_creation_attribute};
 ghost use Rattle.mounted_groups.specs.attribute_values.Creations.{IsNewCreation, creation_meant};
@@ -8,9 +8,9 @@ ghost use Rattle.new_groups.specs.Refusing.{IsNotTaken, IsRefusedAs};
 
 use crate::refusals::bad_attribute;
 use asm_base::{GroupKind, NoMemory};
-use command_refusals::Refusal;
 use mounted_groups::Creation;
 use new_disks::Attribute;
+use refusal_lines::Refusal;
 use std::alloc::Global;
 
 /// The creation with all its attributes, whose unit must have eight sectors at least. NoMemory is answered, too, where the

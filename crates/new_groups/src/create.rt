@@ -2,7 +2,7 @@
 
 ghost use Rattle.std.specs.Prelude.{◌≤◌, ◌<◌, [], All, IfErr, IfOk, IfSome, IsSome, OnOk, Some, length, map};
 ghost use Rattle.std.specs.String.{string_bytes};
-ghost use Rattle.command_refusals.specs.Refusals.{meaning_of};
+ghost use Rattle.refusal_lines.specs.Refusals.{meaning_of};
 ghost use Rattle.bay.specs.Counts.{last_count};
 ghost use Rattle.mounted_groups.specs.FirstParts.{IsNewlyMounted};
 ghost use Rattle.mounted_groups.specs.Holding.{SparesHeld};
@@ -17,8 +17,8 @@ use crate::mounting::mount_formed;
 use crate::preparing::{Ready, prepare};
 use asm_base::NoMemory;
 use bay::Bay;
-use command_refusals::Refusal;
 use mounted_groups::Mounted;
+use refusal_lines::Refusal;
 use std::alloc::Global;
 
 /// Forms and mounts a group that is ready.

@@ -1,6 +1,6 @@
 //! The disks of a new group get their parts: headers, directory copies, claims, and last the record.
 ghost use Rattle.std.specs.Prelude.{◌≡◌, [], IfErr, IfOk, IsTrue};
-ghost use Rattle.command_refusals.specs.Refusals.{meaning_of};
+ghost use Rattle.refusal_lines.specs.Refusals.{meaning_of};
 ghost use Rattle.asm_group.specs.Shape.{is_shape};
 ghost use Rattle.bay.specs.Image.{ChangesOnly};
 ghost use Rattle.bay.specs.Moments.{Runs};
@@ -17,10 +17,10 @@ use crate::lists::Lists;
 use crate::preparing::Ready;
 use asm_base::Shape;
 use bay::{Bay, Fault};
-use command_refusals::Refusal;
 use directory_store::{Store, StoreError};
 use disk_images::{close_gates, write_header};
 use mounted_groups::{Headed, write_fault};
+use refusal_lines::Refusal;
 use status_register::{Dead, Register, claim_first};
 use std::alloc::Global;
 

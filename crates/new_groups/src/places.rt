@@ -3,17 +3,17 @@
 ghost use Rattle.std.specs.Prelude.{◌≡◌, ◌≤◌, ◌+◌, ◌++◌, [], IfErr, IfOk, None, OnOk, length, map};
 ghost use Rattle.std.specs.List.{list_any};
 ghost use Rattle.std.specs.String.{string_bytes};
-ghost use Rattle.command_refusals.specs.Refusals.{meaning_of};
+ghost use Rattle.refusal_lines.specs.Refusals.{meaning_of};
 ghost use Rattle.new_groups.specs.Causes.{IsThisRefusal, creation_disk, creation_disks, first_refused, is_member_taken, is_same_disk, is_place_taken, is_unread, missing_refusal, place_at_path, place_in_slot, places_at, shown_by_header, slot_from, taken_refusal};
 
 use crate::asked::{Known, Taken};
 use crate::planned::Terms;
 use asm_base::NoMemory;
-use command_refusals::Refusal;
 use disk_header::Header;
 use disk_images::Looked;
 use mounted_groups::{disk_taken, is_held, no_disk, write_fault};
 use new_disks::PlannedDisk;
+use refusal_lines::Refusal;
 use std::alloc::Global;
 
 /// What the header of an image says.

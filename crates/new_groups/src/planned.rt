@@ -1,15 +1,15 @@
 //! The disks of a creation, each with its name and its failure group.
 
 ghost use Rattle.std.specs.Prelude.{◌≡◌, ◌+◌, ◌%◌, ◌^◌, ◌<◌, ◌≤◌, ◌++◌, ◌∷◌, [], IfErr, IfOk, OnOk, length, nat_le, take, unwrap_or};
-ghost use Rattle.command_refusals.specs.Refusals.{meaning_of};
+ghost use Rattle.refusal_lines.specs.Refusals.{meaning_of};
 ghost use Rattle.asm_world.specs.NewDisks.{four_digits, planned_disk, usual_name};
 ghost use Rattle.new_groups.specs.Causes.{terms_in, terms_of};
 ghost use Rattle.new_groups.specs.Planning.{disk_count, planned_after, planned_in};
 ghost use Rattle.new_groups.specs.Refusing.{IsTooMany};
 
 use asm_base::{MOST_DISKS, Name, NoMemory};
-use command_refusals::{Limited, Refusal};
 use new_disks::{NewDisk, NewFailgroup, PlannedDisk};
+use refusal_lines::{Limited, Refusal};
 use std::alloc::Global;
 
 /// What is said of a disk beside its names.

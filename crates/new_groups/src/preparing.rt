@@ -2,7 +2,7 @@
 
 ghost use Rattle.std.specs.Prelude.{◌≡◌, ◌≤◌, ◌<◌, ◌*◌, [], All, IfErr, IfOk, IsTrue, None, OnOk, length, map};
 ghost use Rattle.std.specs.String.{string_bytes};
-ghost use Rattle.command_refusals.specs.Refusals.{meaning_of};
+ghost use Rattle.refusal_lines.specs.Refusals.{meaning_of};
 ghost use Rattle.asm_group.specs.Refusal.{NoMemory as NoMemoryLeft};
 ghost use Rattle.asm_group.specs.Shape.{is_shape};
 ghost use Rattle.bay.specs.Counts.{last_count};
@@ -22,10 +22,10 @@ use crate::planned::{Planned, planned_disks};
 use crate::sizes::all_units;
 use asm_base::{GroupKind, NoMemory, Shape};
 use bay::Bay;
-use command_refusals::Refusal;
 use disk_images::{Looked, look_at_images};
 use mounted_groups::Creation;
 use new_disks::{PlannedDisk, is_name_taken, needed_groups, regular_groups};
+use refusal_lines::Refusal;
 use std::alloc::Global;
 
 /// A group that is ready to be written.

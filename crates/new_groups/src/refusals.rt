@@ -3,7 +3,7 @@ ghost use Rattle.asm_group.specs.Refusal.{BadAttribute, TooSmall};
 ghost use Rattle.mounted_groups.specs.Probes.{SaysRefusal};
 
 use asm_base::{Name, NoMemory, Text};
-use command_refusals::{DiskRef, Refusal};
+use refusal_lines::{DiskRef, Refusal};
 use std::alloc::Global;
 
 /// The attribute isn't one, or can't have the value.

@@ -1,6 +1,6 @@
 //! The units of the disks of a creation.
 ghost use Rattle.std.specs.Prelude.{◌≡◌, ◌+◌, [], IfErr, IsTrue, None, OnOk};
-ghost use Rattle.command_refusals.specs.Refusals.{meaning_of};
+ghost use Rattle.refusal_lines.specs.Refusals.{meaning_of};
 ghost use Rattle.asm_group.specs.Shape.{is_shape};
 ghost use Rattle.new_groups.specs.Causes.{IsThisRefusal, creation_disk, creation_disks, first_refused, small_refusal, units_of_new_disk};
 
@@ -8,9 +8,9 @@ use crate::places::Place;
 use crate::planned::Terms;
 use crate::refusals::too_small;
 use asm_base::Shape;
-use command_refusals::Refusal;
 use disk_sizes::{least_units, units_in};
 use new_disks::PlannedDisk;
+use refusal_lines::Refusal;
 use std::alloc::Global;
 
 /// The units that a disk is to have: those of the size that is said, or those of its image of so many bytes.

@@ -1,17 +1,17 @@
 //! Why a plan is refused, as a refusal of a command.
 
 ghost use Rattle.std.specs.Prelude.{◌≡◌, ◌⊎◌, []};
-ghost use Rattle.command_refusals.specs.Refusals.{meaning_of};
-ghost use Rattle.command_refusals.specs.declared.refusal.Refusal.TheVariants.{BadAttribute, NoMemory as WithoutMemory};
+ghost use Rattle.refusal_lines.specs.Refusals.{meaning_of};
+ghost use Rattle.refusal_lines.specs.declared.refusal.Refusal.TheVariants.{BadAttribute, NoMemory as WithoutMemory};
 ghost use Rattle.alias_edits.specs.Edits.{cause_said};
 
 use alias_edits::TreeError;
 use asm_base::{NoMemory, Text};
-use command_refusals::Refusal;
+use refusal_lines::Refusal;
 use std::alloc::Global;
 
 /// Why an edit of the tree of names is refused.
-#[tactic(auto, unfolding(command_refusals::specs::Refusals::meaning_of))]
+#[tactic(auto, unfolding(refusal_lines::specs::Refusals::meaning_of))]
 pub fn refusal_of(error: TreeError) -> Refusal
     ensures { meaning_of (λ n. []) result ≡ cause_said error }
 {

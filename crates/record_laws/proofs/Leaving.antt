@@ -8,7 +8,7 @@ use Rattle.bay.specs.Image as bay
 use Rattle.bay.specs.State.{BayState, IsSound}
 use Rattle.bay.proofs.Calls.{leaves_less, leaves_on}
 use Rattle.asm_group.specs.Group.{Group}
-use Rattle.command_refusals.specs.declared.refusal.Refusal.{Refusal}
+use Rattle.refusal_lines.specs.declared.refusal.Refusal.{Refusal}
 use Rattle.asm_formats.specs.Among.{IsAmong}
 use Rattle.asm_formats.specs.Header.{Header}
 use Rattle.asm_formats.specs.Metadata.{header_of}

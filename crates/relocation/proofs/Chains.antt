@@ -4,10 +4,10 @@ use Rattle.std.specs.Prelude.{IfErr, IfOk, OnOk}
 use Rattle.std.proofs.lemmas.Option.{none-some}
 use Rattle.std.specs.Bool.{OnTrue}
 use Rattle.bay.specs.State.{BayState}
-use Rattle.command_refusals.specs.declared.refusal.DiskRef.{DiskRef}
-use Rattle.command_refusals.specs.declared.refusal.DiskRef.TheVariants.{Number, Spelt}
-use Rattle.command_refusals.specs.declared.refusal.Refusal.{Refusal}
-use Rattle.command_refusals.specs.declared.refusal.Refusal.TheVariants as cause
+use Rattle.refusal_lines.specs.declared.refusal.DiskRef.{DiskRef}
+use Rattle.refusal_lines.specs.declared.refusal.DiskRef.TheVariants.{Number, Spelt}
+use Rattle.refusal_lines.specs.declared.refusal.Refusal.{Refusal}
+use Rattle.refusal_lines.specs.declared.refusal.Refusal.TheVariants as cause
 use Rattle.asm_base.specs.declared.records.Change.{Change}
 use Rattle.resync.specs.catalog.Plans.{IsPlan}
 use Rattle.resync.specs.catalog_tables.Tables.{Catalogued, Tables}

@@ -11,8 +11,8 @@ use Rattle.bay.specs.Moments.{Runs}
 use Rattle.bay.specs.State.{BayState, IsSlot, KeepsAttached, size_of}
 use Rattle.bay.proofs.Calls.{attached-trans, started, widened}
 use Rattle.bay.proofs.Images.{changes-within}
-use Rattle.gate_slot.specs.Slot.{GateOf, MayClose}
-use Rattle.gate_slot.specs.declared.place.Place.{Place}
+use Rattle.body_slot.specs.Slot.{GateOf, MayClose}
+use Rattle.body_slot.specs.declared.place.Place.{Place}
 use Rattle.asm_group.specs.Shape.{Shape, is_dir_blocks, is_sector, is_shape, is_step, is_unit_size}
 use Rattle.resync.proofs.catalog_tables.TableItems.{from_map}
 use Rattle.disk_images.specs.Headers.{HasHeaderSlot}

@@ -7,7 +7,7 @@ use Rattle.std.proofs.lemmas.Bool.{and_from, and_parts, both_ways, cases_Bool, e
 use Rattle.std.proofs.lemmas.Option.{none-some, same_Some}
 use Rattle.asm_base.specs.Records as records
 use Rattle.asm_base.specs.declared.kinds.ExtentId.{ExtentId}
-use Rattle.command_refusals.specs.declared.refusal.Refusal.{Refusal}
+use Rattle.refusal_lines.specs.declared.refusal.Refusal.{Refusal}
 use Rattle.asm_group.specs.Shape.{Shape}
 use Rattle.asm_formats.specs.Among.{IsAmong}
 use Rattle.asm_formats.specs.Items.{Home, Homes, Item, Key}

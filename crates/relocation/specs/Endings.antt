@@ -3,7 +3,7 @@ use Rattle.std.specs.Prelude.{◌≡◌, ◌==◌, ℕ, Bool, false, IfErr, OnOk
 use Rattle.bay.specs.Image.{ChangesOnly}
 use Rattle.bay.specs.Moments.{Runs}
 use Rattle.bay.specs.State.{BayState, IsSlot, KeepsAttached}
-use Rattle.command_refusals.specs.declared.refusal.Refusal.{Refusal}
+use Rattle.refusal_lines.specs.declared.refusal.Refusal.{Refusal}
 use Rattle.resync.specs.group_engine.Members.{LetsGo, LettingCause}
 use Rattle.resync.specs.group_engine.Mounts.{IsMounted, MountedGroup, Takes}
 use Rattle.resync.specs.group_engine.declared.attached.Attached.{Attached}

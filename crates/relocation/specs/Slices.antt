@@ -1,10 +1,10 @@
 -- What slices of a rebalance do, and why they are refused.
 use Rattle.std.specs.Prelude.{◌≡◌, ⊤, IfErr, OnOk, Result}
 use Rattle.bay.specs.State.{BayState}
-use Rattle.command_refusals.specs.declared.refusal.DiskRef.{DiskRef}
-use Rattle.command_refusals.specs.declared.refusal.DiskRef.TheVariants as disk
-use Rattle.command_refusals.specs.declared.refusal.Refusal.{Refusal}
-use Rattle.command_refusals.specs.declared.refusal.Refusal.TheVariants as cause
+use Rattle.refusal_lines.specs.declared.refusal.DiskRef.{DiskRef}
+use Rattle.refusal_lines.specs.declared.refusal.DiskRef.TheVariants as disk
+use Rattle.refusal_lines.specs.declared.refusal.Refusal.{Refusal}
+use Rattle.refusal_lines.specs.declared.refusal.Refusal.TheVariants as cause
 use Rattle.resync.specs.group_engine.Members.{HasFailed, IsLetDown, LetsGo}
 use Rattle.resync.specs.group_engine.Mounts.{IsMounted, MountedGroup}
 use Rattle.resync.specs.group_pieces.Faults.{RoseOnDisk}

@@ -10,8 +10,8 @@ ghost use Rattle.relocation.specs.Shortfalls.{EndsActive, IsSliceShort};
 use crate::asking::Slice;
 use asm_base::Mode;
 use bay::Bay;
-use command_refusals::Refusal;
 use disk_images::close_header;
+use refusal_lines::Refusal;
 use resync::{Attached, Mounted, PstRecord, entry_of};
 use std::alloc::Global;
 

@@ -10,7 +10,7 @@ use crate::ending::end_with;
 use crate::steps::{add_directory, copy_step, move_tables};
 use asm_base::NoMemory;
 use bay::Bay;
-use command_refusals::Refusal;
+use refusal_lines::Refusal;
 use resync::{Flight, Mounted, items_say_tables, piece_buffer, tables_have_items};
 use std::alloc::Global;
 

@@ -10,7 +10,7 @@ ghost use Rattle.resync.specs.Copying.{refusal_of};
 use crate::fitting::is_in_place;
 use asm_base::{Change, DiskSet, ExtentId, Home};
 use bay::Bay;
-use command_refusals::Refusal;
+use refusal_lines::Refusal;
 use resync::{
     Catalog, CopyError, Flight, Mounted, PstRecord, copy_piece, extent_bytes, piece_len,
     planned_moves_change_one_chunk, refusal_of, with_holders, with_next_holders,

@@ -5,9 +5,9 @@ use Rattle.std.specs.List.{cons_option, filter_map}
 use Rattle.std.specs.Option.{option_map}
 use Rattle.std.proofs.lemmas.Bool.{false≢true}
 use Rattle.bay.specs.State.{BayState}
-use Rattle.command_refusals.specs.Refusals.{meaning_of}
-use Rattle.command_refusals.specs.declared.refusal.Refusal.{Refusal}
-use Rattle.command_refusals.specs.declared.refusal.Refusal.TheVariants as cause
+use Rattle.refusal_lines.specs.Refusals.{meaning_of}
+use Rattle.refusal_lines.specs.declared.refusal.Refusal.{Refusal}
+use Rattle.refusal_lines.specs.declared.refusal.Refusal.TheVariants as cause
 use Rattle.asm_group.specs.Group.{Cell, Group}
 use Rattle.asm_group.specs.Names.{Bytes, is_same_name}
 use Rattle.asm_group.specs.Refusal as r

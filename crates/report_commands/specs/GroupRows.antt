@@ -1,7 +1,7 @@
 -- The rows of lsdg, and its lines.
 use Rattle.std.specs.Prelude.{◌≡◌, ◌⊎◌, ⊤, Bool, true, false, List, [], ◌∷◌, map, codes, is_none, is_some, Option, Some, None, MatchBool, if◌then◌else◌}
-use Rattle.command_refusals.specs.declared.refusal.Refusal.{Refusal}
-use Rattle.command_refusals.specs.declared.refusal.Refusal.TheVariants as cause
+use Rattle.refusal_lines.specs.declared.refusal.Refusal.{Refusal}
+use Rattle.refusal_lines.specs.declared.refusal.Refusal.TheVariants as cause
 use Rattle.asm_group.specs.Names.{Bytes, is_same_name}
 use Rattle.asm_world.specs.Reports.{dismounted_line, group_head, mounted_line}
 use Rattle.asm_world.specs.World.{SessionEntry, entry_among}

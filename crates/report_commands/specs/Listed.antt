@@ -1,8 +1,8 @@
 -- What ls tells of groups and in a group, and why it is refused.
 use Rattle.std.specs.Prelude.{◌≡◌, ◌⊎◌, Bool, false, List, [], ◌∷◌, map, MatchBool, Some}
 use Rattle.std.specs.List.{filter_map}
-use Rattle.command_refusals.specs.declared.refusal.Refusal.{Refusal}
-use Rattle.command_refusals.specs.declared.refusal.Refusal.TheVariants as cause
+use Rattle.refusal_lines.specs.declared.refusal.Refusal.{Refusal}
+use Rattle.refusal_lines.specs.declared.refusal.Refusal.TheVariants as cause
 use Rattle.asm_group.specs.Names.{Bytes, Path}
 use Rattle.asm_world.specs.Listings.{has_star, in_order}
 use Rattle.asm_world.specs.Reports.{Directory}

@@ -4,8 +4,8 @@ ghost use Rattle.report_commands.specs.GroupRows.{AreGroupsTold, AreLinesOf, Are
 
 use asm_base::{List, Name, NoMemory, Text};
 use asmcmd::{GroupRow, group_lines};
-use command_refusals::Refusal;
 use group_reports::{dismounted_row, group_row};
+use refusal_lines::Refusal;
 use session::{Entry, GroupName, Session};
 use std::alloc::Global;
 

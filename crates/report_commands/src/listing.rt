@@ -2,7 +2,7 @@
 ghost use Rattle.std.specs.Prelude.{◌≡◌, ◌⊎◌, ◌≤◌, IfErr, IfOk, MatchBool, OnOk, [], false, is_some, length};
 ghost use Rattle.std.specs.List.{insert};
 ghost use Rattle.std.specs.Option.{option_copied, option_map};
-ghost use Rattle.command_refusals.specs.declared.refusal.Refusal.TheVariants as cause;
+ghost use Rattle.refusal_lines.specs.declared.refusal.Refusal.TheVariants as cause;
 ghost use Rattle.asm_group.specs.Names.{is_same_name};
 ghost use Rattle.asm_world.specs.Listings.{has_star};
 ghost use Rattle.asm_world.specs.Paths.{resolved_pattern};
@@ -16,8 +16,8 @@ ghost use Rattle.report_commands.specs.Listed.{AreListLines, AreRowsListed, AreR
 
 use asm_base::{List, Name, NoMemory, Text};
 use asmcmd::{LsRow, ls_lines};
-use command_refusals::Refusal;
 use group_reports::{directory_row, rows_listed};
+use refusal_lines::Refusal;
 use session::{Entry, GroupName, Mounted, Session};
 use std::alloc::Global;
 use verb_paths::{has_star, is_match, resolve_pattern};

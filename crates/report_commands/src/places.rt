@@ -1,6 +1,6 @@
 // Where the session stands: cd and pwd.
 ghost use Rattle.std.specs.Prelude.{◌≡◌, ◌⊎◌, ◌++◌, ◌∷◌, [], Err, IfErr, IfOk, OnOk};
-ghost use Rattle.command_refusals.specs.declared.refusal.Refusal.TheVariants.{NoMemory as WantOfMemory};
+ghost use Rattle.refusal_lines.specs.declared.refusal.Refusal.TheVariants.{NoMemory as WantOfMemory};
 ghost use Rattle.asm_world.specs.Command.{Asked, Cd, Pwd};
 ghost use Rattle.asm_world.specs.Language.{command_of};
 ghost use Rattle.asm_world.specs.Paths.{path_text};
@@ -12,8 +12,8 @@ ghost use Rattle.session.specs.Sessions.{AreReady};
 use asm_base::{List, Name, NoMemory, Path, Text};
 use asmcmd::path_text;
 use bay::{Bay, Host};
-use command_refusals::Refusal;
 use group_reports::directory_at;
+use refusal_lines::Refusal;
 use session::{Answer, Desk, Mounted, Reply, Session, no_memory, refused};
 use std::alloc::Global;
 use verb_paths::{parts_in_group, resolve};

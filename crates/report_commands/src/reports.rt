@@ -12,7 +12,7 @@ use crate::listing::{listed, parts_led};
 use crate::shown::{Report, directory_led, found, told, used};
 use asm_base::{Name, Text};
 use bay::{Bay, Host};
-use command_refusals::Refusal;
+use refusal_lines::Refusal;
 use session::{Answer, Desk, answer_lines, no_memory, refused};
 use verb_paths::target;
 

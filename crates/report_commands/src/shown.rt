@@ -1,7 +1,7 @@
 // The lines of the reports on one mounted group, and of those on a directory in it: du and find.
 ghost use Rattle.std.specs.Prelude.{◌≡◌, ◌⊎◌, Err, IfErr, IfOk};
 ghost use Rattle.std.specs.Option.{option_map};
-ghost use Rattle.command_refusals.specs.declared.refusal.Refusal.TheVariants.{NoMemory as WantOfMemory};
+ghost use Rattle.refusal_lines.specs.declared.refusal.Refusal.TheVariants.{NoMemory as WantOfMemory};
 ghost use Rattle.asm_world.specs.Paths.{parts_of, resolved_or_here};
 ghost use Rattle.group_reports.specs.Places.{directory_at};
 ghost use Rattle.session.specs.Listing.{IsInGroup, IsPathCause};
@@ -10,10 +10,10 @@ ghost use Rattle.report_commands.specs.Told.{AreFoundLines, IsUsageIn, attribute
 
 use asm_base::{List, Name, NoMemory, Path, Text};
 use asmcmd::{attribute_lines, check_lines, disk_lines, path_lines, template_lines, usage_lines};
-use command_refusals::Refusal;
 use group_reports::{
     attribute_rows, check, directory_at, disk_rows, paths_found, template_rows, usage_below,
 };
+use refusal_lines::Refusal;
 use session::{Mounted, Session};
 use std::alloc::Global;
 use verb_paths::target;

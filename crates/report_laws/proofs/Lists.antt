@@ -27,7 +27,7 @@ use Rattle.asm_group.specs.Names.{Bytes, Path, folded, folded_path}
 use Rattle.asm_group.specs.Shape.{Shape}
 use Rattle.asm_group.specs.TreeEdits.{is_dir_entry, is_root, last_part, up}
 use Rattle.asm_placement.specs.Naming.{is_kind_directory, is_named_as, kind_eq, names_back}
-use Rattle.command_refusals.specs.declared.refusal.Refusal.TheVariants as cause
+use Rattle.refusal_lines.specs.declared.refusal.Refusal.TheVariants as cause
 use Rattle.asm_world.specs.Edits as edits
 use Rattle.asm_world.specs.Listings as world
 use Rattle.asm_world.specs.Listings.{first_or_none, has_star, is_child, is_match, is_system_name_of}

@@ -3,8 +3,8 @@ use Rattle.std.specs.Prelude.{◌≡◌, ◌&&◌, ℕ, List, [], ◌∷◌, ◌
 use Rattle.std.specs.List.{insert}
 use Rattle.std.specs.Ordering.{is_lt}
 use Rattle.asm_base.specs.Names.{folded_cmp}
-use Rattle.command_refusals.specs.Refusals.{meaning_of}
-use Rattle.command_refusals.specs.declared.refusal.Refusal.{Refusal}
+use Rattle.refusal_lines.specs.Refusals.{meaning_of}
+use Rattle.refusal_lines.specs.declared.refusal.Refusal.{Refusal}
 use Rattle.asm_formats.specs.Among.{IsAmong}
 use Rattle.asm_group.specs.Group.{Cell}
 use Rattle.asm_group.specs.Names.{Bytes, Path, folded}

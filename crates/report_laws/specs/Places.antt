@@ -1,7 +1,7 @@
 -- Directories of a group by its tables, as the world has them.
 use Rattle.std.specs.Prelude.{◌≡◌, ℕ, List, ◌∷◌, [], length, None, IsTrue, Ok, Err}
-use Rattle.command_refusals.specs.Refusals.{meaning_of}
-use Rattle.command_refusals.specs.declared.refusal.Refusal.{Refusal}
+use Rattle.refusal_lines.specs.Refusals.{meaning_of}
+use Rattle.refusal_lines.specs.declared.refusal.Refusal.{Refusal}
 use Rattle.asm_group.specs.Group.{Cell, Group}
 use Rattle.asm_group.specs.Names.{Bytes, Path}
 use Rattle.asm_group.specs.Shape.{Shape}

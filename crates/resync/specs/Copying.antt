@@ -1,10 +1,10 @@
 -- Why bytes of an extent aren't copied.
 use Rattle.std.specs.Prelude.{◌≡◌, ⊤, ℕ}
 use Rattle.bay.specs.State.{BayState}
-use Rattle.command_refusals.specs.declared.refusal.DiskRef.{DiskRef}
-use Rattle.command_refusals.specs.declared.refusal.DiskRef.TheVariants as disk
-use Rattle.command_refusals.specs.declared.refusal.Refusal.{Refusal}
-use Rattle.command_refusals.specs.declared.refusal.Refusal.TheVariants as cause
+use Rattle.refusal_lines.specs.declared.refusal.DiskRef.{DiskRef}
+use Rattle.refusal_lines.specs.declared.refusal.DiskRef.TheVariants as disk
+use Rattle.refusal_lines.specs.declared.refusal.Refusal.{Refusal}
+use Rattle.refusal_lines.specs.declared.refusal.Refusal.TheVariants as cause
 use Rattle.file_extents.specs.group_engine.Mounts.{MountedGroup}
 use Rattle.file_extents.specs.group_pieces.Faults.{RoseOnDisk}
 use Rattle.file_extents.specs.group_pieces.declared.reading.ReadError.{ReadError}

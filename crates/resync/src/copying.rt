@@ -8,8 +8,8 @@ ghost use Rattle.resync.specs.Copying.{CopyCause, refusal_of, copy_error_of};
 use crate::runs::{extent_bytes, piece_len};
 use asm_base::{ExtentId, Home, NoMemory};
 use bay::{Bay, Fault};
-use command_refusals::{DiskRef, Refusal};
 use file_extents::{LONGEST_PIECE, Mounted, ReadError, is_run, read_piece, units_of, write_spare};
+use refusal_lines::{DiskRef, Refusal};
 use std::alloc::Global;
 
 /// Why bytes of an extent aren't copied.

@@ -9,10 +9,10 @@ use crate::copying::{copy_whole, piece_buffer, refusal_of};
 use crate::searching::{Search, next_stale, stale_copy, start};
 use asm_base::{ExtentId, Mode, NoMemory};
 use bay::Bay;
-use command_refusals::Refusal;
 use file_extents::{
     Mounted, PstEntry, entry_of, planned_moves_change_one_chunk, same_disks_are_next, with_mode,
 };
+use refusal_lines::Refusal;
 use std::alloc::Global;
 
 /// The most steps of a slice.

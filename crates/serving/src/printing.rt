@@ -3,7 +3,7 @@ ghost use Rattle.std.specs.Prelude.{◌≡◌, ◌≢◌, ◌≤◌, [], ◌∷�
 ghost use Rattle.bay.specs.Counts.{Rose};
 ghost use Rattle.bay.specs.Streams.{AppendsAll};
 ghost use Rattle.asm_group.specs.Refusal as r;
-ghost use Rattle.command_refusals.specs.Refusals.{meaning_of};
+ghost use Rattle.refusal_lines.specs.Refusals.{meaning_of};
 ghost use Rattle.asm_world.specs.Reply.{Refused};
 ghost use Rattle.asm_world.specs.Run.{Slicing, phase_after, slices_of, mounted_groups, is_refusal};
 ghost use Rattle.asm_world.specs.Text.{ended, reply_text};
@@ -13,8 +13,8 @@ ghost use Rattle.disk_commands.specs.session.Views.{reply_view};
 
 use asm_base::{List, NoMemory, Text};
 use bay::{Fault, Sink, write_all};
-use command_refusals::Refusal;
 use disk_commands::Reply;
+use refusal_lines::Refusal;
 use std::alloc::Global;
 
 /// Prints a reply, or the refusal for want of memory alone where there is none for the text of one.

@@ -3,8 +3,8 @@ use Rattle.std.proofs.Common.{◌≡◌, ℕ, List, [], Result, Ok, Err, refl, s
 use Rattle.std.specs.Prelude.{IfErr, IfOk}
 use Rattle.bay.specs.declared.disk.Bay as Bay
 use Rattle.bay.specs.declared.host.Host as Host
-use Rattle.command_refusals.specs.Refusals.{meaning_of}
-use Rattle.command_refusals.specs.declared.refusal.Refusal.{Refusal}
+use Rattle.refusal_lines.specs.Refusals.{meaning_of}
+use Rattle.refusal_lines.specs.declared.refusal.Refusal.{Refusal}
 use Rattle.asm_group.specs.Names.{Bytes}
 use Rattle.asm_world.specs.Below.{Found, GroupBelow}
 use Rattle.asm_world.specs.Reply.{Reply, Done, Refused}

@@ -10,7 +10,7 @@ use Rattle.group_contents.specs.group_engine.declared.access.Access.{Access}
 use Rattle.group_contents.specs.group_engine.declared.access.Access.TheVariants as access
 use Rattle.session.specs.declared.entry.Entry.{Entry}
 use Rattle.session.specs.Entries.{entry_view, group_view}
-use Rattle.command_refusals.specs.declared.refusal.Refusal.{Refusal}
+use Rattle.refusal_lines.specs.declared.refusal.Refusal.{Refusal}
 use Rattle.session.specs.Naming.{CarriesOn, with_group_named}
 use Rattle.session.specs.Sessions.{AreReady, SessionView}
 use Rattle.session.proofs.Entries.{sought}

@@ -1,10 +1,10 @@
 -- Refusals that name no disk.
 use Rattle.std.proofs.Common.{◌≡◌, ℕ, [], refl}
-use Rattle.command_refusals.specs.Refusals.{meaning_of}
+use Rattle.refusal_lines.specs.Refusals.{meaning_of}
 use Rattle.asm_group.specs.declared.Mode.{Mode}
-use Rattle.command_refusals.specs.declared.refusal.DiskRef.{DiskRef}
-use Rattle.command_refusals.specs.declared.refusal.Refusal.{Refusal}
-use Rattle.command_refusals.specs.declared.refusal.Refusal.TheVariants as cause
+use Rattle.refusal_lines.specs.declared.refusal.DiskRef.{DiskRef}
+use Rattle.refusal_lines.specs.declared.refusal.Refusal.{Refusal}
+use Rattle.refusal_lines.specs.declared.refusal.Refusal.TheVariants as cause
 use Rattle.asm_group.specs.Names.{Bytes}
 
 pub says_as_is : (names : ℕ → Bytes) (refusal : Refusal) → ((x : DiskRef) → refusal ≡ cause.NoDisk x → ⊥) → ((x : DiskRef) (n : ℕ) → refusal ≡ cause.TooSmall x n → ⊥)

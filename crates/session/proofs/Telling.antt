@@ -1,9 +1,9 @@
 -- What reports tell, and why they are refused.
 use Rattle.std.proofs.Common.{◌≡◌, inl, inr, List, refl}
 use Rattle.asm_group.specs.Names.{Bytes, Path}
-use Rattle.command_refusals.specs.Refusals.{meaning_of}
-use Rattle.command_refusals.specs.declared.refusal.Refusal.{Refusal}
-use Rattle.command_refusals.specs.declared.refusal.Refusal.TheVariants as cause
+use Rattle.refusal_lines.specs.Refusals.{meaning_of}
+use Rattle.refusal_lines.specs.declared.refusal.Refusal.{Refusal}
+use Rattle.refusal_lines.specs.declared.refusal.Refusal.TheVariants as cause
 use Rattle.asm_world.specs.World.{SessionEntry}
 use Rattle.group_contents.specs.group_engine.Mounts.{MountedGroup}
 use Rattle.group_turns.specs.group_reports.Places.{directory_at}

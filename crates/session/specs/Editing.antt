@@ -1,6 +1,6 @@
 -- What an edit of one group of the session does.
 use Rattle.std.specs.Prelude.{Result}
-use Rattle.command_refusals.specs.declared.refusal.Refusal.{Refusal}
+use Rattle.refusal_lines.specs.declared.refusal.Refusal.{Refusal}
 use Rattle.asm_group.specs.Names.{Bytes}
 use Rattle.bay.specs.State.{BayState}
 use Rattle.group_contents.specs.group_engine.Own.{KeepsGroup}

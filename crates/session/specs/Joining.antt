@@ -1,7 +1,7 @@
 -- Images that are attached to a group of the session, and the slots of the disks of the others.
 use Rattle.std.specs.Prelude.{◌≡◌, ◌⊎◌, ◌==◌, ℕ, List, [], ◌∷◌, IfErr, OnOk, Option, Result, if◌then◌else◌}
 use Rattle.std.specs.List.{list_any}
-use Rattle.command_refusals.specs.declared.refusal.Refusal.{Refusal}
+use Rattle.refusal_lines.specs.declared.refusal.Refusal.{Refusal}
 use Rattle.asm_group.specs.Names.{Bytes}
 use Rattle.bay.specs.State.{BayState}
 use Rattle.group_contents.specs.group_engine.declared.attached.Attached.{Attached}

@@ -1,8 +1,8 @@
 -- Where the path of a verb leads in a group.
 use Rattle.std.specs.Prelude.{◌≡◌, ◌⊎◌, List, Some, None}
 use Rattle.asm_base.specs.declared.path.Path.{Path}
-use Rattle.command_refusals.specs.declared.refusal.Refusal.{Refusal}
-use Rattle.command_refusals.specs.declared.refusal.Refusal.TheVariants as cause
+use Rattle.refusal_lines.specs.declared.refusal.Refusal.{Refusal}
+use Rattle.refusal_lines.specs.declared.refusal.Refusal.TheVariants as cause
 use Rattle.asm_group.specs.Names.{Bytes}
 use Rattle.asm_world.specs.Paths.{target_from}
 

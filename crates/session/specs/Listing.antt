@@ -1,7 +1,7 @@
 -- What is so of the tables of a group, and why find and du are refused.
 use Rattle.std.specs.Prelude.{◌≡◌, ◌⊎◌, Err}
 use Rattle.asm_group.specs.Names.{Bytes, Path}
-use Rattle.command_refusals.specs.declared.refusal.Refusal.{Refusal}
+use Rattle.refusal_lines.specs.declared.refusal.Refusal.{Refusal}
 use Rattle.group_contents.specs.group_engine.Mounts.{MountedGroup}
 use Rattle.group_turns.specs.group_reports.Places.{directory_at}
 use Rattle.session.specs.Naming.{IsGroupOf, IsOutCause}

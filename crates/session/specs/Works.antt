@@ -1,8 +1,8 @@
 -- What a piece of work on one group of the session does, by its answer.
 use Rattle.std.specs.Prelude.{◌≡◌, ◌⊎◌, [], List, map, Some, IfErr, IfOk, OnOk, Result, Ok, Err, if◌then◌else◌}
 use Rattle.bay.specs.State.{BayState}
-use Rattle.command_refusals.specs.Refusals.{meaning_of}
-use Rattle.command_refusals.specs.declared.refusal.Refusal.{Refusal}
+use Rattle.refusal_lines.specs.Refusals.{meaning_of}
+use Rattle.refusal_lines.specs.declared.refusal.Refusal.{Refusal}
 use Rattle.asm_group.specs.Names.{Bytes, is_same_name}
 use Rattle.asm_group.specs.Refusal as r
 use Rattle.asm_world.specs.World.{SessionEntry, SessionState, entry_among}

@@ -9,8 +9,8 @@ use crate::naming::GroupWork;
 use crate::session::Session;
 use asm_base::Name;
 use bay::Bay;
-use command_refusals::Refusal;
 use group_contents::Mounted;
+use refusal_lines::Refusal;
 use session_claims::{GroupEdit, edit_group};
 use std::alloc::Global;
 

@@ -13,9 +13,9 @@ use crate::session::Session;
 use crate::spelling::spelt;
 use asm_base::{DiskSet, Name, NoMemory};
 use bay::Bay;
-use command_refusals::Refusal;
 use disk_joining::Known;
 use group_contents::{Attached, Mounted};
+use refusal_lines::Refusal;
 use std::alloc::Global;
 
 /// Images that are attached to one group.

@@ -14,8 +14,8 @@ use crate::session::Session;
 use crate::spelling::spelt;
 use asm_base::Name;
 use bay::Bay;
-use command_refusals::Refusal;
 use group_contents::Mounted;
+use refusal_lines::Refusal;
 use std::alloc::Global;
 
 /// What is done to one group. Disks of it may leave.

@@ -5,8 +5,8 @@ ghost use Rattle.asm_world.specs.Paths.{clause_path};
 ghost use Rattle.session.specs.Leading.{IsLedTo, IsNoTarget};
 
 use asm_base::{Name, NoMemory, Path};
-use command_refusals::Refusal;
 use group_turns::{clause_path, target};
+use refusal_lines::Refusal;
 use std::alloc::Global;
 
 /// The path of a clause in the group that the statement names. None where it isn't a path of that group.

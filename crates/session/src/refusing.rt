@@ -1,6 +1,6 @@
 // Commands that are refused before anything is done.
 ghost use Rattle.std.specs.Prelude.{◌≡◌, [], false};
-ghost use Rattle.command_refusals.specs.Refusals.{meaning_of};
+ghost use Rattle.refusal_lines.specs.Refusals.{meaning_of};
 ghost use Rattle.asm_group.specs.Refusal as r;
 ghost use Rattle.session.specs.Views.{found_view, nothing_found};
 ghost use Rattle.session.specs.declared.reply.Reply.TheVariants.{Refused};
@@ -15,7 +15,7 @@ use crate::desk::Desk;
 use crate::reply::Reply;
 use crate::session::MAX_GROUPS;
 use bay::{Bay, Host};
-use command_refusals::{Limited, Refusal};
+use refusal_lines::{Limited, Refusal};
 use std::alloc::Global;
 
 /// What is no command is refused where its longest front that begins one ends.

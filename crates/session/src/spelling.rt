@@ -1,12 +1,12 @@
 // Refusals in which each disk is spelt.
 ghost use Rattle.std.specs.Prelude.{◌≡◌, ◌⊎◌, [], IfOk};
-ghost use Rattle.command_refusals.specs.Refusals.{referred_disk_name as name_of, meaning_of};
+ghost use Rattle.refusal_lines.specs.Refusals.{referred_disk_name as name_of, meaning_of};
 ghost use Rattle.asm_group.specs.Refusal.{NoMemory as WantOfMemory};
 ghost use Rattle.session.specs.Entries.{disk_name};
 
 use asm_base::{NoMemory, Text};
-use command_refusals::{DiskRef, Refusal};
 use group_contents::Mounted;
+use refusal_lines::{DiskRef, Refusal};
 use std::alloc::Global;
 
 /// A disk by its name, as the group's tables have it.

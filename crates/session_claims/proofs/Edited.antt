@@ -3,9 +3,9 @@ use Rattle.std.proofs.Common.{◌≡◌, inl, inr, ⊎_elim, ℕ, Bool, true, Li
 use Rattle.bay.specs.Image.{Image, Same}
 use Rattle.bay.specs.State.{BayState, IsSound}
 use Rattle.bay.specs.Moments.{Runs}
-use Rattle.command_refusals.specs.declared.refusal.DiskRef.TheVariants as disk
-use Rattle.command_refusals.specs.declared.refusal.Refusal.{Refusal}
-use Rattle.command_refusals.specs.declared.refusal.Refusal.TheVariants as cause
+use Rattle.refusal_lines.specs.declared.refusal.DiskRef.TheVariants as disk
+use Rattle.refusal_lines.specs.declared.refusal.Refusal.{Refusal}
+use Rattle.refusal_lines.specs.declared.refusal.Refusal.TheVariants as cause
 use Rattle.asm_group.specs.Group.{Group}
 use Rattle.asm_group.specs.Refusal as r
 use Rattle.asm_images.specs.Kept.{IsHeld}

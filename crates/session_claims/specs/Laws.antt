@@ -3,7 +3,7 @@ use Rattle.std.specs.Prelude.{◌≡◌, ◌≢◌, ◌⊎◌, ℕ, ◌+◌, ◌
 use Rattle.bay.specs.Image.{Same}
 use Rattle.bay.specs.Moments.{LeavesOnly, Runs}
 use Rattle.bay.specs.State.{BayState}
-use Rattle.command_refusals.specs.declared.refusal.Refusal.{Refusal}
+use Rattle.refusal_lines.specs.declared.refusal.Refusal.{Refusal}
 use Rattle.asm_group.specs.Group.{Group}
 use Rattle.asm_formats.specs.Among.{IsAmong}
 use Rattle.asm_images.specs.Kept.{Kept}

@@ -5,8 +5,8 @@ use Rattle.bay.specs.State.{BayState, KeepsAttached, size_of}
 use Rattle.bay.specs.Moments.{Within, Joins}
 use Rattle.bay.proofs.Images.{changes-within}
 use Rattle.bay.proofs.OneCall.{Follows}
-use Rattle.gate_slot.specs.Slot.{IsUsablePlace, PlaceOf, MayPut, HasPut}
-pub use Rattle.gate_slot.proofs.Sectors.{block_sectors, short_sector}
+use Rattle.body_slot.specs.Slot.{IsUsablePlace, PlaceOf, MayPut, HasPut}
+pub use Rattle.body_slot.proofs.Sectors.{block_sectors, short_sector}
 use Rattle.status_register.specs.Places.{gated_block_at, HasSlots}
 use Rattle.status_register.specs.Slots.{FoundNextGate, MayFill, Fills, MayPutNext, PutsNext}
 use Rattle.status_register.proofs.Telling.{SameBytes}

@@ -8,7 +8,7 @@ use Rattle.bay.specs.Image.{Image, Same, window}
 use Rattle.bay.specs.State.{BayState}
 use Rattle.bay.specs.Moments.{Runs}
 use Rattle.bay.proofs.Images.{window-same}
-use Rattle.gate_slot.specs.Slot.{is_open_in}
+use Rattle.body_slot.specs.Slot.{is_open_in}
 use Rattle.asm_images.specs.Bridge.{shown_block}
 use Rattle.status_register.specs.Places.{gated_block_at}
 use Rattle.bay.specs.Told.{Told}

@@ -1,8 +1,8 @@
 -- The claim and status slots of a disk.
 use Rattle.std.specs.Prelude.{◌≡◌, ◌⊎◌, ℕ, ◌+◌, ◌*◌, ◌≤◌, IsSome}
 use Rattle.bay.specs.State.{BayState, size_of}
-use Rattle.gate_slot.specs.Slot.{IsSectorSize}
-use Rattle.gate_slot.specs.declared.place.Place.{Place}
+use Rattle.body_slot.specs.Slot.{IsSectorSize}
+use Rattle.body_slot.specs.declared.place.Place.{Place}
 use Rattle.asm_formats.specs.Bytes.{block_size}
 use Rattle.asm_formats.specs.Regions.{least_size}
 

@@ -13,7 +13,7 @@ ghost use Rattle.bay.specs.Told.{Told};
 
 use crate::places::{SlotPair, place_at};
 use bay::{Bay, Fault};
-use gate_slot::is_open;
+use body_slot::is_open;
 use status_table::{BLOCK, Block, Claim, PstRecord, decode, decode_claim};
 
 /// The block behind the gate in a block, or None where the gate is shut.

@@ -3,7 +3,7 @@ ghost use Rattle.std.specs.Prelude.{◌≡◌, ◌≤◌};
 ghost use Rattle.status_register.specs.Places.{gated_block_at};
 ghost use Rattle.status_register.specs.Slots.{first_gate, second_gate};
 
-use gate_slot::Place;
+use body_slot::Place;
 use status_table::{BLOCK, FIRST_CLAIM, FIRST_STATUS, SECOND_CLAIM, SECOND_STATUS};
 
 /// The pairs of slots of a disk.

@@ -12,7 +12,7 @@ use crate::gates::next_gate;
 use crate::members::MemberList;
 use crate::places::{SlotPair, place_at};
 use bay::{Bay, Fault};
-use gate_slot::put;
+use body_slot::put;
 use status_table::Block;
 
 /// Puts a body into the slot behind a gate.

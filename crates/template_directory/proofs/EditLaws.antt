@@ -12,7 +12,7 @@ use Rattle.asm_group.specs.Group.{Template}
 use Rattle.asm_group.specs.NewGroup.{templates_by_name, usual_copies}
 use Rattle.asm_group.specs.Refusal as r
 use Rattle.asm_formats.specs.Items.{is_item, is_redundancy, is_template, names_ascend, templates_item}
-use Rattle.command_refusals.specs.declared.refusal.Refusal.{Refusal}
+use Rattle.refusal_lines.specs.declared.refusal.Refusal.{Refusal}
 use Rattle.template_directory.specs.Tables.{has_room_for_template, template_named, with_template_in_order, without_template}
 use Rattle.asm_group.specs.Causes.{Causes, first_cause, unless_refused}
 use Rattle.asm_group.specs.TemplateEdits as e

@@ -5,8 +5,8 @@ use Rattle.asm_group.specs.Names.{ByName, is_name}
 use Rattle.asm_group.specs.Group.{Template}
 use Rattle.asm_group.specs.Refusal as r
 use Rattle.asm_formats.specs.Items.{is_redundancy}
-use Rattle.command_refusals.specs.declared.refusal.Refusal.{Refusal}
-use Rattle.command_refusals.specs.Refusals.{meaning_of}
+use Rattle.refusal_lines.specs.declared.refusal.Refusal.{Refusal}
+use Rattle.refusal_lines.specs.Refusals.{meaning_of}
 use Rattle.template_directory.specs.declared.editing.TemplateEdit.{TemplateEdit}
 use Rattle.template_directory.specs.declared.editing.TemplateEdit.TheVariants as code
 use Rattle.asm_group.specs.Causes.{Causes, first_cause}

@@ -13,7 +13,7 @@ use crate::system_templates::usual_copies;
 use crate::table::TemplateTable;
 use crate::template::Template;
 use asm_base::{GroupKind, Name, NoMemory, Stripe};
-use command_refusals::{Limited, Refusal};
+use refusal_lines::{Limited, Refusal};
 
 /// An edit of a group's templates. Copies that aren't said are those that the group's kind usually has.
 #[derive(Debug, Drop)]
@@ -70,7 +70,7 @@ impl TemplateTable {
     }
 
     /// Why an edit is refused, or None where it isn't.
-    #[tactic(auto, unfolding(command_refusals::specs::Refusals::meaning_of))]
+    #[tactic(auto, unfolding(refusal_lines::specs::Refusals::meaning_of))]
     fn refusal(&self, kind: GroupKind, edit: &TemplateEdit) -> Option<Refusal>
         ensures cause { option_map refusal_said result ≡ listed_cause kind self.now.templates (template_edit_meant edit.now) }
         ensures allowed { is_item (templates_item self.now.templates) ≡ true }
@@ -194,7 +194,7 @@ fn made(name: Name, copies: u8, stripe: Stripe, system: bool) -> Template
 }
 
 /// The refusal of one template more, where there are as many as there may be.
-#[tactic(auto, unfolding(command_refusals::specs::Refusals::meaning_of))]
+#[tactic(auto, unfolding(refusal_lines::specs::Refusals::meaning_of))]
 fn full(count: usize) -> Option<Refusal>
     ensures { option_map refusal_said result ≡ (if nat_le 64 count then Some (TooMany Templates 64) else None) }
 {

@@ -10,8 +10,8 @@ ghost use Rattle.plan_records.specs.catalog_tables.Rules.{blocks_used};
 use crate::catalog::Catalog;
 use crate::plans::refusals::no_memory;
 use asm_base::{Change, Key, List, NoMemory, Value};
-use command_refusals::Refusal;
 use plan_records::{DiskInfo, disk_record};
+use refusal_lines::Refusal;
 use std::alloc::Global;
 
 impl Catalog {

@@ -3,15 +3,15 @@
 ghost use Rattle.std.specs.Prelude.{◌≡◌, IfErr, IfOk, IfNone, IfSome, None, true};
 ghost use Rattle.asm_formats.specs.Items.{is_item, settings_item};
 ghost use Rattle.plan_records.specs.attribute_values.Edits.{settings_with};
-ghost use Rattle.command_refusals.specs.declared.refusal.Refusal.TheVariants.{BadAttribute};
+ghost use Rattle.refusal_lines.specs.declared.refusal.Refusal.TheVariants.{BadAttribute};
 ghost use Rattle.catalog.specs.FilePlans.{IsAttributePlan, IsAttributeRefusal};
 ghost use Rattle.catalog.specs.Plans.{IsPlan};
 
 use crate::catalog::Catalog;
 use crate::plans::refusals::no_memory;
 use asm_base::{Change, Name, NoMemory};
-use command_refusals::Refusal;
 use plan_records::{Settings, bad_attribute, one_put, settings_record, with_attribute};
+use refusal_lines::Refusal;
 use std::alloc::Global;
 
 impl Catalog {

@@ -8,8 +8,8 @@ use crate::catalog::Catalog;
 use crate::new_file::NewFile;
 use crate::plans::refusals::no_memory;
 use asm_base::Name;
-use command_refusals::Refusal;
 use plan_records::{NameParts, new_name, refusal_of, system_path};
+use refusal_lines::Refusal;
 use std::alloc::Global;
 
 impl Catalog {

@@ -11,8 +11,8 @@ use crate::catalog::Catalog;
 use crate::plans::moves::unit_fits;
 use crate::plans::refusals::no_memory;
 use asm_base::{Change, Home, Homes, NoMemory};
-use command_refusals::Refusal;
 use plan_records::{Marks, chunk_record, marks_record, two_put};
+use refusal_lines::Refusal;
 use std::alloc::Global;
 
 impl Catalog {

@@ -1,7 +1,7 @@
 //! The plan of extents that go.
 
 ghost use Rattle.std.specs.Prelude.{◌≡◌, ◌≤◌, ◌<◌, ◌+◌, ◌^◌, IfErr, IfOk};
-ghost use Rattle.command_refusals.specs.declared.refusal.Refusal.TheVariants.{NoMemory as WithoutMemory};
+ghost use Rattle.refusal_lines.specs.declared.refusal.Refusal.TheVariants.{NoMemory as WithoutMemory};
 ghost use Rattle.plan_records.specs.extent_map.Extents.{chunk_or_blank, cut_to, record_of_chunk};
 ghost use Rattle.plan_records.specs.staleness_directory.Marks.{marks_to, record_of_marks as marks_entry};
 ghost use Rattle.catalog.specs.ExtentPlans.{MayCut, marks_or_none, with_cut};
@@ -10,8 +10,8 @@ ghost use Rattle.catalog.specs.Plans.{IsPlan};
 use crate::catalog::Catalog;
 use crate::plans::refusals::no_memory;
 use asm_base::{Change, Key, NoMemory, Value, record_kind};
-use command_refusals::Refusal;
 use plan_records::{chunk_record, marks_record, two_gone, two_put};
+use refusal_lines::Refusal;
 use std::alloc::Global;
 
 impl Catalog {

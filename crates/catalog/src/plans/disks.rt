@@ -11,8 +11,8 @@ ghost use Rattle.plan_records.specs.catalog_tables.Rules.{blocks_used};
 use crate::catalog::Catalog;
 use crate::plans::refusals::no_memory;
 use asm_base::{Change, NoMemory};
-use command_refusals::Refusal;
 use plan_records::{DiskInfo, disk_key, disk_record, one_gone, one_put};
+use refusal_lines::Refusal;
 use std::alloc::Global;
 
 impl Catalog {

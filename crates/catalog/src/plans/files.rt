@@ -2,18 +2,18 @@
 
 ghost use Rattle.std.specs.Prelude.{◌≡◌, ◌<◌, IfErr, IfOk, IsTrue, Some};
 ghost use Rattle.plan_records.specs.file_directory.Files.{head_at, is_file_number};
-ghost use Rattle.command_refusals.specs.declared.refusal.Refusal.TheVariants.{NoMemory as WithoutMemory};
+ghost use Rattle.refusal_lines.specs.declared.refusal.Refusal.TheVariants.{NoMemory as WithoutMemory};
 ghost use Rattle.catalog.specs.FilePlans.{IsRemovalPlan, IsSizePlan, MayGrow};
 
 use crate::catalog::Catalog;
 use crate::plans::operations::fits;
 use crate::plans::refusals::no_memory;
 use asm_base::{Change, List, NoMemory, PENDING_KEY};
-use command_refusals::Refusal;
 use plan_records::{
     FileHead, keys_of_file, one_put, pending_record, put_and_gone, record_of, removal_of,
     shrinking, two_put, with_size,
 };
+use refusal_lines::Refusal;
 use std::alloc::Global;
 
 impl Catalog {

@@ -1,7 +1,7 @@
 //! The plan of an extent's stale marks.
 
 ghost use Rattle.std.specs.Prelude.{◌≡◌, ◌/◌, ◌%◌, IfErr, IfOk, slice_set};
-ghost use Rattle.command_refusals.specs.declared.refusal.Refusal.TheVariants.{NoMemory as WithoutMemory};
+ghost use Rattle.refusal_lines.specs.declared.refusal.Refusal.TheVariants.{NoMemory as WithoutMemory};
 ghost use Rattle.plan_records.specs.staleness_directory.Marks.{record_of_marks};
 ghost use Rattle.catalog.specs.ExtentPlans.{MayMark, marks_changed, marks_or_none, with_marks_changed};
 ghost use Rattle.catalog.specs.Plans.{IsPlan};
@@ -9,8 +9,8 @@ ghost use Rattle.catalog.specs.Plans.{IsPlan};
 use crate::catalog::Catalog;
 use crate::plans::refusals::no_memory;
 use asm_base::{Change, ExtentId, Key, NoMemory, Value};
-use command_refusals::Refusal;
 use plan_records::{Marks, marks_record, one_put};
+use refusal_lines::Refusal;
 use std::alloc::Global;
 
 impl Catalog {

@@ -2,7 +2,7 @@
 
 ghost use Rattle.std.specs.Prelude.{◌≡◌, ◌<◌, ◌/◌, ◌%◌, ◌^◌, [], IfErr, IfOk, Some, get_or, slice_set};
 ghost use Rattle.asm_formats.specs.Sets.{has_bit};
-ghost use Rattle.command_refusals.specs.declared.refusal.Refusal.TheVariants.{NoMemory as WithoutMemory};
+ghost use Rattle.refusal_lines.specs.declared.refusal.Refusal.TheVariants.{NoMemory as WithoutMemory};
 ghost use Rattle.asm_placement.specs.Moves.{without_bit};
 ghost use Rattle.plan_records.specs.extent_map.Extents.{chunk_or_blank, record_of_chunk};
 ghost use Rattle.catalog.specs.ExtentPlans.{MayMove, with_move};
@@ -12,8 +12,8 @@ use crate::catalog::Catalog;
 use crate::moving::with_home;
 use crate::plans::refusals::no_memory;
 use asm_base::{Change, ExtentId, Home, Key, NoMemory, Value};
-use command_refusals::Refusal;
 use plan_records::{Chunk, chunk_record, one_put, two_put};
+use refusal_lines::Refusal;
 use std::alloc::Global;
 
 impl Catalog {

@@ -3,7 +3,7 @@
 ghost use Rattle.std.specs.Prelude.{◌≡◌, ◌⊎◌, ◌<◌, ◌≤◌, ◌^◌, ◌+◌, ◌++◌, ◌∷◌, [], Err, IfErr, IfOk, IsTrue, List as Items, None, Ok, OnOk, Some, ℕ, is_some, length, map, true};
 ghost use Rattle.std.specs.List.{All};
 ghost use Rattle.asm_formats.specs.Items.{Node as FormatNode, file_item, is_item, node_item, settings_item};
-ghost use Rattle.command_refusals.specs.Refusals.{meaning_of};
+ghost use Rattle.refusal_lines.specs.Refusals.{meaning_of};
 ghost use Rattle.asm_base.specs.Tables.{item_record};
 ghost use Rattle.asm_group.specs.Refusal.{NoMemory as OutOfMemory};
 ghost use Rattle.plan_records.specs.alias_edits.Edits.{IsRefusal, are_parts};
@@ -20,11 +20,11 @@ use crate::catalog::Catalog;
 use crate::new_file::NewFile;
 use crate::plans::refusals::no_memory;
 use asm_base::{Change, Key, List, Name, NoMemory, PENDING_KEY, Path, Stripe, Value};
-use command_refusals::Refusal;
 use plan_records::{
     FileHead, NameParts, Node, TreeError, new_name, node_record, plan_file, record_of, refusal_of,
     settings_next, settings_record, system_path,
 };
+use refusal_lines::Refusal;
 use std::alloc::Global;
 
 impl Catalog {

@@ -2,14 +2,14 @@
 
 ghost use Rattle.std.specs.Prelude.{◌≡◌, ◌<◌, ◌^◌, IfErr, IfOk, None, Some, true};
 ghost use Rattle.asm_formats.specs.Items.{is_item, pending_item};
-ghost use Rattle.command_refusals.specs.declared.refusal.Refusal.TheVariants.{NoMemory as WithoutMemory};
+ghost use Rattle.refusal_lines.specs.declared.refusal.Refusal.TheVariants.{NoMemory as WithoutMemory};
 ghost use Rattle.catalog.specs.Plans.{AreOwned, IsPlan};
 
 use crate::catalog::Catalog;
 use crate::plans::refusals::no_memory;
 use asm_base::{Change, Key, NoMemory, PENDING_KEY, REBALANCE_KEY};
-use command_refusals::Refusal;
 use plan_records::{Pending, one_gone, one_put, pending_record, rebalance_record};
+use refusal_lines::Refusal;
 use std::alloc::Global;
 
 impl Catalog {

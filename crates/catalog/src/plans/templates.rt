@@ -10,14 +10,14 @@ ghost use Rattle.catalog.specs.Plans.{IsPlan, IsTemplatePlan};
 use crate::catalog::Catalog;
 use crate::plans::refusals::no_memory;
 use asm_base::{Change, NoMemory};
-use command_refusals::Refusal;
 use plan_records::{Template, TemplateEdit, one_put, templates_record};
+use refusal_lines::Refusal;
 use std::alloc::Global;
 
 impl Catalog {
     /// The change that an edit of the templates is. It is refused as TemplateTable::edit refuses it. The name is one of the
     /// grammar, and copies that are said are one, two or three.
-    #[tactic(auto, using(crate::proofs::TemplatePlans::edit_planned), unfolding(command_refusals::specs::Refusals::meaning_of))]
+    #[tactic(auto, using(crate::proofs::TemplatePlans::edit_planned), unfolding(refusal_lines::specs::Refusals::meaning_of))]
     pub fn plan_template(&self, alloc: Global, edit: &TemplateEdit) -> Result<Change, Refusal>
         requires edit { IsTrue (is_template_edit (template_edit_meant edit.now)) }
         ensures planned { IfOk result (λ change. IsTemplatePlan self.now (template_edit_meant edit.now) change.put change.gone) }

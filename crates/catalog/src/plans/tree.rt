@@ -3,7 +3,7 @@
 ghost use Rattle.std.specs.Prelude.{◌≡◌, ◌⊎◌, ◌<◌, ◌+◌, IfErr, IfOk, IsTrue, None, Ok, Some, true};
 ghost use Rattle.asm_group.specs.TreeEdits as edits;
 ghost use Rattle.asm_group.specs.declared.NodeKind.TheVariants.{Alias};
-ghost use Rattle.command_refusals.specs.declared.refusal.Refusal.TheVariants.{DirectoryFull, NoMemory as WithoutMemory};
+ghost use Rattle.refusal_lines.specs.declared.refusal.Refusal.TheVariants.{DirectoryFull, NoMemory as WithoutMemory};
 ghost use Rattle.plan_records.specs.alias_edits.Edits.{ChangesNodes, IsChange, IsRefusal, edit_meant, is_tree_edit, nodes_after};
 ghost use Rattle.plan_records.specs.alias_tree.Nodes.{IsNodeTable, node_at, with_numbered_node, without_numbered_node};
 ghost use Rattle.plan_records.specs.alias_tree.Trees.{tree_of};
@@ -15,11 +15,11 @@ ghost use Rattle.catalog.specs.TreePlans.{IsTreeFull, IsNewAlias, IsTreePlan, Is
 use crate::catalog::Catalog;
 use crate::plans::refusals::no_memory;
 use asm_base::{Change, NoMemory, NodeKind};
-use command_refusals::Refusal;
 use plan_records::{
     Node, TreeChange, TreeEdit, TreeError, node_key, node_record, one_gone, one_put, plan,
     record_of, refusal_of, two_put, with_alias,
 };
+use refusal_lines::Refusal;
 use std::alloc::Global;
 
 impl Catalog {

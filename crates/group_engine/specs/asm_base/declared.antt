@@ -1,2 +1,2 @@
 -- The types of `asm_base` that crates above name.
-pub use Rattle.command_refusals.specs.declared.refusal
+pub use Rattle.refusal_lines.specs.declared.refusal

@@ -4,8 +4,8 @@ ghost use Rattle.group_engine.specs.Mounts.{Takes};
 
 use crate::answers::{Answer, refused};
 use bay::Bay;
-use command_refusals::Refusal;
 use group_engine::Mounted;
+use refusal_lines::Refusal;
 use relocation::{Resynced, Slice, run_to_end, slice, sync_slice};
 use std::alloc::Global;
 

@@ -6,9 +6,9 @@ use crate::answers::{Answer, answer_of, refused};
 use crate::steps::Statement;
 use asm_base::DiskSet;
 use bay::Bay;
-use command_refusals::Refusal;
 use disk_modes::{drop_disks, expire, offline_disks, resize_disks, set_rebalance, undrop_disks};
 use group_engine::Mounted;
+use refusal_lines::Refusal;
 use std::alloc::Global;
 
 /// Which disk expires, or why none can be asked.

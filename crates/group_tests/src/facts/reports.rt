@@ -8,13 +8,13 @@ use asmcmd::{
     template_lines, usage_lines,
 };
 use catalog::Catalog;
-use command_refusals::Refusal;
 use disk_modes::{
     attribute_rows, check, directory_at, directory_row, disk_name, disk_rows, dismounted_row,
     group_row, group_totals, is_directory, path_at, path_to, paths_found, row_at, rows_listed,
     rows_under, template_rows, usage_below,
 };
 use group_engine::Mounted;
+use refusal_lines::Refusal;
 use status_table::PstRecord;
 use std::alloc::Global;
 

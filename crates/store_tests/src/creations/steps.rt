@@ -3,10 +3,10 @@
 use asm_base::Name;
 use bay::Bay;
 use bay_mem::MemBay;
-use command_refusals::Refusal;
 use mounted_groups::{
     Found, MountError, MountOption, Mounted, create_disk, create_group, drop_group, mount_group,
 };
+use refusal_lines::Refusal;
 use std::alloc::Global;
 
 /// The bytes of an image of 25 units.

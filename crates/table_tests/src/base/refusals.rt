@@ -1,6 +1,6 @@
 // The lines of refusals, of each form of their arguments.
 use asm_base::{ExtentId, List, Mode};
-use command_refusals::{DiskRef, Limited, Refusal, no_memory_line};
+use refusal_lines::{DiskRef, Limited, Refusal, no_memory_line};
 use std::alloc::Global;
 use std::test::*;
 

@@ -10,8 +10,8 @@ ghost use Rattle.table_tests.specs.Planned.{IsPlanned};
 use crate::catalogs::steps::{Answer, answer_of};
 use asm_base::{Change, Name, PendingKind, Stripe};
 use catalog::Catalog;
-use command_refusals::Refusal;
 use operations_directory::Pending;
+use refusal_lines::Refusal;
 use std::alloc::Global;
 use template_directory::TemplateEdit;
 

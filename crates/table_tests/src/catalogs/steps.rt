@@ -1,7 +1,7 @@
 //! Steps of a row: plans that are made, and what the catalog tells.
 
 use asm_base::{PendingKind, Stripe};
-use command_refusals::Refusal;
+use refusal_lines::Refusal;
 
 /// A step of a row.
 #[derive(Clone, Copy)]

@@ -2,7 +2,7 @@
 use crate::helpers::{Wrong, name, row};
 use crate::tables::templates::new_table;
 use asm_base::{GroupKind, Stripe};
-use command_refusals::{Limited, Refusal};
+use refusal_lines::{Limited, Refusal};
 use std::alloc::Global;
 use template_directory::{TemplateEdit, TemplateTable};
 

@@ -1,6 +1,6 @@
 use Rattle.std.proofs.Common.{◌≡◌, ◌+◌, ◌*◌, length, take, ap, rules, arith, inl}
 use Rattle.bay.proofs.OneCall.{afforded, then, wider}
-use Rattle.gate_slot.specs.declared.place.Place.{Place}
+use Rattle.body_slot.specs.declared.place.Place.{Place}
 use Rattle.change_directory.specs.Changes.{MayLog}
 use Rattle.change_directory.specs.Logs.{log_of, log_body}
 use Rattle.change_directory.proofs.Usable.{usable_log, still_copy, some_sector}

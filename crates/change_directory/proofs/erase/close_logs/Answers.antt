@@ -1,7 +1,7 @@
 use Rattle.std.proofs.Common.{◌≡◌, ◌∙◌, ap, arith}
 use Rattle.bay.proofs.OneCall.{afforded, then}
-use Rattle.gate_slot.specs.declared.place.Place.{Place}
-use Rattle.gate_slot.proofs.Steps.{plain, may_close-same}
+use Rattle.body_slot.specs.declared.place.Place.{Place}
+use Rattle.body_slot.proofs.Steps.{plain, may_close-same}
 use Rattle.change_directory.specs.Places.{log_place}
 use Rattle.change_directory.proofs.Usable.{short_sector, some_sector}
 use Rattle.change_directory.proofs.Losing.{other_shuts}

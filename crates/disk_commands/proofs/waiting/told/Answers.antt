@@ -1,6 +1,6 @@
 use Rattle.std.proofs.Common.{Option, subst}
 use Rattle.std.specs.Prelude.{IfSome}
-use Rattle.command_refusals.specs.declared.refusal.Refusal.{Refusal}
+use Rattle.refusal_lines.specs.declared.refusal.Refusal.{Refusal}
 use Rattle.disk_commands.specs.Waits.{HasShortCause}
 use Rattle.disk_commands.proofs.Waits.{spelt_short}
 use Rattle.disk_commands.proofs.waiting.told.Goals as goal

@@ -1,6 +1,6 @@
 use Rattle.std.proofs.Common.{rules, arith}
 use Rattle.bay.proofs.OneCall.{wider, afforded, then}
-use Rattle.gate_slot.proofs.Steps.{plain, may_put-same}
+use Rattle.body_slot.proofs.Steps.{plain, may_put-same}
 use Rattle.disk_forming.proofs.Steps.{claim_then_status}
 use Rattle.disk_forming.proofs.forming.give_record.Goals as goal
 

@@ -1,6 +1,6 @@
 use Rattle.std.proofs.Common.{rules, arith}
 use Rattle.bay.proofs.OneCall.{wider, afforded, then}
-use Rattle.gate_slot.proofs.Steps.{plain, may_close-same}
+use Rattle.body_slot.proofs.Steps.{plain, may_close-same}
 use Rattle.disk_forming.proofs.Shutting.{usable_slot, still_region, short_sector, some_sector, header_then_others}
 use Rattle.disk_forming.proofs.gates.close_all_gates.Goals as goal
 

@@ -1,6 +1,6 @@
 use Rattle.std.proofs.Common.{◌≡◌, ◌+◌, ◌*◌, rules, arith}
 use Rattle.bay.proofs.OneCall.{afforded, then, went}
-use Rattle.gate_slot.proofs.Steps.{plain, may_close-same}
+use Rattle.body_slot.proofs.Steps.{plain, may_close-same}
 use Rattle.disk_forming.proofs.Shutting.{usable_gate, still_region, short_sector, one_more}
 use Rattle.disk_forming.proofs.gates.close_other_gates.Goals as goal
 

@@ -1,6 +1,6 @@
 use Rattle.std.proofs.Common.{◌≡◌, ap, arith}
 use Rattle.asm_group.specs.Shape.{Shape}
-use Rattle.gate_slot.proofs.Steps.{plain, may_close-same}
+use Rattle.body_slot.proofs.Steps.{plain, may_close-same}
 use Rattle.disk_images.proofs.OneStep.{leads_to}
 use Rattle.disk_images.proofs.HeaderBytes.{nothing_shown}
 use Rattle.disk_images.proofs.HeaderPuts.{long_in, usable_header}

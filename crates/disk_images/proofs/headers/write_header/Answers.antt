@@ -1,5 +1,5 @@
 use Rattle.std.proofs.Common.{◌≡◌, ap, arith}
-use Rattle.gate_slot.proofs.Steps.{plain, may_put-same}
+use Rattle.body_slot.proofs.Steps.{plain, may_put-same}
 use Rattle.asm_formats.specs.Header.{Header}
 use Rattle.disk_images.proofs.OneStep.{leads_to}
 use Rattle.disk_images.proofs.HeaderBytes.{header_shown}

@@ -1,6 +1,6 @@
 use Rattle.std.proofs.Common.{sym, subst, Err, Result}
 use Rattle.std.specs.Prelude.{OnOk}
-use Rattle.command_refusals.specs.declared.refusal.Refusal.{Refusal}
+use Rattle.refusal_lines.specs.declared.refusal.Refusal.{Refusal}
 use Rattle.file_extents.specs.Closing.{or_shut}
 use Rattle.file_extents.specs.group_engine.Mounts.{MountedGroup}
 use Rattle.disk_joining.specs.Joiners.{AreEntered, JoinStep, ShowHeaders}

@@ -1,5 +1,5 @@
 use Rattle.std.proofs.Common.{refl}
-use Rattle.command_refusals.specs.Refusals.{meaning_of}
+use Rattle.refusal_lines.specs.Refusals.{meaning_of}
 use Rattle.disk_joining.proofs.asked.asked_disks.Goals as goal
 
 pub returns-then-not-has_room-clause-refused : goal.returns-then-not-has_room-clause-refused

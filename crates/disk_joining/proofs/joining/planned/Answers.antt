@@ -1,7 +1,7 @@
 use Rattle.std.proofs.Common.{[], inr, map, refl}
 use Rattle.std.specs.String.{string_bytes}
 use Rattle.std.proofs.lemmas.Result.{IfErr-weaker}
-use Rattle.command_refusals.specs.Refusals.{meaning_of}
+use Rattle.refusal_lines.specs.Refusals.{meaning_of}
 use Rattle.disk_joining.proofs.Unfit.{unfit_first}
 use Rattle.disk_joining.proofs.joining.planned.Goals as goal
 

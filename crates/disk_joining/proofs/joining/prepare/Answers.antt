@@ -2,7 +2,7 @@ use Rattle.std.proofs.Common.{◌≡◌, ℕ, [], List, length, map, true, refl,
 use Rattle.std.specs.String.{string_bytes}
 use Rattle.std.proofs.lemmas.List.{length-map}
 use Rattle.std.proofs.lemmas.Result.{IfErr-weaker, IfOk-weaker}
-use Rattle.command_refusals.specs.Refusals.{meaning_of}
+use Rattle.refusal_lines.specs.Refusals.{meaning_of}
 use Rattle.asm_world.specs.NewDisks.{PlannedDisk}
 use Rattle.new_groups.proofs.Formed.{looks_none}
 use Rattle.disk_joining.specs.AddCauses.IsNotPrepared.{by_too_many, by_lack_of_memory}

@@ -1,5 +1,5 @@
 use Rattle.std.proofs.Common.{inl, refl}
-use Rattle.command_refusals.specs.Refusals.{meaning_of}
+use Rattle.refusal_lines.specs.Refusals.{meaning_of}
 use Rattle.disk_joining.proofs.Unfit.{blocks_few}
 use Rattle.disk_joining.proofs.looking.check_blocks.Goals as goal
 

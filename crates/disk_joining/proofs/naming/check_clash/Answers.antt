@@ -1,5 +1,5 @@
 use Rattle.std.proofs.Common.{inl, sym, ◌∙◌}
-use Rattle.command_refusals.specs.Refusals.{meaning_of}
+use Rattle.refusal_lines.specs.Refusals.{meaning_of}
 use Rattle.disk_joining.proofs.Unfit.{names_clash}
 use Rattle.disk_joining.proofs.naming.check_clash.Goals as goal
 

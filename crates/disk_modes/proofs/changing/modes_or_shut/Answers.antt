@@ -1,5 +1,5 @@
 use Rattle.std.proofs.Common.{Err, sym, subst}
-use Rattle.command_refusals.specs.declared.refusal.Refusal.TheVariants as cause
+use Rattle.refusal_lines.specs.declared.refusal.Refusal.TheVariants as cause
 use Rattle.record_laws.specs.group_engine.Mounts.{MountedGroup}
 use Rattle.record_laws.specs.group_engine.Pending.{GoesOn}
 use Rattle.record_laws.proofs.group_engine.Endings.{keeps_closed}

@@ -1,7 +1,7 @@
 use Rattle.std.proofs.Common.{subst}
 use Rattle.group_reports.specs.catalog.Plans.{IsPlan}
 use Rattle.group_reports.specs.catalog_tables.Tables.{Catalogued, Tables}
-use Rattle.command_refusals.specs.declared.refusal.Refusal.TheVariants as cause
+use Rattle.refusal_lines.specs.declared.refusal.Refusal.TheVariants as cause
 use Rattle.disk_modes.proofs.Effects.{rebalance_put}
 use Rattle.disk_modes.proofs.Held.{rebalance_held, rebalance_short}
 use Rattle.disk_modes.proofs.Steps.{goes_short, kept}

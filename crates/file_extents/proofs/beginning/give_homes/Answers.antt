@@ -1,6 +1,6 @@
 use Rattle.std.proofs.Common.{inr, subst}
-use Rattle.command_refusals.specs.declared.refusal.Refusal.{Refusal}
-use Rattle.command_refusals.specs.declared.refusal.Refusal.TheVariants.{NoSpace}
+use Rattle.refusal_lines.specs.declared.refusal.Refusal.{Refusal}
+use Rattle.refusal_lines.specs.declared.refusal.Refusal.TheVariants.{NoSpace}
 use Rattle.file_extents.specs.Rows.{SpaceCause}
 use Rattle.file_extents.proofs.Begins.{homes_back}
 use Rattle.file_extents.proofs.Chains.{goes_shut, kept}

@@ -1,5 +1,5 @@
 use Rattle.std.proofs.Common.{refl, sym, ◌∙◌}
-use Rattle.command_refusals.specs.Refusals.{meaning_of}
+use Rattle.refusal_lines.specs.Refusals.{meaning_of}
 use Rattle.session.proofs.Desks.{from-same}
 use Rattle.group_commands.proofs.Named.{too_many, exists_already}
 use Rattle.group_commands.proofs.groups.create_external.Goals as goal

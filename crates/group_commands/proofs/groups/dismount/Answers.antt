@@ -1,5 +1,5 @@
 use Rattle.std.proofs.Common.{◌≡◌, List, length, ap, subst, refl, sym, ◌∙◌, is_some, true, false}
-use Rattle.command_refusals.specs.Refusals.{meaning_of}
+use Rattle.refusal_lines.specs.Refusals.{meaning_of}
 use Rattle.asm_world.specs.Command.{Said}
 use Rattle.asm_world.specs.Statement.{Alter, Dismount}
 use Rattle.asm_world.specs.World.{SessionEntry, entry_in, without_entry}

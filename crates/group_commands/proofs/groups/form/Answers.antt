@@ -4,7 +4,7 @@ use Rattle.std.proofs.lemmas.List.{length-map}
 use Rattle.std.specs.Prelude.{IfSome, IsSome}
 use Rattle.std.proofs.lemmas.Option.{IfSome_then}
 use Rattle.asm_group.specs.Refusal as r
-use Rattle.command_refusals.specs.Refusals.{meaning_of}
+use Rattle.refusal_lines.specs.Refusals.{meaning_of}
 use Rattle.asm_world.specs.Reply.{Done, Refused}
 use Rattle.session.specs.mounted_groups.Found.{IsEarly, RefusalCause, counts_of}
 use Rattle.session.specs.Sessions.{SessionView}

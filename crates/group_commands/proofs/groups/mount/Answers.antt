@@ -1,6 +1,6 @@
 use Rattle.std.proofs.Common.{◌≡◌, List, Result, ap, refl, subst, sym, ◌∙◌}
-use Rattle.command_refusals.specs.Refusals.{meaning_of}
-use Rattle.command_refusals.specs.declared.refusal.Refusal.{Refusal}
+use Rattle.refusal_lines.specs.Refusals.{meaning_of}
+use Rattle.refusal_lines.specs.declared.refusal.Refusal.{Refusal}
 use Rattle.asm_world.specs.Causes.{is_mounted_as}
 use Rattle.asm_world.specs.Command.{Said}
 use Rattle.asm_world.specs.Statement.{Alter, Mount}

@@ -1,5 +1,5 @@
 use Rattle.std.proofs.Common.{inl, refl}
-use Rattle.command_refusals.specs.Refusals.{meaning_of}
+use Rattle.refusal_lines.specs.Refusals.{meaning_of}
 use Rattle.group_contents.proofs.removing.plan_drop.Goals as goal
 
 pub returns-in-Err-clause-refused : goal.returns-in-Err-clause-refused

@@ -1,6 +1,6 @@
 use Rattle.std.proofs.Common.{inl, inr, subst, ◌⊎◌}
 use Rattle.asm_group.specs.TreeEdits as e
-use Rattle.command_refusals.specs.declared.refusal.Refusal.{Refusal}
+use Rattle.refusal_lines.specs.declared.refusal.Refusal.{Refusal}
 use Rattle.file_extents.specs.catalog.Plans.{IsPlan}
 use Rattle.file_extents.specs.catalog_tables.Tables.{Catalogued, Tables}
 use Rattle.file_extents.specs.catalog.TreePlans.{IsTreePlan, IsTreeRefusal}

@@ -1,6 +1,6 @@
 use Rattle.std.proofs.Common.{inl, inr, min, refl, replicate, ◌∙◌}
 use Rattle.std.proofs.lemmas.List.{length-replicate}
-use Rattle.command_refusals.specs.declared.refusal.Refusal.TheVariants as cause
+use Rattle.refusal_lines.specs.declared.refusal.Refusal.TheVariants as cause
 use Rattle.file_extents.proofs.Chains.{kept}
 use Rattle.group_contents.proofs.Chains.{shut_writes, write_opened}
 use Rattle.group_contents.proofs.Rounds.{all_alike}

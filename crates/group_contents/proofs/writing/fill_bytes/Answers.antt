@@ -4,7 +4,7 @@ use Rattle.std.proofs.lemmas.List.{length-take-le}
 use Rattle.asm_group.specs.Shape.{Shape}
 use Rattle.file_extents.proofs.group_engine.Causes.{calls_keep}
 use Rattle.file_extents.specs.Filling.{FailsMore}
-use Rattle.command_refusals.specs.declared.refusal.Refusal.TheVariants as cause
+use Rattle.refusal_lines.specs.declared.refusal.Refusal.TheVariants as cause
 use Rattle.file_extents.specs.Pieces.{IsOfShape}
 use Rattle.file_extents.proofs.Chains.{fails_none, fails_on, kept, put_on, takes_on}
 use Rattle.group_contents.specs.Writing.{IsLayoutOf, WritesSpan}

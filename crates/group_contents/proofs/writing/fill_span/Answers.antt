@@ -1,6 +1,6 @@
 use Rattle.std.proofs.Common.{replicate, ap, sym, ◌∙◌}
 use Rattle.asm_group.specs.Shape.{Shape}
-use Rattle.command_refusals.specs.declared.refusal.Refusal.TheVariants as cause
+use Rattle.refusal_lines.specs.declared.refusal.Refusal.TheVariants as cause
 use Rattle.file_extents.specs.catalog_tables.Tables.{Catalogued}
 use Rattle.file_extents.proofs.Chains.{kept}
 use Rattle.group_contents.proofs.Chains.{all_write}

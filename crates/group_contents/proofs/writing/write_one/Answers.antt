@@ -1,6 +1,6 @@
 use Rattle.std.proofs.Common.{Err, subst}
-use Rattle.command_refusals.specs.declared.refusal.Refusal.{Refusal}
-use Rattle.command_refusals.specs.declared.refusal.Refusal.TheVariants as cause
+use Rattle.refusal_lines.specs.declared.refusal.Refusal.{Refusal}
+use Rattle.refusal_lines.specs.declared.refusal.Refusal.TheVariants as cause
 use Rattle.file_extents.specs.group_pieces.Held.{PieceStays}
 use Rattle.file_extents.specs.group_pieces.Pieces.{WritePieceCause}
 use Rattle.group_contents.proofs.Chains.{fault_puts, fills_put, more_failed, piece_fails}

@@ -1,5 +1,5 @@
 use Rattle.std.proofs.Common.{subst, sym}
-use Rattle.command_refusals.specs.declared.refusal.Refusal.{Refusal}
+use Rattle.refusal_lines.specs.declared.refusal.Refusal.{Refusal}
 use Rattle.record_laws.specs.group_engine.Commits.{StatusCause}
 use Rattle.record_laws.specs.group_engine.Mounts.{MountedGroup}
 use Rattle.record_laws.specs.group_engine.Own.{KeepsGroup}

@@ -1,6 +1,6 @@
 use Rattle.std.proofs.Common.{◌≡◌, length, ap, subst, sym, ◌∙◌, Ok, Err}
 use Rattle.record_laws.specs.group_engine.Mounts.{MountedGroup}
-use Rattle.command_refusals.specs.declared.refusal.Refusal.{Refusal}
+use Rattle.refusal_lines.specs.declared.refusal.Refusal.{Refusal}
 use Rattle.group_pieces.specs.Marking.{AreMarked, MarksMore, left_of}
 use Rattle.group_pieces.specs.Pieces.{WritePieceCause}
 use Rattle.record_laws.proofs.group_engine.Causes.{calls_keep, cause_on}

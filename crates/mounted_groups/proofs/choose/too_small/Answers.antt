@@ -1,6 +1,6 @@
 use Rattle.std.proofs.Common.{inl, inr, ℕ, List, refl, ap, ◌∙◌}
 use Rattle.asm_group.specs.Refusal.{TooSmall}
-use Rattle.command_refusals.specs.Refusals.{meaning_of}
+use Rattle.refusal_lines.specs.Refusals.{meaning_of}
 use Rattle.mounted_groups.proofs.choose.too_small.Goals as goal
 
 pub returns-in-Ok : goal.returns-in-Ok

@@ -1,6 +1,6 @@
 use Rattle.std.proofs.Common.{rules, arith}
 use Rattle.std.proofs.lemmas.Grind.{common_steps}
-use Rattle.command_refusals.specs.Refusals.{meaning_of}
+use Rattle.refusal_lines.specs.Refusals.{meaning_of}
 use Rattle.mounted_groups.proofs.FirstMounts.{forms_says}
 use Rattle.mounted_groups.proofs.Moments.{forms_creates, forms_founds}
 use Rattle.mounted_groups.proofs.create.form.Goals as goal

@@ -1,5 +1,5 @@
 use Rattle.std.proofs.Common.{refl}
-use Rattle.command_refusals.specs.Refusals.{meaning_of}
+use Rattle.refusal_lines.specs.Refusals.{meaning_of}
 use Rattle.mounted_groups.proofs.create.make_ready.Goals as goal
 
 pub returns-in_default-clause-err : goal.returns-in_default-clause-err

@@ -3,7 +3,7 @@ use Rattle.std.specs.String.{string_bytes}
 use Rattle.std.proofs.lemmas.List.{length-map}
 use Rattle.std.proofs.lemmas.Result.{err_from_is_err_and}
 use Rattle.bay.specs.declared.fault.BayError.{BayError}
-use Rattle.command_refusals.specs.Refusals.{meaning_of}
+use Rattle.refusal_lines.specs.Refusals.{meaning_of}
 use Rattle.mounted_groups.specs.Found.{counts_of}
 use Rattle.mounted_groups.proofs.Makes.{failed_cause, held_cause, is_made, looked_held, looked_spares, looks_stay, made_spares, made_spares_held, made_stays, no_slot_cause, not_free, nothing_changed, nothing_held, nothing_made, was_free}
 use Rattle.mounted_groups.proofs.Spared.{free_of}

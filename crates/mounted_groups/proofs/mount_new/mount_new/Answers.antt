@@ -1,6 +1,6 @@
 use Rattle.std.proofs.Common.{sym, ap, subst, refl}
 use Rattle.std.specs.Prelude.{IsTrue}
-use Rattle.command_refusals.specs.Refusals.{meaning_of}
+use Rattle.refusal_lines.specs.Refusals.{meaning_of}
 use Rattle.asm_formats.specs.Status.{Status, is_status}
 use Rattle.group_recovery.specs.catalog_tables.Faults.{IsCatalogOf}
 use Rattle.mounted_groups.specs.Planned.{Plan}

@@ -1,7 +1,7 @@
 use Rattle.std.proofs.Common.{refl, sym, ap, ◌∙◌}
 use Rattle.asm_base.specs.Names.{name_of}
-use Rattle.command_refusals.specs.Refusals.{meaning_of}
-use Rattle.command_refusals.specs.declared.refusal.Refusal.TheVariants.{BadAttribute}
+use Rattle.refusal_lines.specs.Refusals.{meaning_of}
+use Rattle.refusal_lines.specs.declared.refusal.Refusal.TheVariants.{BadAttribute}
 use Rattle.asm_world.specs.Statement as s
 use Rattle.session.specs.group_files.declared.edit.GroupEdit.TheVariants as edits
 use Rattle.name_commands.proofs.AskedEdits.{attribute_read, attribute_unread, settings_asked, settings_vain}

@@ -1,5 +1,5 @@
 use Rattle.std.proofs.Common.{inr, refl}
-use Rattle.command_refusals.specs.Refusals.{meaning_of}
+use Rattle.refusal_lines.specs.Refusals.{meaning_of}
 use Rattle.new_groups.proofs.attributes.finished.Goals as goal
 
 pub returns-then-not-is_allowed-clause-refused : goal.returns-then-not-is_allowed-clause-refused

@@ -2,7 +2,7 @@ use Rattle.std.proofs.Common.{[], length, map, sym, ap}
 use Rattle.std.specs.String.{string_bytes}
 use Rattle.std.proofs.lemmas.List.{length-map}
 use Rattle.std.proofs.lemmas.Result.{IfErr-weaker, IfOk-weaker}
-use Rattle.command_refusals.specs.Refusals.{meaning_of}
+use Rattle.refusal_lines.specs.Refusals.{meaning_of}
 use Rattle.new_groups.specs.Preparing.{not_formed}
 use Rattle.new_groups.specs.declared.preparing.Ready.{Ready}
 use Rattle.new_groups.proofs.Formed.{looks_spare, looks_stay, newly_as, work_spares, works_stay}

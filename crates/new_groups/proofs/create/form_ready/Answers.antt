@@ -1,4 +1,4 @@
-use Rattle.command_refusals.specs.Refusals.{meaning_of}
+use Rattle.refusal_lines.specs.Refusals.{meaning_of}
 use Rattle.new_groups.proofs.Formed.{disks_stay, disks_there, newly}
 use Rattle.new_groups.proofs.create.form_ready.Goals as goal
 

@@ -1,4 +1,4 @@
-use Rattle.command_refusals.specs.Refusals.{meaning_of}
+use Rattle.refusal_lines.specs.Refusals.{meaning_of}
 use Rattle.new_groups.proofs.forming.+fault_of.Goals as goal
 
 pub returns-in_default : goal.returns-in_default

@@ -1,6 +1,6 @@
 use Rattle.std.proofs.Common.{◌≡◌, ◌<◌, ◌∙◌, false, leb, refl, sym, arith}
 use Rattle.std.proofs.lemmas.Bool.{leb-false}
-use Rattle.command_refusals.specs.Refusals.{meaning_of}
+use Rattle.refusal_lines.specs.Refusals.{meaning_of}
 use Rattle.new_groups.specs.Planning.{disk_count}
 use Rattle.new_groups.proofs.planned.planned_disks.Goals as goal
 

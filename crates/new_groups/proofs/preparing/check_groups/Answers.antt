@@ -1,5 +1,5 @@
 use Rattle.std.proofs.Common.{inl}
-use Rattle.command_refusals.specs.Refusals.{meaning_of}
+use Rattle.refusal_lines.specs.Refusals.{meaning_of}
 use Rattle.new_groups.proofs.Refused.{groups_few}
 use Rattle.new_groups.proofs.preparing.check_groups.Goals as goal
 

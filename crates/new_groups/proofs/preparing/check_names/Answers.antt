@@ -1,5 +1,5 @@
 use Rattle.std.proofs.Common.{inl, sym, ◌∙◌}
-use Rattle.command_refusals.specs.Refusals.{meaning_of}
+use Rattle.refusal_lines.specs.Refusals.{meaning_of}
 use Rattle.new_groups.proofs.Refused.{names_clash}
 use Rattle.new_groups.proofs.preparing.check_names.Goals as goal
 

@@ -2,7 +2,7 @@ use Rattle.std.proofs.Common.{[], length, map, sym, ◌∙◌, refl}
 use Rattle.std.specs.String.{string_bytes}
 use Rattle.std.proofs.lemmas.List.{length-map}
 use Rattle.std.proofs.lemmas.Result.{IfErr-weaker, IfOk-weaker}
-use Rattle.command_refusals.specs.Refusals.{meaning_of}
+use Rattle.refusal_lines.specs.Refusals.{meaning_of}
 use Rattle.mounted_groups.specs.attribute_values.Creations.{creation_meant}
 use Rattle.new_groups.proofs.Formed.{looks_none}
 use Rattle.new_groups.proofs.Passing.{prepared_above, prepared_agrees, prepared_free}

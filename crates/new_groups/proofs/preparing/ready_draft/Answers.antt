@@ -1,5 +1,5 @@
 use Rattle.std.proofs.Common.{refl}
-use Rattle.command_refusals.specs.Refusals.{meaning_of}
+use Rattle.refusal_lines.specs.Refusals.{meaning_of}
 use Rattle.new_groups.proofs.preparing.ready_draft.Goals as goal
 
 pub returns-then-draft-id-clause-refused : goal.returns-then-draft-id-clause-refused

@@ -1,6 +1,6 @@
 use Rattle.std.proofs.Common.{Result, subst}
 use Rattle.std.specs.Prelude.{IfErr, IfOk, OnOk}
-use Rattle.command_refusals.specs.declared.refusal.Refusal.{Refusal}
+use Rattle.refusal_lines.specs.declared.refusal.Refusal.{Refusal}
 use Rattle.resync.specs.group_engine.Mounts.{IsMounted}
 use Rattle.resync.proofs.group_engine.Members.{lets_join}
 use Rattle.relocation.specs.Shortfalls.{EndCause}

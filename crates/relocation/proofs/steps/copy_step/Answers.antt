@@ -1,5 +1,5 @@
 use Rattle.std.proofs.Common.{Some, sym, subst}
-use Rattle.command_refusals.specs.declared.refusal.Refusal.{Refusal}
+use Rattle.refusal_lines.specs.declared.refusal.Refusal.{Refusal}
 use Rattle.resync.proofs.group_engine.Members.{keeps_lets, lets_join}
 use Rattle.resync.proofs.file_extents.Chains.{takes_on}
 use Rattle.relocation.specs.Slices.{SliceCause}

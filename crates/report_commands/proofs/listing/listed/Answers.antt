@@ -1,7 +1,7 @@
 use Rattle.std.proofs.Common.{◌≡◌, ◌∙◌, ap, inl}
 use Rattle.std.proofs.lemmas.Result.{IfOk-weaker}
-use Rattle.command_refusals.specs.declared.refusal.Refusal.{Refusal}
-use Rattle.command_refusals.specs.declared.refusal.Refusal.TheVariants as cause
+use Rattle.refusal_lines.specs.declared.refusal.Refusal.{Refusal}
+use Rattle.refusal_lines.specs.declared.refusal.Refusal.TheVariants as cause
 use Rattle.asmcmd.specs.Texts.{ls_row_lines}
 use Rattle.session.proofs.Carrying.{if_err}
 use Rattle.report_commands.specs.Listed.{IsUnlisted}

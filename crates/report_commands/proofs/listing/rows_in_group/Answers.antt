@@ -1,7 +1,7 @@
 use Rattle.std.proofs.Common.{◌≡◌, ◌⊎◌, inr, inl}
 use Rattle.std.proofs.lemmas.Result.{IfOk-weaker}
-use Rattle.command_refusals.specs.declared.refusal.Refusal.{Refusal}
-use Rattle.command_refusals.specs.declared.refusal.Refusal.TheVariants as cause
+use Rattle.refusal_lines.specs.declared.refusal.Refusal.{Refusal}
+use Rattle.refusal_lines.specs.declared.refusal.Refusal.TheVariants as cause
 use Rattle.group_reports.specs.Listing.{IsListCause}
 use Rattle.report_commands.specs.Listed.{IsRefusedIn}
 use Rattle.session.proofs.Carrying.{if_err}

@@ -1,5 +1,5 @@
 use Rattle.std.proofs.Common.{subst, sym}
-use Rattle.command_refusals.specs.declared.refusal.Refusal.{Refusal}
+use Rattle.refusal_lines.specs.declared.refusal.Refusal.{Refusal}
 use Rattle.file_extents.specs.group_engine.Commits.{StatusCause}
 use Rattle.file_extents.proofs.group_engine.Causes.{calls_keep}
 use Rattle.file_extents.proofs.Chains.{kept, takes_on}

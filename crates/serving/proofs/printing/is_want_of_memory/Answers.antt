@@ -1,5 +1,5 @@
 use Rattle.std.proofs.Common.{refl}
-use Rattle.command_refusals.specs.Refusals.{meaning_of}
+use Rattle.refusal_lines.specs.Refusals.{meaning_of}
 use Rattle.serving.proofs.Ending.{said_other}
 use Rattle.serving.proofs.printing.is_want_of_memory.Goals as goal
 

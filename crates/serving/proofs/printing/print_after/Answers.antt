@@ -1,5 +1,5 @@
 use Rattle.std.proofs.Common.{refl, inr, []}
-use Rattle.command_refusals.specs.Refusals.{meaning_of}
+use Rattle.refusal_lines.specs.Refusals.{meaning_of}
 use Rattle.serving.proofs.Printed.{bytes-as, refused-as}
 use Rattle.serving.proofs.printing.print_after.Goals as goal
 

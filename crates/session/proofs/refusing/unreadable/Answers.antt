@@ -1,5 +1,5 @@
 use Rattle.std.proofs.Common.{refl}
-use Rattle.command_refusals.specs.Refusals.{meaning_of}
+use Rattle.refusal_lines.specs.Refusals.{meaning_of}
 use Rattle.asm_world.specs.Command.{Unreadable}
 use Rattle.session.proofs.Languages.{meaning_is}
 use Rattle.session.proofs.Outcomes.{unreadable}

@@ -1,6 +1,6 @@
 use Rattle.std.proofs.Common.{rules}
 use Rattle.bay.proofs.OneCall.{reworded}
-use Rattle.gate_slot.proofs.Steps.{plain, may_put-same}
+use Rattle.body_slot.proofs.Steps.{plain, may_put-same}
 use Rattle.status_register.proofs.Filling.{fills, may_fill, short_sector}
 use Rattle.status_register.proofs.storing.fill_slot.Goals as goal
 

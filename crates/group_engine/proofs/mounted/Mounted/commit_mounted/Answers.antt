@@ -2,7 +2,7 @@ use Rattle.std.proofs.Common.{◌∙◌, Ok, Err, refl, sym, subst}
 use Rattle.bay.specs.State.{IsSound}
 use Rattle.directory_store.specs.declared.error.StoreError.{StoreError}
 use Rattle.directory_store.specs.declared.error.StoreError.TheVariants.{Full, NoMemory}
-use Rattle.command_refusals.specs.declared.refusal.Refusal.TheVariants as cause
+use Rattle.refusal_lines.specs.declared.refusal.Refusal.TheVariants as cause
 use Rattle.directory_store.specs.StoreCalls.{CommitsRecords}
 use Rattle.group_engine.specs.Commits.{CommitsChange}
 use Rattle.group_engine.specs.Mounts.{IsMounted, IsReady, IsWhole, MountedGroup}

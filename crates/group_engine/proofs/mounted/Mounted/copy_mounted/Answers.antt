@@ -2,7 +2,7 @@ use Rattle.std.proofs.Common.{rules, ◌≡◌, ◌≤◌, true, length, ap, Non
 use Rattle.std.specs.Option.{option_map}
 use Rattle.std.proofs.lemmas.List.{get_or_past}
 use Rattle.asm_formats.specs.Sets.{has_bit}
-use Rattle.command_refusals.specs.declared.refusal.Refusal.TheVariants as cause
+use Rattle.refusal_lines.specs.declared.refusal.Refusal.TheVariants as cause
 use Rattle.group_engine.specs.Mounts.{slot_at}
 use Rattle.group_engine.specs.declared.attached.Attached.{Attached}
 use Rattle.group_engine.proofs.Copied.{copied_before, copied_not, copied_nowhere}

@@ -1,7 +1,7 @@
 use Rattle.std.proofs.Common.{◌≡◌, Ok, Err, false, refl, sym, ap, subst}
-use Rattle.command_refusals.specs.declared.refusal.DiskRef.TheVariants.{Number}
-use Rattle.command_refusals.specs.declared.refusal.Refusal.{Refusal}
-use Rattle.command_refusals.specs.declared.refusal.Refusal.TheVariants as cause
+use Rattle.refusal_lines.specs.declared.refusal.DiskRef.TheVariants.{Number}
+use Rattle.refusal_lines.specs.declared.refusal.Refusal.{Refusal}
+use Rattle.refusal_lines.specs.declared.refusal.Refusal.TheVariants as cause
 use Rattle.asm_formats.specs.Sets.{has_bit}
 use Rattle.directory_store.specs.Stores.{Stored}
 use Rattle.directory_store.specs.declared.copying.CopyError.{CopyError}

@@ -5,7 +5,7 @@ use Rattle.group_engine.specs.Forgetting.{KeepsNamed}
 use Rattle.group_engine.proofs.Commits.{keeps_over_row}
 use Rattle.bay.specs.State.{IsSound}
 use Rattle.rebalance.specs.catalog_tables.Placing.{HasUnits}
-use Rattle.command_refusals.specs.declared.refusal.Refusal.TheVariants as cause
+use Rattle.refusal_lines.specs.declared.refusal.Refusal.TheVariants as cause
 use Rattle.status_register.specs.Holders.{HoldSlots, SlotsDiffer}
 use Rattle.group_engine.specs.Mounts.{IsMounted, IsReady, IsWhole, MountedGroup}
 use Rattle.group_engine.specs.Statuses.{IsNextOf, WritesStatus}

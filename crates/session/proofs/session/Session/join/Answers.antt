@@ -1,5 +1,5 @@
 use Rattle.std.proofs.Common.{inr, refl}
-use Rattle.command_refusals.specs.Refusals.{meaning_of}
+use Rattle.refusal_lines.specs.Refusals.{meaning_of}
 use Rattle.session.proofs.Carrying.{carries_none}
 use Rattle.session.proofs.Telling.{no_memory_out}
 use Rattle.session.proofs.session.Session.join.Goals as goal

@@ -1,7 +1,7 @@
 use Rattle.std.proofs.Common.{refl, sym, ap, ◌∙◌}
 use Rattle.std.specs.Prelude.{is_none}
-use Rattle.command_refusals.specs.Refusals.{meaning_of}
-use Rattle.command_refusals.specs.declared.refusal.Refusal.TheVariants.{NoGroup}
+use Rattle.refusal_lines.specs.Refusals.{meaning_of}
+use Rattle.refusal_lines.specs.declared.refusal.Refusal.TheVariants.{NoGroup}
 use Rattle.group_contents.specs.group_engine.Making.{dismounted_by}
 use Rattle.group_contents.specs.group_engine.declared.access.Access.{Access}
 use Rattle.session.proofs.Grouped.{entry_on, group_found, mounted_found, paired}

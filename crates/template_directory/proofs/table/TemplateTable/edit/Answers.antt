@@ -1,5 +1,5 @@
 use Rattle.std.proofs.Common.{inl, refl}
-use Rattle.command_refusals.specs.Refusals.{meaning_of}
+use Rattle.refusal_lines.specs.Refusals.{meaning_of}
 use Rattle.template_directory.specs.Meant.{template_edit_meant}
 use Rattle.template_directory.proofs.EditLaws.{done_is, refused_is}
 use Rattle.template_directory.proofs.table.TemplateTable.edit.Goals as goal
