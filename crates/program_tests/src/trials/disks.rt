@@ -1,10 +1,11 @@
 // The front of four disks, as far as the script reaches, and changes of it that are taken back.
 use crate::calls::Kind;
 use crate::trace::TracedCall;
+use disk_blocks::BLOCK_SIZE;
 use std::alloc::{AllocError, Global};
 
 /// The bytes of a page, which are those of a block and of a unit.
-pub const PAGE: usize = 4096;
+pub const PAGE: usize = BLOCK_SIZE;
 
 /// The pages that are kept of each disk.
 pub const PAGES: usize = 320;
