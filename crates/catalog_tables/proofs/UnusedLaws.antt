@@ -55,4 +55,4 @@ pub reserved_fits : (s : Shape) → is_shape s ≡ true → reserved_units s < 4
 unfolding reserved_units
 reserved_fits s e =
     let f = reserved_few s e in
-    few_of (region_end s.dir_blocks * block_size + (s.au - 1)) s.au (omega (arith, f.0, f.1.0, f.1.1))
+    few_of (region_end s.dir_blocks * block_size + (s.au - 1)) s.au (omega (arith, f.0, f.1, f.2))

@@ -213,7 +213,6 @@ fn units_in(entries: &[PstEntry], number: u8) -> u32
 }
 
 /// Units of a disk that hold no user bytes.
-#[tactic(auto, using(crate::proofs::UnusedLaws::reserved_fits))]
 fn reserved_units(shape: &Shape) -> u32
     requires { IsTrue (is_shape shape.now) }
     ensures { result ≡ reserved_units shape.now }
