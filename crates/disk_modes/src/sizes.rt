@@ -8,6 +8,7 @@ ghost use Rattle.disk_modes.specs.Ends.{AreUsedTo, HasEnds, IsChunkEnd, IsCopyEn
 ghost use Rattle.disk_modes.specs.Sizes.{image_units, units_asked, whole_units_in};
 
 use asm_base::{DiskSet, Home, Homes, MOST_UNITS, Shape};
+use disk_sizes::least_units;
 use group_reports::{Catalog, units_of};
 use record_laws::Mounted;
 use refusal_lines::{DiskRef, Refusal};
