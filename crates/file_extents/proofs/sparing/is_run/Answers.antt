@@ -11,7 +11,7 @@ returns c =
     let m = c.args.m.now in
     let shape : c.shape-shape.result ≡ m.catalog.shape = c.shape-shape.ensures.shape ∙ ap (λ (v : Catalogued). v.shape) c.catalog.ensures in
     let unit = ap (λ (h : Home). h.unit) c.home.view_is in
-    let reserved = c.reserved_units.ensures.units ∙ ap reserved_units shape in
+    let reserved = c.reserved_units-reserved.ensures.units ∙ ap reserved_units shape in
     record {
       number = omega (arith, ap (λ (h : Home). h.disk) c.home.view_is);
       slot = _;
