@@ -3,10 +3,7 @@ ghost use Rattle.std.specs.Prelude.{◌≡◌, ◌≤◌};
 ghost use Rattle.change_directory.specs.Places.{gate_of, other_of, log_place};
 
 use body_slot::Place;
-use disk_blocks::{BLOCK, REGION_START};
-
-/// Blocks in a log slot: its gate, its head and 64 images.
-const LOG_BLOCKS: u32 = 66;
+use disk_blocks::{BLOCK, LOG_BLOCKS, REGION_START};
 
 /// The directory copy of one disk.
 #[derive(Clone, Copy, Debug, PartialEq, Eq)]

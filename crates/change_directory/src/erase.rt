@@ -12,13 +12,13 @@ use crate::copy::{DirCopy, LogSlot, log_place, other_slot};
 use crate::spare::spare_slot;
 use bay::{Bay, Fault};
 use body_slot::close_gate;
-use disk_blocks::{BLOCK, LEAST_SIZE};
+use disk_blocks::{BLOCK, LEAST_SIZE, LOG_BLOCKS};
 
 /// The most bytes that one write of zeros takes.
 const PIECE: usize = 262_144;
 
 /// The blocks behind the gate of a log slot.
-const LOG_BODY: u32 = 65;
+const LOG_BODY: u32 = LOG_BLOCKS - 1;
 
 /// Takes a copy's content away: closes the log slot of the smaller commit number and then the other one, and zeroes all
 /// pages. The content stays until it is gone.

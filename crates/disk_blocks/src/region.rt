@@ -21,3 +21,6 @@ pub const SECOND_STATUS: u32 = 8;
 
 /// The block of the first page of the directory region.
 pub const REGION_START: u32 = 10;
+
+/// The blocks of a log slot: its gate, its head and the images of 64 pages.
+pub const LOG_BLOCKS: u32 = 66;

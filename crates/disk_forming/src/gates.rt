@@ -8,7 +8,9 @@ ghost use Rattle.disk_forming.specs.Gates.{HasAttachedRegion, GatesOf, ShutsGate
 use crate::places::{block_slot, header_slot};
 use bay::{Bay, Fault};
 use body_slot::close_gate;
-use disk_blocks::{FIRST_CLAIM, FIRST_STATUS, SECOND_CLAIM, SECOND_STATUS};
+use disk_blocks::{
+    FIRST_CLAIM, FIRST_STATUS, LOG_BLOCKS, REGION_START, SECOND_CLAIM, SECOND_STATUS,
+};
 
 /// Closes every gate of a disk of a group, that of the header first.
 pub fn close_all_gates<B: Bay>(
@@ -44,8 +46,8 @@ fn close_other_gates<B: Bay>(
         SECOND_CLAIM,
         FIRST_STATUS,
         SECOND_STATUS,
-        10 + dir_blocks,
-        76 + dir_blocks,
+        REGION_START + dir_blocks,
+        REGION_START + LOG_BLOCKS + dir_blocks,
     ];
     for gate in &gates {
         close_gate(bay, slot, block_slot(*gate, 1, sector))?;

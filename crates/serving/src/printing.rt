@@ -14,7 +14,7 @@ ghost use Rattle.disk_commands.specs.session.Views.{reply_view};
 use asm_base::{List, NoMemory, Text};
 use bay::{Fault, Sink, write_all};
 use disk_commands::Reply;
-use refusal_lines::Refusal;
+use refusal_lines::{Refusal, no_memory_line};
 use std::alloc::Global;
 
 /// Prints a reply, or the refusal for want of memory alone where there is none for the text of one.
@@ -84,7 +84,7 @@ fn print_no_memory<K: Sink>(sink: &mut K) -> (Reply, Result<(), Fault>)
 {
     (
         Reply::Refused(Refusal::NoMemory),
-        write_all(sink, b"error 39 NoMemory\n"),
+        print_line(sink, no_memory_line()),
     )
 }
 

@@ -9,4 +9,4 @@ returns-clause-reply g c = refl
 
 pub returns-clause-bytes : goal.returns-clause-bytes
 unfolding meaning_of digits
-returns-clause-bytes g c = c.write_all.ensures.bytes
+returns-clause-bytes g c = rw c.no_memory_line.ensures at c.print_line.ensures.bytes
