@@ -4,6 +4,7 @@ use Rattle.std.specs.Int.{w16, w32, w64}
 use Rattle.std.specs.List.{list_all}
 use Rattle.std.specs.Option.{is_some, option_or}
 use Rattle.asm_group.specs.Names.{Bytes}
+use Rattle.asm_group.specs.Modes.{is_offline}
 use Rattle.asm_group.specs.declared.Mode.{Mode}
 use Rattle.asm_formats.specs.Bytes.{number_bytes, whole_block, byte_at, number_at, values_at, spelled_by}
 use Rattle.asm_formats.specs.Codes.{flag, mode_code, mode_of}
@@ -23,6 +24,9 @@ pub record Entry : Type 0 where
   pub repair : ℕ
   -- a set of disk numbers
   pub partners : ℕ
+
+abbrev pub is_offline_entry : Entry → Bool
+is_offline_entry e = is_offline e.mode
 
 pub record Status : Type 0 where
   pub id : ℕ

@@ -2,11 +2,11 @@
 use Rattle.std.proofs.Common.{◌≡◌, ◌≢◌, inl, inr, ⊎_elim, ℕ, ◌+◌, ◌≤◌, Bool, false, refl, sym, ap, subst, ◌∙◌, arith}
 use Rattle.std.specs.Prelude.{if◌then◌else◌, ◌==◌}
 use Rattle.std.proofs.lemmas.Bool.{cases_eq, eq-eqb}
-use Rattle.bay.specs.Image.{Image, ChangesOnly}
+use Rattle.bay.specs.Image.{Image, ChangesOnly, SameDisk}
 use Rattle.bay.specs.State.{BayState, IsSlot}
 use Rattle.bay.specs.Moments.{NowOnly, LeavesOnly}
 use Rattle.bay.specs.Calls.{Cost, both_costs, Calls}
-use Rattle.bay.specs.Lists.{OneMore, Tasks, Claims, SameOn, IsLocal, HasOwnSlot, BytesOf, own_cost, Each, CallsOn, DoesOne, DoesEach}
+use Rattle.bay.specs.Lists.{OneMore, Tasks, Claims, IsLocal, HasOwnSlot, BytesOf, own_cost, Each, CallsOn, DoesOne, DoesEach}
 use Rattle.bay.proofs.Images.{changes-within, changes-trans, changes-same, same-refl}
 use Rattle.bay.proofs.Calls.{stops, leaves_only, leaves_on, leaves_begin, now_only, now_of}
 use Rattle.bay.proofs.OneCall.{wider, joined, more_slots, no_call}
@@ -55,14 +55,14 @@ module _ {A : Type 0} (tasks : Tasks A) where
 
   module _ (claims : Claims A) (x : A) (among : A → Type 0) (local : IsLocal tasks claims (OneMore x among)) (apart : HasOwnSlot tasks x among) where
     -- the others' disks stay in the call on the first
-    others_stay : (y : A) → among y → (old new : Image) → ChangesOnly (tasks.region x) old new → SameOn (tasks.slot y) old new
+    others_stay : (y : A) → among y → (old new : Image) → ChangesOnly (tasks.region x) old new → SameDisk (tasks.slot y) old new
     others_stay y there old new step = record {
       size = step.size (tasks.slot y);
       byte = λ k. step.byte (tasks.slot y) k (λ inside. apart y there (sym (local.on_slot x (inl refl) (tasks.slot y) k inside)));
     }
 
     -- and the first's in the calls on the others
-    first_stays : (old new : Image) → ChangesOnly (BytesOf tasks among) old new → SameOn (tasks.slot x) old new
+    first_stays : (old new : Image) → ChangesOnly (BytesOf tasks among) old new → SameDisk (tasks.slot x) old new
     first_stays old new step = record {
       size = step.size (tasks.slot x);
       byte = λ k. step.byte (tasks.slot x) k (λ inside. apart inside.0 inside.1 (local.on_slot inside.0 (inr inside.1) (tasks.slot x) k inside.2));

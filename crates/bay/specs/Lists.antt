@@ -1,6 +1,6 @@
 -- A call on each of several things, each on a slot of its own.
 use Rattle.std.specs.Prelude.{◌≡◌, ◌≢◌, ◌⊎◌, ℕ, ◌+◌, ◌≤◌, Bool, false, List, [], ◌∷◌, if◌then◌else◌, ◌==◌}
-use Rattle.bay.specs.Image.{Image, ChangesOnly}
+use Rattle.bay.specs.Image.{Image, ChangesOnly, SameDisk}
 use Rattle.bay.specs.State.{BayState, IsSlot}
 use Rattle.bay.specs.Moments.{NowOnly, LeavesOnly}
 use Rattle.bay.specs.Calls.{Cost, cost, both_costs, Calls}
@@ -17,14 +17,9 @@ pub record Claims (A : Type 0) : Type 1 where
   pub during : A → Image → Type 0
   pub after : A → Image → Type 0
 
--- the slot's disk is the same
-pub record SameOn (slot : ℕ) (old new : Image) : Type 0 where
-  pub size : new.size slot ≡ old.size slot
-  pub byte : (k : ℕ) → new.byte slot k ≡ old.byte slot k
-
 -- the claim speaks of the slot's disk alone
 abbrev pub IsOn : ℕ → (Image → Type 0) → Type 0
-IsOn slot claim = (old new : Image) → SameOn slot old new → claim old → claim new
+IsOn slot claim = (old new : Image) → SameDisk slot old new → claim old → claim new
 
 module _ {A : Type 0} where
   -- one of those, or this one

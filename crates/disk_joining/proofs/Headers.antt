@@ -1,7 +1,7 @@
 -- New disks get their headers, and keep them over calls on other disks.
 use Rattle.std.proofs.Common.{◌≡◌, ⊎_elim, inl, inr, ℕ, zero, suc, ◌+◌, ◌<◌, ◌≤◌, List, [], ◌∷◌, length, get_or, sym, ap, subst, ◌∙◌, arith}
 use Rattle.std.proofs.lemmas.Bool.{cases_lt}
-use Rattle.bay.specs.Image.{Image, window}
+use Rattle.bay.specs.Image.{Image, SameDisk, window}
 use Rattle.bay.specs.Moments.{Runs}
 use Rattle.bay.specs.State.{BayState}
 use Rattle.bay.proofs.Calls.{leaves_only, now_of, on_more, widened}
@@ -9,7 +9,6 @@ use Rattle.bay.proofs.Images.{changes-within, window-same}
 use Rattle.asm_formats.specs.Metadata.{header_of}
 use Rattle.asm_images.specs.Kept.{header_in}
 use Rattle.asm_formats.specs.Among.{IsAmong}
-use Rattle.file_extents.specs.group_engine.Frames.{SameDisk}
 use Rattle.file_extents.specs.group_engine.Mounts.{MountedGroup}
 use Rattle.file_extents.specs.group_engine.Own.{KeepsGroup}
 use Rattle.new_groups.specs.group_recovery.Verdicts.{IsSlotIn}

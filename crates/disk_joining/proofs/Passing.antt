@@ -4,13 +4,13 @@ use Rattle.std.proofs.lemmas.Bool.{cases_lt, true≢false}
 use Rattle.refusal_lines.specs.declared.refusal.DiskRef.TheVariants as disk
 use Rattle.refusal_lines.specs.declared.refusal.Refusal.TheVariants as refusal
 use Rattle.asm_formats.specs.Sets.{has_bit}
-use Rattle.asm_formats.specs.Status.{Entry, Status, entry_of}
+use Rattle.asm_formats.specs.Status.{Entry, Status, entry_of, is_offline_entry}
 use Rattle.asm_group.specs.declared.Mode.{Mode}
 use Rattle.asm_group.specs.declared.Mode.TheVariants as mode
 use Rattle.asm_group.specs.Modes.{is_offline}
 use Rattle.disk_images.specs.declared.looking.Looked.{Looked}
 use Rattle.file_extents.specs.group_engine.Mounts.{MountedGroup}
-use Rattle.disk_joining.specs.Causes.{ImageCause, PassBelow, PassesTest, JoinStateCause, may_return}
+use Rattle.disk_joining.specs.Causes.{ImageCause, PassBelow, PassesTest, JoinStateCause}
 use Rattle.disk_joining.specs.Returning.{is_present}
 
 pub none_below : (entries : List Entry) (disks : ℕ) (test : Entry → Bool) → PassBelow entries disks test 0
@@ -40,7 +40,7 @@ not_offline : (is : Mode) → (is ≡ mode.Offline → ⊥) → is_offline is �
 not_offline mode.Offline out = absurd (out refl)
 not_offline other out = refl
 
-pub state_refused : (m : MountedGroup) (disks n : ℕ) (e : Entry) (is : Mode) → has_bit disks n ≡ true → entry_of m.register.value.entries n ≡ Some e → e.mode ≡ is → (is ≡ mode.Offline → ⊥) → PassBelow m.register.value.entries disks may_return n
+pub state_refused : (m : MountedGroup) (disks n : ℕ) (e : Entry) (is : Mode) → has_bit disks n ≡ true → entry_of m.register.value.entries n ≡ Some e → e.mode ≡ is → (is ≡ mode.Offline → ⊥) → PassBelow m.register.value.entries disks is_offline_entry n
     → JoinStateCause m disks (refusal.DiskState (disk.Number n) is)
 state_refused m disks n e is has at same out lesser = (record { among = has; entry = e; there = at; fails = ap is_offline same ∙ not_offline is out; lesser = lesser }, same)
 

@@ -7,8 +7,7 @@ use Rattle.refusal_lines.specs.declared.refusal.DiskRef.TheVariants as disk
 use Rattle.refusal_lines.specs.declared.refusal.Refusal.{Refusal}
 use Rattle.refusal_lines.specs.declared.refusal.Refusal.TheVariants as refusal
 use Rattle.asm_formats.specs.Sets.{has_bit}
-use Rattle.asm_formats.specs.Status.{Entry, entry_of}
-use Rattle.asm_group.specs.Modes.{is_offline}
+use Rattle.asm_formats.specs.Status.{Entry, entry_of, is_offline_entry}
 use Rattle.disk_images.specs.Looks.{AreLooked}
 use Rattle.disk_images.specs.declared.looking.Looked.{Looked}
 use Rattle.file_extents.specs.group_engine.Mounts.{MountedGroup, slot_at}
@@ -52,13 +51,9 @@ pub record IsLeastFailing (entries : List Entry) (disks : ℕ) (test : Entry →
 abbrev pub HasUnknown : List Entry → ℕ → Type 0
 HasUnknown entries disks = (d : ℕ) × (has_bit disks d ≡ true) × (entry_of entries d ≡ None)
 
--- a disk may come back that is Offline
-abbrev pub may_return : Entry → Bool
-may_return e = is_offline e.mode
-
 -- By the modes of the disks: the least that isn't Offline is in that mode, or one has no entry.
 abbrev pub JoinStateCause : MountedGroup → ℕ → Refusal → Type 0
-JoinStateCause m disks (refusal.DiskState (disk.Number d) is) = (least : IsLeastFailing m.register.value.entries disks may_return d) × (least.entry.mode ≡ is)
+JoinStateCause m disks (refusal.DiskState (disk.Number d) is) = (least : IsLeastFailing m.register.value.entries disks is_offline_entry d) × (least.entry.mode ≡ is)
 JoinStateCause m disks refusal.NoName = HasUnknown m.register.value.entries disks
 JoinStateCause m disks other = ⊥
 

@@ -1,8 +1,8 @@
 //! ONLINE: disks that were offline come back.
 ghost use Rattle.std.specs.Prelude.{◌≡◌, ◌+◌, ◌<◌, ◌≤◌, ◌&&◌, IfErr, IfSome, OnOk, is_some, length, slice_get};
-ghost use Rattle.asm_formats.specs.Status.{entry_of};
+ghost use Rattle.asm_formats.specs.Status.{entry_of, is_offline_entry};
 ghost use Rattle.file_extents.specs.group_engine.Mounts.{IsMounted, Takes};
-ghost use Rattle.disk_joining.specs.Causes.{ImageCause, OnlineCause, PassBelow, JoinStateCause, StepCause, may_return};
+ghost use Rattle.disk_joining.specs.Causes.{ImageCause, OnlineCause, PassBelow, JoinStateCause, StepCause};
 ghost use Rattle.disk_joining.specs.Returning.{AreShown, IsShownAs, IsShownFrom, IsSize, is_image_of_entry, is_slot_free, is_present, shows_at, shows_disk, shows_in_free};
 ghost use Rattle.disk_joining.specs.Taking.{IsApart, TakesIn};
 
@@ -20,9 +20,9 @@ use std::alloc::Global;
 
 /// Whether the disk, where it is one of these, is Offline. Those of lesser numbers are.
 fn check_state(m: &Mounted, disks: DiskSet, number: u8) -> Result<(), Refusal>
-    requires lesser { PassBelow m.now.register.value.entries disks may_return number }
+    requires lesser { PassBelow m.now.register.value.entries disks is_offline_entry number }
     ensures cause { IfErr result (JoinStateCause m.now disks) }
-    ensures passes { OnOk result (PassBelow m.now.register.value.entries disks may_return (number + 1)) }
+    ensures passes { OnOk result (PassBelow m.now.register.value.entries disks is_offline_entry (number + 1)) }
 {
     if !disks.has(number) {
         return Ok(());

@@ -1,7 +1,6 @@
 -- Which disks a statement means.
 use Rattle.std.specs.Prelude.{◌≡◌, ℕ, ◌<◌, ◌==◌, ◌&&◌, nat_lt, not, is_some, Bool, true, false, List, Option, Some, None}
 use Rattle.std.specs.List.{list_any}
-use Rattle.asm_group.specs.Modes.{is_offline}
 use Rattle.asm_group.specs.Names.{Bytes, is_same_name}
 use Rattle.asm_formats.specs.Items.{DiskInfo}
 use Rattle.asm_formats.specs.Sets.{has_bit}
@@ -53,6 +52,3 @@ HasAttachedDisks m set = (d : ℕ) → d < 64 → has_bit set d ≡ is_attached 
 -- the disk serves
 abbrev pub is_serving : MountedGroup → Entry → Bool
 is_serving m e = serves e.mode && is_attached m e.number
-
-abbrev pub is_offline_entry : Entry → Bool
-is_offline_entry e = is_offline e.mode

@@ -1,9 +1,10 @@
 //! The disks that a statement names.
 ghost use Rattle.std.specs.Prelude.{◌≡◌, ◌≢◌, ◌<◌, ◌==◌, ◌&&◌, ◌||◌, ℕ, IfNone, IfSome, find};
 ghost use Rattle.asm_formats.specs.Sets.{has_bit};
+ghost use Rattle.asm_formats.specs.Status.{is_offline_entry};
 ghost use Rattle.asm_placement.specs.Modes.{serves};
 ghost use Rattle.group_reports.specs.Disks.{number_of_entry_if_any};
-ghost use Rattle.disk_modes.specs.Finding.{HasAttachedDisks, IsSetOf, has_disk_name, is_attached, is_in_named_failgroup, is_offline_entry, is_serving, is_in_failgroup_of_sort, takes};
+ghost use Rattle.disk_modes.specs.Finding.{HasAttachedDisks, IsSetOf, has_disk_name, is_attached, is_in_named_failgroup, is_serving, is_in_failgroup_of_sort, takes};
 
 use asm_base::{DiskSet, Mode, Name};
 use record_laws::Mounted;

@@ -1,6 +1,6 @@
 -- An edit of a mounted group is one commit. Which group it leads to in the world, what the images stand for while it is on its way, and
 -- what refuses it.
-use Rattle.std.specs.Prelude.{◌≡◌, ◌≢◌, ℕ, ◌+◌, ◌<◌, ◌^◌, true, List, [], ◌∷◌, OnErr, OnOk, Option, Result, Ok}
+use Rattle.std.specs.Prelude.{◌≡◌, ◌≢◌, ℕ, true, List, [], ◌∷◌, OnErr, OnOk, Option, Result, Ok}
 use Rattle.bay.specs.State.{BayState}
 use Rattle.bay.specs.Image.{Image}
 use Rattle.bay.specs.Moments.{LeavesOnly, Runs}
@@ -23,7 +23,7 @@ use Rattle.group_files.specs.catalog_tables.Changing.{IsAfter}
 use Rattle.group_files.specs.catalog_tables.Tables.{Catalogued, Tables}
 use Rattle.group_files.specs.group_engine.Commits.{LeadsTo, StandsIn}
 use Rattle.group_files.specs.group_engine.Frames.{SparesGroup, SparesOtherIds}
-use Rattle.group_files.specs.group_engine.Mounts.{IsMounted, IsOwn, MountedGroup, Mounts}
+use Rattle.group_files.specs.group_engine.Mounts.{IsMounted, IsOwn, MayRecord, MountedGroup, Mounts}
 use Rattle.group_files.specs.group_engine.Own.{KeepsGroup}
 use Rattle.group_files.specs.Edits.{IsCommitted}
 use Rattle.group_files.specs.GroupEdits.{IsEditPlan, IsEditRefusedAs}
@@ -38,15 +38,10 @@ edited_by g (Tree edit) = world.edited_group g (names.edit_meant edit)
 edited_by g (Templates edit) = settings.group_after_template_edit g (templates.template_edit_meant edit)
 edited_by g (SetAttribute name value) = settings.attribute_set g (attribute_meant name value)
 
--- What ties a mounted group to the disks of n slots, where its turns don't run out.
-pub record TakesCommit (n : ℕ) (m : MountedGroup) (s : BayState) (g : Group) (kept : Kept) : Type 0 where
-  pub mounts : Mounts n m s g kept
-  pub turns : m.register.turn + 1 < 2 ^ 64
-
 -- A change that is the edit leads to the world's group after it.
 abbrev pub EditLeadsTo : BayState → Type 0
 EditLeadsTo s =
-    (n : ℕ) (m : MountedGroup) (g : Group) (kept : Kept) (edit : GroupEdit) (put : List DirectoryRecord) (gone : List Key) → TakesCommit n m s g kept → IsEditPlan m.catalog edit put gone
+    (n : ℕ) (m : MountedGroup) (g : Group) (kept : Kept) (edit : GroupEdit) (put : List DirectoryRecord) (gone : List Key) → MayRecord n m s g kept → IsEditPlan m.catalog edit put gone
     → (h : Group) × (edited_by g edit ≡ Ok h) × LeadsTo n m put gone s g h kept
 
 -- Why an edit is refused, beside the world's answer: no other edit than one of names wants blocks.
@@ -94,7 +89,7 @@ pub record IsHeldOver (c : EditCall) (h : Group) (s t : BayState) : Type 0 where
 -- An edit that was committed, or whose commit was refused, was the world's.
 abbrev pub EditIsHeld : BayState → BayState → Type 0
 EditIsHeld s t =
-    (c : EditCall) (edit : GroupEdit) → IsMounted c.old → TakesCommit c.n c.old s c.g c.kept → IsCommitted (IsEditPlan c.old.catalog edit) c.old c.answer c.new s t
+    (c : EditCall) (edit : GroupEdit) → IsMounted c.old → MayRecord c.n c.old s c.g c.kept → IsCommitted (IsEditPlan c.old.catalog edit) c.old c.answer c.new s t
     → (h : Group) × (edited_by c.g edit ≡ Ok h) × IsHeldOver c h s t
 
 -- ---- beside other groups

@@ -12,14 +12,13 @@ use Rattle.refusal_lines.specs.declared.refusal.Refusal.TheVariants as cause
 use Rattle.asm_formats.specs.Sets.{has_bit}
 use Rattle.group_pieces.specs.group_engine.Commits.{StatusCause}
 use Rattle.group_pieces.specs.group_engine.Making.{IsShut}
-use Rattle.group_pieces.specs.group_engine.Mounts.{IsMounted, MountedGroup, Takes, slot_at}
+use Rattle.group_pieces.specs.group_engine.Mounts.{IsMounted, MountedGroup, RoseOnDisk, Takes, slot_at}
 use Rattle.group_pieces.specs.group_engine.Own.{KeepsGroup}
 use Rattle.group_pieces.specs.group_engine.Pending.{GoesOn}
 use Rattle.group_pieces.specs.group_engine.declared.access.Access.{Access}
 use Rattle.group_pieces.specs.group_engine.declared.access.Access.TheVariants as access
 use Rattle.group_pieces.proofs.group_engine.Causes.{cause_on, dismount_on, gives_up, nothing_kept}
 use Rattle.group_pieces.proofs.group_engine.Endings.{goes_begin, keeps_closed}
-use Rattle.group_pieces.specs.Faults.{RoseOnDisk}
 use Rattle.file_extents.specs.Closing.{IsOrShut, or_shut, shut_group}
 use Rattle.file_extents.specs.Filling.{FailsMore, FaultOn, FillCause, PutCause}
 

@@ -7,8 +7,7 @@ use Rattle.refusal_lines.specs.declared.refusal.Refusal.{Refusal}
 use Rattle.refusal_lines.specs.declared.refusal.Refusal.TheVariants as cause
 use Rattle.asm_formats.specs.Sets.{has_bit}
 use Rattle.group_pieces.specs.group_engine.Commits.{DismountCause}
-use Rattle.group_pieces.specs.group_engine.Mounts.{MountedGroup}
-use Rattle.group_pieces.specs.Faults.{RoseOnDisk}
+use Rattle.group_pieces.specs.group_engine.Mounts.{MountedGroup, RoseOnDisk}
 use Rattle.file_extents.specs.declared.sparing.Took.{Took}
 use Rattle.file_extents.specs.declared.sparing.Took.TheVariants as took
 use Rattle.file_extents.specs.declared.filling.Contents.{Contents}

@@ -1,7 +1,7 @@
 -- A call of a group that is mounted beside others.
 use Rattle.std.proofs.Common.{◌≡◌, ◌⊎◌, ◌≤◌, ℕ, Bool, true, false, List, [], ◌∷◌, refl, sym, ap, ◌∙◌, arith, inl, inr}
 use Rattle.std.proofs.lemmas.Bool.{cases_Bool, true≢false}
-use Rattle.bay.specs.Image.{Image}
+use Rattle.bay.specs.Image.{Image, SameDisk}
 use Rattle.bay.specs.State.{BayState, IsSound}
 use Rattle.bay.specs.Moments.{LeavesOnly, Runs}
 use Rattle.asm_group.specs.Group.{Group}
@@ -10,7 +10,7 @@ use Rattle.asm_base.proofs.Exact.{some_is}
 use Rattle.asm_images.specs.Kept.{IsHeld, IsMemberIn, Kept}
 use Rattle.status_register.specs.Elsewhere.{IsNoMember}
 use Rattle.group_engine.specs.Commits.{StandsIn}
-use Rattle.group_engine.specs.Frames.{KeptSparesOthers, SameDisk, SparesOtherIds}
+use Rattle.group_engine.specs.Frames.{KeptSparesOthers, SparesOtherIds}
 use Rattle.group_engine.specs.Mounts.{IsOwn, MountedGroup, Mounts}
 use Rattle.group_engine.specs.Own.{KeepsGroup, OnOwnDisks}
 

@@ -38,8 +38,8 @@ use Rattle.status_register.specs.Writes.{after_write}
 use Rattle.status_register.specs.declared.error.Dead.{Dead}
 use Rattle.status_register.specs.declared.member.Member.{Member}
 use Rattle.group_engine.specs.Commits.{IsDismountedBy, IsLostIn, turns_at_most}
-use Rattle.group_engine.specs.Copying.{CopiesTo, DirectoryCopyCause, IsNotCopied, IsOneMore, LeavesGroup, MayRecord, MountsStill, StandThrough, WritesMore}
-use Rattle.group_engine.specs.Mounts.{AreCopiesOf, IsCopyOf, IsMounted, IsOwn, IsReady, IsWhole, MountedGroup, Takes, slot_at}
+use Rattle.group_engine.specs.Copying.{CopiesTo, DirectoryCopyCause, IsNotCopied, IsOneMore, LeavesGroup, MountsStill, StandThrough, WritesMore}
+use Rattle.group_engine.specs.Mounts.{AreCopiesOf, IsCopyOf, IsMounted, IsOwn, IsReady, IsWhole, MayRecord, MountedGroup, Takes, slot_at}
 use Rattle.group_engine.specs.Making.{IsShut}
 use Rattle.group_engine.specs.Own.{IsSameGroup, OnOwnDisks}
 use Rattle.group_engine.specs.Recorded.{MayGet}

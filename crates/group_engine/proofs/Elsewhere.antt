@@ -4,6 +4,7 @@ use Rattle.std.specs.Option.{option_map}
 use Rattle.std.specs.Prelude.{IsSome, unwrap_or}
 use Rattle.std.proofs.lemmas.Bool.{true≢false}
 use Rattle.bay.specs.Image as bay
+use Rattle.bay.specs.Image.{SameDisk}
 use Rattle.bay.specs.State.{BayState, IsSound, KeepsAttached}
 use Rattle.bay.specs.Moments.{Runs}
 use Rattle.asm_group.specs.Group.{Group}
@@ -26,7 +27,7 @@ use Rattle.status_register.specs.Places.{HasSlots}
 use Rattle.status_register.specs.declared.member.Member.{Member as Disk}
 use Rattle.status_register.specs.SurveyLaws.{IsMemberOn}
 use Rattle.status_register.proofs.Elsewhere as register_proofs
-use Rattle.group_engine.specs.Frames.{KeepsOwn, SameDisk, SparesDisks, SparesGroup, StaysAttached}
+use Rattle.group_engine.specs.Frames.{KeepsOwn, SparesDisks, SparesGroup, StaysAttached}
 use Rattle.group_engine.specs.Mounts.{MountedGroup, IsOwn, IsReady, IsWhole, Mounts, slot_at}
 use Rattle.group_engine.specs.declared.attached.Attached.{Attached}
 use Rattle.group_engine.proofs.Spared.{all_stay, member_spared, same_bytes, sound_stays}

@@ -3,6 +3,7 @@ use Rattle.std.proofs.Common.{◌≡◌, ⊎_elim, ℕ, zero, suc, ◌+◌, ◌*
 use Rattle.std.specs.List.{range_with_len}
 use Rattle.std.proofs.lemmas.Bool.{cond-false, ne_eqb}
 use Rattle.bay.specs.Image as bay
+use Rattle.bay.specs.Image.{SameDisk}
 use Rattle.asm_group.specs.Group.{Group}
 use Rattle.asm_formats.specs.Header.{Header}
 use Rattle.asm_formats.specs.Metadata.{Metadata, metadata}
@@ -14,7 +15,7 @@ use Rattle.asm_images.specs.Members.{Member, with_member, members_from, members,
 use Rattle.asm_images.specs.Register.{Fits}
 use Rattle.asm_images.specs.Sound.{SoundBy}
 use Rattle.asm_images.proofs.Bridges.{disks_are_listed, same_disk}
-use Rattle.group_engine.specs.Frames.{SameDisk, SparesGroup}
+use Rattle.group_engine.specs.Frames.{SparesGroup}
 use Rattle.group_engine.proofs.Covering.{cover_over}
 use Rattle.group_engine.proofs.Slots.{member_seen}
 

@@ -19,7 +19,7 @@ use Rattle.status_register.specs.declared.error.Dead.{Dead}
 use Rattle.status_register.specs.declared.member.Member.{Member}
 use Rattle.group_engine.specs.Commits.{DismountCause, StandsIn, turns_at_most}
 use Rattle.status_register.specs.RegisterCalls.{HasWritten}
-use Rattle.group_engine.specs.Mounts.{IsMounted, MountedGroup, Mounts, slot_at}
+use Rattle.group_engine.specs.Mounts.{IsMounted, MayRecord, MountedGroup, Mounts, slot_at}
 use Rattle.group_engine.specs.Own.{KeepsGroup}
 use Rattle.group_engine.specs.declared.attached.Attached.{Attached}
 
@@ -66,11 +66,6 @@ DirectoryCopyCause old d new s t _ = ⊥
 abbrev pub LeavesGroup : MountedGroup → MountedGroup → Refusal → Type 0
 LeavesGroup old new (cause.Dismounted by) = new.register.value ≡ old.register.value
 LeavesGroup old new _ = new ≡ old
-
--- The group is mounted, and a record may follow: turns don't run out.
-pub record MayRecord (n : ℕ) (m : MountedGroup) (s : BayState) (g : Group) (kept : Kept) : Type 0 where
-  pub mounts : Mounts n m s g kept
-  pub turns : m.register.turn + 1 < 2 ^ 64
 
 -- at each moment each image is held for the group
 abbrev pub StandThrough : MountedGroup → BayState → BayState → Type 0

@@ -1,6 +1,6 @@
 -- A mounted group stays mounted over the calls of others.
 use Rattle.std.specs.Prelude.{◌≡◌, ◌≢◌, ◌⊎◌, ℕ, List, Some}
-use Rattle.bay.specs.Image.{Image}
+use Rattle.bay.specs.Image.{Image, SameDisk}
 use Rattle.bay.specs.State.{BayState}
 use Rattle.bay.specs.Moments.{LeavesOnly, Runs}
 use Rattle.asm_group.specs.Group.{Group}
@@ -17,11 +17,6 @@ pub record StaysAttached (old new : BayState) : Type 0 where
 -- what is attached to the group stays so, with its size
 pub record KeepsOwn (m : MountedGroup) (old new : BayState) : Type 0 where
   pub stays : (slot size : ℕ) → IsOwn m slot → old.attached slot ≡ Some size → new.attached slot ≡ Some size
-
--- the disk in a slot stays
-pub record SameDisk (slot : ℕ) (old new : Image) : Type 0 where
-  pub size : new.size slot ≡ old.size slot
-  pub byte : (k : ℕ) → new.byte slot k ≡ old.byte slot k
 
 -- Each disk stays, or is no member of the id before and after.
 abbrev pub SparesGroup : ℕ → Image → Image → Type 0

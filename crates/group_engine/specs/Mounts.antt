@@ -1,6 +1,7 @@
 -- A mounted group as contracts see it, and what ties it to the disks between two calls.
-use Rattle.std.specs.Prelude.{◌≡◌, ℕ, Bool, false, true, List, [], ◌∷◌, get_or, Option, Some, None, IsTrue, ◌↔◌}
+use Rattle.std.specs.Prelude.{◌≡◌, ℕ, ◌+◌, ◌<◌, ◌^◌, Bool, false, true, List, [], ◌∷◌, get_or, Option, Some, None, IsTrue, ◌↔◌}
 use Rattle.std.specs.Option.{option_map}
+use Rattle.bay.specs.Counts.{Rose}
 use Rattle.bay.specs.Image.{Image}
 use Rattle.bay.specs.State.{BayState}
 use Rattle.bay.specs.Moments.{NowOnly}
@@ -52,6 +53,10 @@ slot_at disks k = option_map (λ (a : Attached). a.slot) (get_or disks k None)
 -- the slot is that of an attached disk
 abbrev pub IsOwn : MountedGroup → ℕ → Type 0
 IsOwn m slot = (i : ℕ) × (k : Member) × (get_or m.register.members i None ≡ Some k) × (slot ≡ k.slot)
+
+-- the disk of this number is attached, and its slot failed
+abbrev pub RoseOnDisk : MountedGroup → ℕ → BayState → BayState → Type 0
+RoseOnDisk m d s t = (slot : ℕ) × (slot_at m.disks d ≡ Some slot) × Rose (s.faults slot) (t.faults slot)
 
 -- ---- without the disks
 
@@ -135,3 +140,8 @@ pub record Mounts (n : ℕ) (m : MountedGroup) (state : BayState) (g : Group) (k
   pub begun : kept.begun ≡ []
   pub register : registers.FitsRegister n m.register (Some m.register.value) [] state
   pub now : NowOnly state (IsHeld n m.register.id (g ∷ []) kept)
+
+-- The group is mounted, and a record may follow: turns don't run out.
+pub record MayRecord (n : ℕ) (m : MountedGroup) (state : BayState) (g : Group) (kept : Kept) : Type 0 where
+  pub mounts : Mounts n m state g kept
+  pub turns : m.register.turn + 1 < 2 ^ 64

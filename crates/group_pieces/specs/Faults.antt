@@ -1,16 +1,11 @@
 -- Which disks of a group failed in a call on its bytes.
 use Rattle.std.specs.Prelude.{◌≡◌, ℕ, ◌<◌, true, Some}
 use Rattle.bay.specs.State.{BayState}
-use Rattle.bay.specs.Counts.{Rose}
 use Rattle.asm_base.specs.declared.kinds.ExtentId.{ExtentId}
 use Rattle.asm_formats.specs.Sets.{has_bit}
-use Rattle.record_laws.specs.group_engine.Mounts.{MountedGroup, slot_at}
+use Rattle.record_laws.specs.group_engine.Mounts.{MountedGroup, RoseOnDisk}
 use Rattle.group_pieces.specs.Copies.{AllFailed}
 use Rattle.group_pieces.specs.Usable.{first_disk, places_at}
-
--- disk d is attached, and its slot failed
-abbrev pub RoseOnDisk : MountedGroup → ℕ → BayState → BayState → Type 0
-RoseOnDisk m d s t = (slot : ℕ) × (slot_at m.disks d ≡ Some slot) × Rose (s.faults slot) (t.faults slot)
 
 -- each disk of the set is attached, and its slot failed
 abbrev pub AreRisen : MountedGroup → ℕ → BayState → BayState → Type 0

@@ -4,7 +4,7 @@ use Rattle.std.specs.List.{list_any, range_with_len}
 use Rattle.std.specs.Option.{option_map}
 use Rattle.std.proofs.lemmas.Bool.{cond_both, eq-eqb, eqb-true, true≢false}
 use Rattle.std.proofs.lemmas.Option.{same_Some}
-use Rattle.bay.specs.Image.{ChangesOnly, Image}
+use Rattle.bay.specs.Image.{ChangesOnly, Image, SameDisk}
 use Rattle.bay.specs.Moments.{LeavesOnly, NowOnly, Runs}
 use Rattle.bay.specs.State.{BayState, IsSound, KeepsAttached}
 use Rattle.bay.proofs.Calls.{stops}
@@ -48,7 +48,7 @@ use Rattle.group_recovery.specs.Mounting.{Allows, AllTaken, DescribesIn, HasTake
 use Rattle.group_recovery.specs.NamedCopies.{directory_copy_of}
 use Rattle.group_recovery.specs.NextRecord.{IsNextRecord}
 use Rattle.group_recovery.specs.Quorum.{IsQuorum}
-use Rattle.group_recovery.specs.Recovered.{ChangesMembers, IsMeant, KeepsSlot, LeavesOneGroup, StoodFor, is_own_slot}
+use Rattle.group_recovery.specs.Recovered.{ChangesMembers, IsMeant, LeavesOneGroup, StoodFor, is_own_slot}
 use Rattle.group_recovery.specs.Recovering.{IsAnew, disks_with, is_own, name_in, own_members}
 use Rattle.group_recovery.specs.Renewing.{Renews}
 use Rattle.group_recovery.specs.Verdicts.{member_of, members_with}
@@ -427,7 +427,7 @@ either true = inl refl
 either false = inr refl
 
 -- the disks of other slots than those of some members stay
-stays_but : (ms : List Member) (slot : ℕ) (x y : Image) → ChangesOnly (FrontOf ms) x y → slots_of ms slot ≡ false → KeepsSlot slot x y
+stays_but : (ms : List Member) (slot : ℕ) (x y : Image) → ChangesOnly (FrontOf ms) x y → slots_of ms slot ≡ false → SameDisk slot x y
 stays_but ms slot x y step out = record {
   size = step.size slot;
   byte = λ k. step.byte slot k (λ inside.

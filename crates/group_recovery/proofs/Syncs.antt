@@ -47,22 +47,22 @@ module _ (s m t : BayState) {early later : ℕ → Type 0} (first : Runs early S
 -- ---- what is surveyed
 
 -- the slots of these members have the same bytes on both images
-abbrev SameOn : List Member → Image → Image → Type 0
-SameOn ms x y = (m : Member) → IsAmong ms m → disk_bytes y m.slot ≡ disk_bytes x m.slot
+abbrev SameOnMembers : List Member → Image → Image → Type 0
+SameOnMembers ms x y = (m : Member) → IsAmong ms m → disk_bytes y m.slot ≡ disk_bytes x m.slot
 
-claims_same : (id : ℕ) (ms : List Member) (x y : Image) → SameOn ms x y → claims_on id y ms ≡ claims_on id x ms
+claims_same : (id : ℕ) (ms : List Member) (x y : Image) → SameOnMembers ms x y → claims_on id y ms ≡ claims_on id x ms
 unfolding claims_on
 claims_same id [] x y same = refl
 claims_same id (m ∷ ms) x y same = λ i. claims_of_group id (metadata (same m (inl refl) i)).claims ++ claims_same id ms x y (λ k h. same k (inr h)) i
 
-records_same : (id : ℕ) (ms : List Member) (x y : Image) → SameOn ms x y → records_on id y ms ≡ records_on id x ms
+records_same : (id : ℕ) (ms : List Member) (x y : Image) → SameOnMembers ms x y → records_on id y ms ≡ records_on id x ms
 unfolding records_on
 records_same id [] x y same = refl
 records_same id (m ∷ ms) x y same = λ i. of_group id (metadata (same m (inl refl) i)).statuses ++ records_same id ms x y (λ k h. same k (inr h)) i
 
 module _ (s t : BayState) (sound_s : IsSound s) (sound_t : IsSound t) (id : ℕ) (ms : List Member) (have : HaveSlots s ms) (durable : AreMembersDurable ms s) {later : ℕ → Type 0} (run : Runs later Same s t) where
   -- a disk is on each image as it was held at first
-  held_at_first : (image : Image) → t.leaves t.calls image → (held : Image) × (now : Image) × (t.holds ≡ Some now) × (s.holds ≡ Some held) × SameOn ms held image
+  held_at_first : (image : Image) → t.leaves t.calls image → (held : Image) × (now : Image) × (t.holds ≡ Some now) × (s.holds ≡ Some held) × SameOnMembers ms held image
   held_at_first image left =
       let told = sound_t.told image left in
       let from = run.held told.0 told.1 in
@@ -88,7 +88,7 @@ module _ (s t : BayState) (sound_s : IsSound s) (sound_t : IsSound t) (id : ℕ)
     now = λ image left.
         let h = held_at_first image left in
         let value = told h.1 h.2 h.0 h.3 in
-        let same : SameOn read h.0 image = λ m k. h.4 m (kept_among (RoseAt s t) ms read are m k) in
+        let same : SameOnMembers read h.0 image = λ m k. h.4 m (kept_among (RoseAt s t) ms read are m k) in
         let shown : IsSurveyOn (record survey { id = id; read = read }) image = record {
           among = λ m k. subst (λ (l : List Member). IsAmong l m) (sym of.1) (kept_among (RoseAt s t) ms read are m k);
           greatest_is = ap greatest (records_same id read h.0 image same) ∙ value.value_is;

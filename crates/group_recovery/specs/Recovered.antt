@@ -1,7 +1,7 @@
 -- What a mount leaves on the disks of its group, at each moment of its claim and its record anew, and once that record is complete.
 use Rattle.std.specs.Prelude.{◌≡◌, ◌⊎◌, ℕ, ◌+◌, ◌^◌, ◌<◌, ◌≤◌, ◌==◌, Bool, List, [], ◌∷◌, IfOk, Result, Some}
 use Rattle.std.specs.List.{list_any}
-use Rattle.bay.specs.Image.{Image}
+use Rattle.bay.specs.Image.{Image, SameDisk}
 use Rattle.bay.specs.Moments.{LeavesOnly, NowOnly}
 use Rattle.bay.specs.State.{BayState}
 use Rattle.asm_group.specs.Group.{Group}
@@ -65,11 +65,6 @@ pub record LeavesGroups (q : Quorate) (groups : List Group) (answer : Result Par
 
 -- ---- other ids
 
--- the disk in a slot stays
-pub record KeepsSlot (slot : ℕ) (old new : Image) : Type 0 where
-  pub size : new.size slot ≡ old.size slot
-  pub byte : (k : ℕ) → new.byte slot k ≡ old.byte slot k
-
 -- Each disk stays, or is a member of the id before and after.
 abbrev pub ChangesMembers : ℕ → Image → Image → Type 0
-ChangesMembers id old new = (slot : ℕ) → KeepsSlot slot old new ⊎ (IsMemberIn id old slot × IsMemberIn id new slot)
+ChangesMembers id old new = (slot : ℕ) → SameDisk slot old new ⊎ (IsMemberIn id old slot × IsMemberIn id new slot)

@@ -6,8 +6,8 @@ use Rattle.bay.proofs.Calls.{leaves_begin, leaves_less, leaves_on}
 use Rattle.asm_group.specs.Group.{Group}
 use Rattle.asm_images.specs.Kept.{Kept}
 use Rattle.group_engine.specs.Commits.{StandsIn, turns_at_most}
-use Rattle.group_engine.specs.Copying.{MayRecord, MountsLater, StandThrough}
-use Rattle.group_engine.specs.Mounts.{MountedGroup, Mounts}
+use Rattle.group_engine.specs.Copying.{MountsLater, StandThrough}
+use Rattle.group_engine.specs.Mounts.{MayRecord, MountedGroup, Mounts}
 use Rattle.group_engine.specs.Own.{IsSameGroup}
 use Rattle.group_engine.specs.Pending.{HasTurns, StandsThrough, StaysMounted}
 use Rattle.group_engine.proofs.Endings.{kept_before}

@@ -8,12 +8,12 @@ use Rattle.refusal_lines.specs.declared.refusal.DiskRef.TheVariants as disk
 use Rattle.refusal_lines.specs.declared.refusal.Refusal.{Refusal}
 use Rattle.refusal_lines.specs.declared.refusal.Refusal.TheVariants as refusal
 use Rattle.group_engine.specs.Commits.{DismountCause, StatusCause}
-use Rattle.group_engine.specs.Mounts.{IsMounted, MountedGroup, slot_at}
+use Rattle.group_engine.specs.Mounts.{IsMounted, MountedGroup, RoseOnDisk, slot_at}
 use Rattle.group_engine.specs.Own.{KeepsGroup}
 use Rattle.group_engine.specs.declared.access.Access.{Access}
 use Rattle.group_engine.specs.declared.access.Access.TheVariants as access
 use Rattle.group_engine.specs.declared.attached.Attached.{Attached}
-use Rattle.mounted_groups.specs.Clearing.{HasFailedSlot, IsClearCause, IsFoundSlot, IsLostCause, IsRefusalOf}
+use Rattle.mounted_groups.specs.Clearing.{IsClearCause, IsFoundSlot, IsLostCause, IsRefusalOf}
 use Rattle.group_recovery.specs.declared.error.MountError.{MountError}
 use Rattle.group_recovery.specs.declared.quorum.Quorate.{Quorate}
 use Rattle.group_recovery.specs.declared.error.MountError.TheVariants as error
@@ -34,7 +34,7 @@ status_clear old new s t refusal.NoMemory mounted cause = tt
 status_clear old new s t other mounted cause = absurd cause
 
 -- a later fault of the same group, and an earlier start
-failed_on : (a b : MountedGroup) (d : ℕ) (s m t : BayState) → KeepsGroup a b s m → HasFailedSlot b d m t → HasFailedSlot a d s t
+failed_on : (a b : MountedGroup) (d : ℕ) (s m t : BayState) → KeepsGroup a b s m → RoseOnDisk b d m t → RoseOnDisk a d s t
 failed_on a b d s m t keeps failed = (
   failed.0,
   sym (ap (λ (l : List (Option Attached)). slot_at l d) keeps.same.disks) ∙ failed.1,
@@ -50,7 +50,7 @@ clear_on a b s m t other keeps cause = tt
 pub lost_by : (q : Quorate) (old new : MountedGroup) (s m t : BayState) (given : Refusal) (e : MountError) → ((d slot : ℕ) → slot_at old.disks d ≡ Some slot → IsFoundSlot q slot)
     → KeepsGroup old new m t → ((slot : ℕ) → s.faults slot ≤ m.faults slot) → IsClearCause old m t given → IsRefusalOf new given e → IsLostCause q s t e
 lost_by q old new s m t given (error.Dead slot name) found keeps later cause of =
-    let failed : HasFailedSlot old of.0 m t = subst (IsClearCause old m t) of.1 cause in
+    let failed : RoseOnDisk old of.0 m t = subst (IsClearCause old m t) of.1 cause in
     let is : slot_at old.disks of.0 ≡ Some slot = sym (ap (λ (l : List (Option Attached)). slot_at l of.0) keeps.same.disks) ∙ of.2 in
     let at : failed.0 ≡ slot = same_Some failed.0 slot (sym failed.1 ∙ is) in
     (subst (λ (k : ℕ). Rose (s.faults k) (t.faults k)) at (omega (arith, failed.2, later failed.0)), found of.0 slot is)

@@ -5,7 +5,7 @@ use Rattle.std.proofs.lemmas.Bool.{eq-eqb, eqb-true, ne_eqb}
 use Rattle.std.proofs.lemmas.List.{length-map}
 use Rattle.std.proofs.lemmas.Map.Steps.{length-le_from_distinct_below}
 use Rattle.std.proofs.lemmas.Option.{same_Some}
-use Rattle.bay.specs.Image.{Image, Same}
+use Rattle.bay.specs.Image.{Image, Same, SameDisk}
 use Rattle.bay.specs.Moments.{LeavesOnly, NowOnly, Runs}
 use Rattle.bay.specs.State.{BayState}
 use Rattle.bay.proofs.Calls.{goes_on, leaves_on, leaves_only, now_only, stops, widened}
@@ -31,7 +31,7 @@ use Rattle.group_engine.proofs.Items.{content_is}
 use Rattle.group_engine.specs.Frames.{SparesOtherIds}
 use Rattle.group_recovery.specs.Mounting.{Allows}
 use Rattle.group_recovery.specs.Quorum.{IsQuorum}
-use Rattle.group_recovery.specs.Recovered.{ChangesMembers, IsMeant, KeepsSlot, LeavesOneGroup, StoodFor, kept_by}
+use Rattle.group_recovery.specs.Recovered.{ChangesMembers, IsMeant, LeavesOneGroup, StoodFor, kept_by}
 use Rattle.group_recovery.specs.Recovering.{ArePartsOf}
 use Rattle.group_recovery.specs.declared.quorum.Quorate.{Quorate}
 use Rattle.group_recovery.specs.declared.recovering.Parts.{Parts}
@@ -54,7 +54,7 @@ stood_on q groups {on} {s} {m} run may = record {
   epochs = may.epochs;
 }
 
-kept_same : (slot : ℕ) (x y : Image) → Same x y → KeepsSlot slot x y
+kept_same : (slot : ℕ) (x y : Image) → Same x y → SameDisk slot x y
 kept_same slot x y same = record { size = same.size slot; byte = same.byte slot }
 
 same_changes : (id : ℕ) (x y : Image) → Same x y → ChangesMembers id x y

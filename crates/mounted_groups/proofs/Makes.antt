@@ -3,7 +3,7 @@ use Rattle.std.proofs.Common.{◌≡◌, ◌≢◌, ◌⊎◌, inl, inr, ⊎_eli
 use Rattle.std.specs.List.{list_any}
 use Rattle.std.proofs.lemmas.Option.{none-some, same_Some}
 use Rattle.bay.specs.Counts.{Rose}
-use Rattle.bay.specs.Image.{Image, Makes, MayMake, Same}
+use Rattle.bay.specs.Image.{Image, Makes, MayMake, Same, SameDisk}
 use Rattle.bay.specs.Moments.{Ends, Runs}
 use Rattle.bay.specs.State.{AttachesOnly, BayState, IsSlot, IsSound}
 use Rattle.bay.proofs.Calls.{both_done, goes_on, on_more, started, stops, widened}
@@ -15,7 +15,6 @@ use Rattle.asm_images.specs.Kept.{header_in}
 use Rattle.group_recovery.specs.disk_images.Looks.{IsLooked, Looks}
 use Rattle.group_recovery.specs.disk_images.declared.looking.Looked.{Looked}
 use Rattle.group_recovery.specs.disk_images.declared.looking.Looked.TheVariants as look
-use Rattle.group_engine.specs.Frames.{SameDisk}
 use Rattle.mounted_groups.specs.FirstParts.{SameBut, SparesAllBut}
 use Rattle.mounted_groups.specs.Found.{Counts, IsSlotOfPath, ToldByCounts, counts_of}
 use Rattle.mounted_groups.specs.Making.{IsLookFree, IsImageMade, IsNotFree, MakeCause, StaysBut}

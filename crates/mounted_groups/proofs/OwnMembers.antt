@@ -1,7 +1,7 @@
 -- Calls that keep a mounted group change disks of its members alone.
 use Rattle.std.proofs.Common.{◌≡◌, ◌⊎◌, inl, inr, ⊎_elim, ℕ, ◌<◌, Bool, true, false, List, sym, ap, ◌∙◌, arith}
 use Rattle.std.proofs.lemmas.Bool.{cases_Bool, true≢false}
-use Rattle.bay.specs.Image.{Image}
+use Rattle.bay.specs.Image.{Image, SameDisk}
 use Rattle.bay.specs.Moments.{LeavesOnly, Runs}
 use Rattle.bay.specs.State.{BayState, IsSound}
 use Rattle.bay.proofs.Calls.{goes_on, on_more, stops}
@@ -12,20 +12,20 @@ use Rattle.asm_images.proofs.Held.{same_member}
 use Rattle.group_engine.specs.Commits.{StandsIn}
 use Rattle.group_engine.specs.Mounts.{IsOwn, MountedGroup, Mounts}
 use Rattle.group_engine.specs.Own.{KeepsGroup, OnOwnDisks}
-use Rattle.group_recovery.specs.Recovered.{ChangesMembers, KeepsSlot}
+use Rattle.group_recovery.specs.Recovered.{ChangesMembers}
 
 -- ---- one call and then another
 
 -- the same disk is a member, as before and after
-still_member : (id slot : ℕ) (x y : Image) → KeepsSlot slot x y → IsMemberIn id x slot → IsMemberIn id y slot
+still_member : (id slot : ℕ) (x y : Image) → SameDisk slot x y → IsMemberIn id x slot → IsMemberIn id y slot
 still_member id slot x y same is = same_member id slot x y (same_disk x y slot same.size same.byte) is
 
-was_member : (id slot : ℕ) (x y : Image) → KeepsSlot slot x y → IsMemberIn id y slot → IsMemberIn id x slot
+was_member : (id slot : ℕ) (x y : Image) → SameDisk slot x y → IsMemberIn id y slot → IsMemberIn id x slot
 was_member id slot x y same is = same_member id slot y x (sym (same_disk x y slot same.size same.byte)) is
 
 changes_then : (id : ℕ) (x y z : Image) → ChangesMembers id x y → ChangesMembers id y z → ChangesMembers id x z
 changes_then id x y z one two slot = by (one slot) (two slot) where
-  by : KeepsSlot slot x y ⊎ (IsMemberIn id x slot × IsMemberIn id y slot) → KeepsSlot slot y z ⊎ (IsMemberIn id y slot × IsMemberIn id z slot) → KeepsSlot slot x z ⊎ (IsMemberIn id x slot × IsMemberIn id z slot)
+  by : SameDisk slot x y ⊎ (IsMemberIn id x slot × IsMemberIn id y slot) → SameDisk slot y z ⊎ (IsMemberIn id y slot × IsMemberIn id z slot) → SameDisk slot x z ⊎ (IsMemberIn id x slot × IsMemberIn id z slot)
   by (inl a) (inl b) = inl (record { size = b.size ∙ a.size; byte = λ k. b.byte k ∙ a.byte k })
   by (inl a) (inr b) = inr (was_member id slot x y a b.0, b.1)
   by (inr a) (inl b) = inr (a.0, still_member id slot y z b a.1)

@@ -12,7 +12,7 @@ use Rattle.asm_formats.specs.Status.{Entry, entry_of}
 use Rattle.group_recovery.specs.disk_directory.Disks.{Disk, info_at, without_disk}
 use Rattle.group_recovery.specs.catalog_tables.Tables.{Tables}
 use Rattle.status_register.specs.Registered.{is_same_birth}
-use Rattle.group_engine.specs.Mounts.{IsMounted, MountedGroup, slot_at}
+use Rattle.group_engine.specs.Mounts.{IsMounted, MountedGroup, RoseOnDisk, slot_at}
 use Rattle.group_engine.specs.Own.{KeepsGroup}
 use Rattle.group_engine.specs.Pending.{EndsOn}
 use Rattle.group_recovery.specs.declared.error.MountError.{MountError}
@@ -39,13 +39,9 @@ pub record HaveDropped (entries : List Entry) (t : Tables) (n : ℕ) (u : Tables
   pub dropped : (d : ℕ) → d < n → is_left_over entries u.disks d ≡ false
   pub kept : (d : ℕ) → is_left_over entries t.disks d ≡ false → info_at u.disks d ≡ info_at t.disks d
 
--- the disk of this number is attached, and failed
-abbrev pub HasFailedSlot : MountedGroup → ℕ → BayState → BayState → Type 0
-HasFailedSlot m d s t = (slot : ℕ) × (slot_at m.disks d ≡ Some slot) × Rose (s.faults slot) (t.faults slot)
-
 -- The disk failed by which the group is dismounted. A change that makes no record wants memory alone besides.
 abbrev pub IsClearCause : MountedGroup → BayState → BayState → Refusal → Type 0
-IsClearCause m s t (refusal.Dismounted (disk.Number d)) = HasFailedSlot m d s t
+IsClearCause m s t (refusal.Dismounted (disk.Number d)) = RoseOnDisk m d s t
 IsClearCause m s t (refusal.Dismounted (disk.Spelt text)) = ⊥
 IsClearCause m s t other = ⊤
 

@@ -1,6 +1,6 @@
 -- The parts of a new group once it is mounted as it was created.
 use Rattle.std.specs.Prelude.{◌≡◌, ◌<◌, ℕ, false, List, [], ◌∷◌, set, replicate, Option, Some, None}
-use Rattle.bay.specs.Image.{Image}
+use Rattle.bay.specs.Image.{Image, SameDisk}
 use Rattle.bay.specs.Moments.{Runs, NowOnly}
 use Rattle.bay.specs.State.{BayState}
 use Rattle.asm_group.specs.Group.{Group}
@@ -12,7 +12,6 @@ use Rattle.asm_images.specs.Kept.{Kept}
 use Rattle.group_recovery.specs.catalog_tables.Items.{AreItemsOf}
 use Rattle.group_recovery.specs.directory_store.Stores.{Keeps, Stored, AreFirst}
 use Rattle.group_engine.specs.Commits.{turns_at_most}
-use Rattle.group_engine.specs.Frames.{SameDisk}
 use Rattle.group_engine.specs.Mounts.{HasOnly, IsMounted, IsOwn, IsReady, IsWhole, MountedGroup, Mounts, Represents}
 use Rattle.group_engine.specs.declared.attached.Attached.{Attached}
 use Rattle.status_register.specs.Keeping.{KeepsStanding}

@@ -1,10 +1,9 @@
 -- Slots that other groups hold.
 use Rattle.std.specs.Prelude.{◌==◌, ◌<◌, ℕ, List, IsTrue}
 use Rattle.std.specs.List.{list_any}
-use Rattle.bay.specs.Image.{Image}
+use Rattle.bay.specs.Image.{Image, SameDisk}
 use Rattle.bay.specs.Moments.{Runs}
 use Rattle.bay.specs.State.{BayState}
-use Rattle.group_engine.specs.Frames.{SameDisk}
 
 -- the slot is one of those that are held
 abbrev pub IsHeldSlot : List ℕ → ℕ → Type 0

@@ -20,7 +20,7 @@ use Rattle.resync.specs.group_engine.Commits.{StatusCause}
 use Rattle.resync.specs.group_engine.Copying as engine
 use Rattle.resync.specs.group_engine.Members.{HasFailed, LetsGo, LettingCause}
 use Rattle.resync.specs.group_engine.Making.{IsShut}
-use Rattle.resync.specs.group_engine.Mounts.{IsMounted, IsOwn, IsWhole, MountedGroup, Takes, slot_at}
+use Rattle.resync.specs.group_engine.Mounts.{IsMounted, IsOwn, IsWhole, MountedGroup, RoseOnDisk, Takes, slot_at}
 use Rattle.resync.specs.group_engine.Own.{KeepsGroup}
 use Rattle.resync.specs.group_engine.Pending.{GoesOn}
 use Rattle.resync.specs.group_engine.declared.access.Access.{Access}
@@ -29,7 +29,6 @@ use Rattle.resync.specs.group_engine.declared.attached.Attached.{Attached}
 use Rattle.resync.specs.group_engine.declared.flight.Flight.{Flight}
 use Rattle.resync.proofs.group_engine.Causes.{nothing_own, ready_in_flight, whole_in_flight}
 use Rattle.resync.proofs.group_engine.Members.{cause_lets, keeps_lets, lets_join, letting_on}
-use Rattle.resync.specs.group_pieces.Faults.{RoseOnDisk}
 use Rattle.resync.proofs.file_extents.Chains.{kept}
 use Rattle.resync.specs.Copying.{CopyCause, refusal_of}
 use Rattle.resync.specs.declared.copying.CopyError.{CopyError}

@@ -6,8 +6,7 @@ use Rattle.refusal_lines.specs.declared.refusal.DiskRef.TheVariants as disk
 use Rattle.refusal_lines.specs.declared.refusal.Refusal.{Refusal}
 use Rattle.refusal_lines.specs.declared.refusal.Refusal.TheVariants as cause
 use Rattle.resync.specs.group_engine.Members.{HasFailed, IsLetDown, LetsGo}
-use Rattle.resync.specs.group_engine.Mounts.{IsMounted, MountedGroup}
-use Rattle.resync.specs.group_pieces.Faults.{RoseOnDisk}
+use Rattle.resync.specs.group_engine.Mounts.{IsMounted, MountedGroup, RoseOnDisk}
 use Rattle.resync.specs.declared.copying.CopyError.{CopyError}
 use Rattle.resync.specs.declared.copying.CopyError.TheVariants as copies
 

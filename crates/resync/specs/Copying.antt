@@ -5,8 +5,7 @@ use Rattle.refusal_lines.specs.declared.refusal.DiskRef.{DiskRef}
 use Rattle.refusal_lines.specs.declared.refusal.DiskRef.TheVariants as disk
 use Rattle.refusal_lines.specs.declared.refusal.Refusal.{Refusal}
 use Rattle.refusal_lines.specs.declared.refusal.Refusal.TheVariants as cause
-use Rattle.file_extents.specs.group_engine.Mounts.{MountedGroup}
-use Rattle.file_extents.specs.group_pieces.Faults.{RoseOnDisk}
+use Rattle.file_extents.specs.group_engine.Mounts.{MountedGroup, RoseOnDisk}
 use Rattle.file_extents.specs.group_pieces.declared.reading.ReadError.{ReadError}
 use Rattle.file_extents.specs.group_pieces.declared.reading.ReadError.TheVariants as reads
 use Rattle.resync.specs.declared.copying.CopyError.{CopyError}

@@ -2,7 +2,7 @@
 use Rattle.std.proofs.Common.{◌≡◌, ◌≢◌, inl, inr, ⊎_elim, ℕ, Bool, true, false, List, sym, ◌∙◌, ◌↔◌, ap, subst, arith}
 use Rattle.std.proofs.lemmas.Bool.{cases_Bool, cases_eq, true≢false}
 use Rattle.std.proofs.lemmas.Option.{same_Some}
-use Rattle.bay.specs.Image.{Image, Same}
+use Rattle.bay.specs.Image.{Image, Same, SameDisk}
 use Rattle.bay.specs.Moments.{LeavesOnly, Runs}
 use Rattle.bay.specs.State.{BayState, IsSound}
 use Rattle.asm_group.specs.Group.{Group}
@@ -13,10 +13,10 @@ use Rattle.asm_images.proofs.Bridges.{same_disk}
 use Rattle.asm_images.proofs.Held.{same_member}
 use Rattle.mounted_groups.specs.Creating.{HasMember}
 use Rattle.mounted_groups.specs.group_engine.Commits.{StandsIn}
-use Rattle.mounted_groups.specs.group_engine.Frames.{SameDisk, SparesGroup}
+use Rattle.mounted_groups.specs.group_engine.Frames.{SparesGroup}
 use Rattle.mounted_groups.specs.group_engine.Mounts.{IsOwn, MountedGroup, Mounts}
 use Rattle.mounted_groups.specs.group_engine.Own.{KeepsGroup, OnOwnDisks}
-use Rattle.mounted_groups.specs.group_recovery.Recovered.{ChangesMembers, KeepsSlot}
+use Rattle.mounted_groups.specs.group_recovery.Recovered.{ChangesMembers}
 use Rattle.mounted_groups.specs.status_register.Elsewhere.{IsNoMember}
 use Rattle.session_claims.specs.Claims.{HoldsMembers}
 use Rattle.session_claims.proofs.Images.{has_slot, slot_has}
@@ -35,9 +35,6 @@ disk_keeps id slot x y same =
 pub same_keeps : (id : ℕ) (x y : Image) → Same x y → KeepsMembers id x y
 same_keeps id x y same slot = disk_keeps id slot x y (record { size = same.size slot; byte = λ k. same.byte slot k })
 
-stays : (slot : ℕ) (x y : Image) → KeepsSlot slot x y → SameDisk slot x y
-stays slot x y kept = record { size = kept.size; byte = kept.byte }
-
 -- a member of one id is none of another
 no_member : (own id slot : ℕ) (x : Image) → id ≢ own → IsMemberIn own x slot → IsNoMember id slot x
 no_member own id slot x other is h at named = other (sym named ∙ ap (λ (k : Header). k.id) (same_Some h is.0 (sym at ∙ is.1)) ∙ is.2)
@@ -45,14 +42,14 @@ no_member own id slot x other is h at named = other (sym named ∙ ap (λ (k : H
 -- where members of one id change, those of other ids stay
 pub changed_spares : (own id : ℕ) (x y : Image) → id ≢ own → ChangesMembers own x y → SparesGroup id x y
 changed_spares own id x y other changes slot = ⊎_elim
-    (λ kept. inl (stays slot x y kept))
+    inl
     (λ both. inr (no_member own id slot x other both.0, no_member own id slot y other both.1))
     (changes slot)
 
 -- and each id has the members that it had
 pub changed_keeps : (own id : ℕ) (x y : Image) → ChangesMembers own x y → KeepsMembers id x y
 changed_keeps own id x y changes slot = ⊎_elim
-    (λ kept. disk_keeps id slot x y (stays slot x y kept))
+    (λ kept. disk_keeps id slot x y kept)
     (λ both. ⊎_elim
     (λ (here : id ≡ own). ((λ has. subst (λ (i : ℕ). IsMemberIn i y slot) (sym here) both.1), (λ has. subst (λ (i : ℕ). IsMemberIn i x slot) (sym here) both.0)))
     (λ other. ((λ has. absurd (no_member own id slot x other both.0 has.0 has.1 has.2)), (λ has. absurd (no_member own id slot y other both.1 has.0 has.1 has.2))))

@@ -1,6 +1,5 @@
 use Rattle.std.proofs.Common.{ap}
-use Rattle.asm_formats.specs.Status.{Entry}
-use Rattle.disk_modes.specs.Finding.{is_offline_entry}
+use Rattle.asm_formats.specs.Status.{Entry, is_offline_entry}
 use Rattle.disk_modes.proofs.Found.{all_found, none_found, one_found}
 use Rattle.disk_modes.proofs.finding.all_offline.Goals as goal
 

@@ -1,5 +1,6 @@
 use Rattle.std.proofs.Common.{take}
-use Rattle.disk_modes.specs.Finding.{IsSetOf, is_offline_entry}
+use Rattle.asm_formats.specs.Status.{is_offline_entry}
+use Rattle.disk_modes.specs.Finding.{IsSetOf}
 use Rattle.disk_modes.proofs.finding.all_offline.Given as goal
 
 abbrev pub invariant-loop-entry : goal.invariant-loop-entry
