@@ -1,7 +1,6 @@
 -- The directories are stored on a disk more.
-use Rattle.std.specs.Prelude.{◌≡◌, ◌⊎◌, ⊤, ℕ, ◌+◌, ◌*◌, ◌<◌, ◌≤◌, ◌^◌, ◌==◌, ◌||◌, true, [], ◌∷◌, get_or, Some, None, IfErr, OnErr, OnOk, Result}
+use Rattle.std.specs.Prelude.{◌≡◌, ◌⊎◌, ⊤, ℕ, ◌+◌, ◌*◌, ◌<◌, ◌≤◌, ◌^◌, ◌==◌, ◌||◌, false, true, [], ◌∷◌, get_or, Some, None, IfErr, OnErr, OnOk, Result}
 use Rattle.bay.specs.State.{BayState}
-use Rattle.bay.specs.Counts.{Rose}
 use Rattle.bay.specs.Moments.{LeavesOnly}
 use Rattle.asm_group.specs.Group.{Group}
 use Rattle.asm_formats.specs.Bytes.{block_size}
@@ -19,7 +18,7 @@ use Rattle.status_register.specs.declared.error.Dead.{Dead}
 use Rattle.status_register.specs.declared.member.Member.{Member}
 use Rattle.group_engine.specs.Commits.{DismountCause, StandsIn, turns_at_most}
 use Rattle.status_register.specs.RegisterCalls.{HasWritten}
-use Rattle.group_engine.specs.Mounts.{IsMounted, MayRecord, MountedGroup, Mounts, slot_at}
+use Rattle.group_engine.specs.Mounts.{IsMounted, IsReady, IsWhole, MayRecord, MountedGroup, Mounts, RoseOnDisk, slot_at}
 use Rattle.group_engine.specs.Own.{KeepsGroup}
 use Rattle.group_engine.specs.declared.attached.Attached.{Attached}
 
@@ -51,9 +50,17 @@ pub record IsOneMore (m : MountedGroup) (d : ℕ) (c : DirCopy) : Type 0 where
   pub at : get_or m.disks d None ≡ Some image
   pub room : region_end c.dir_blocks * block_size ≤ image.size
 
+-- A mounted group of which the directories may be stored on such a copy: the record doesn't name its disk.
+pub record MayStoreOn (m : MountedGroup) (d : ℕ) (c : DirCopy) (s : BayState) : Type 0 where
+  pub mounted : IsMounted m
+  pub whole : IsWhole m
+  pub ready : IsReady m s
+  pub copy : IsOneMore m d c
+  pub unnamed : has_bit m.register.value.directories d ≡ false
+
 -- a write to the disk was refused: no image is attached as it, or the slot of its image failed
 abbrev pub IsNotCopied : MountedGroup → ℕ → BayState → BayState → Type 0
-IsNotCopied m d s t = (slot_at m.disks d ≡ None) ⊎ ((slot : ℕ) × (slot_at m.disks d ≡ Some slot) × Rose (s.faults slot) (t.faults slot))
+IsNotCopied m d s t = (slot_at m.disks d ≡ None) ⊎ RoseOnDisk m d s t
 
 -- Why the directories aren't stored on a disk. Want of memory is free.
 abbrev pub DirectoryCopyCause : MountedGroup → ℕ → MountedGroup → BayState → BayState → Refusal → Type 0
@@ -79,16 +86,22 @@ MountsLater old new s t = (n : ℕ) (g : Group) (kept : Kept) → MayRecord n ol
 abbrev pub MountsStill : MountedGroup → MountedGroup → BayState → BayState → Type 0
 MountsStill old new s t = (n : ℕ) (g : Group) (kept : Kept) → Mounts n old s g kept → Mounts n new t g kept
 
--- The storing of the directories on a disk, of a group that takes calls.
+-- The directories were stored on a disk more and named there, or that was refused.
 pub record CopiesTo (old : MountedGroup) (d : ℕ) (answer : Result (Unit {0}) Refusal) (new : MountedGroup) (s t : BayState) : Type 0 where
+  -- the group's parts agree, it takes the next call, and the disks of others stay
   pub keeps : KeepsGroup old new s t
   pub flight : new.flight ≡ old.flight
   pub tables : new.catalog ≡ old.catalog
+  -- once it is done, the group takes calls still, and the record names the disk
   pub mounted : OnOk answer (IsMounted new)
   pub named : OnOk answer (has_bit new.register.value.directories d ≡ true)
   pub cause : IfErr answer (DirectoryCopyCause old d new s t)
+  -- refused, it leaves the record that holds, and unless the group is dismounted all as before
   pub refused : IfErr answer (LeavesGroup old new)
+  -- At each moment each image stands for the group. Once it is done the group is mounted with the record that names the disk, and after a
+  -- refusal that doesn't dismount it as before.
   pub moments : StandThrough old s t
   pub done : OnOk answer (MountsLater old new s t)
   pub stays : IsMounted new → OnErr answer (MountsStill old new s t)
+  -- its record takes a turn, and the copy may cost another once it fails
   pub turns : turns_at_most new ≤ turns_at_most old + 2

@@ -1,13 +1,10 @@
 //! The directories are stored on a disk more, and then the status record names it.
-ghost use Rattle.std.specs.Prelude.{◌≡◌, ◌+◌, ◌<◌, ◌≤◌, false, true, IfErr, IfSome, IsTrue, OnErr, OnOk};
-ghost use Rattle.asm_formats.specs.Sets.{has_bit};
+ghost use Rattle.std.specs.Prelude.{◌≡◌, ◌<◌, false, true, IfSome, IsTrue};
 ghost use Rattle.asm_formats.specs.Status.{has_entry, is_status};
 ghost use Rattle.refusal_lines.specs.declared.refusal.DiskRef.TheVariants as refused;
 ghost use Rattle.refusal_lines.specs.declared.refusal.Refusal.TheVariants as cause;
-ghost use Rattle.group_engine.specs.Commits.{turns_at_most};
-ghost use Rattle.group_engine.specs.Copying.{CopiesTo, DirectoryCopyCause, IsOneMore, LeavesGroup, MountsLater, MountsStill, StandThrough, WritesMore};
-ghost use Rattle.group_engine.specs.Mounts.{IsMounted, IsReady, IsWhole, Takes};
-ghost use Rattle.group_engine.specs.Own.{KeepsGroup};
+ghost use Rattle.group_engine.specs.Copying.{CopiesTo, IsOneMore, MayStoreOn, WritesMore};
+ghost use Rattle.group_engine.specs.Mounts.{IsMounted, Takes};
 ghost use Rattle.status_register.specs.Keeping.{IsRegisterReady as IsWritable};
 ghost use Rattle.status_register.specs.Reaching.{Reaches};
 
@@ -49,23 +46,7 @@ impl Mounted {
         to: u8,
     ) -> Result<(), Refusal>
         requires takes { Takes self.old (B.state bay.old) }
-        // The group's parts agree, it takes the next call, and the disks of others stay.
-        ensures keeps { KeepsGroup self.old self.new (B.state bay.old) (B.state bay.new) }
-        ensures flight { self.new.flight ≡ self.old.flight }
-        ensures tables { self.new.catalog ≡ self.old.catalog }
-        // Once it is done, the group takes calls still, and the record names the disk.
-        ensures mounted { OnOk result (IsMounted self.new) }
-        ensures named { OnOk result (has_bit self.new.register.value.directories to ≡ true) }
-        ensures cause { IfErr result (DirectoryCopyCause self.old to self.new (B.state bay.old) (B.state bay.new)) }
-        // Refused, it leaves the record that holds, and unless the group is dismounted all as before.
-        ensures refused { IfErr result (LeavesGroup self.old self.new) }
-        // At each moment each image stands for the group. Once it is done the group is mounted with the record that names the disk, and
-        // after a refusal that doesn't dismount it as before.
-        ensures moments { StandThrough self.old (B.state bay.old) (B.state bay.new) }
-        ensures done { OnOk result (MountsLater self.old self.new (B.state bay.old) (B.state bay.new)) }
-        ensures stays { IsMounted self.new → OnErr result (MountsStill self.old self.new (B.state bay.old) (B.state bay.new)) }
-        // Its record takes a turn, and the copy may cost another once it fails.
-        ensures turns { turns_at_most self.new ≤ turns_at_most self.old + 2 }
+        ensures { CopiesTo self.old to result self.new (B.state bay.old) (B.state bay.new) }
     {
         match self.takes_calls() {
             Ok(()) => self.copy_mounted(alloc, bay, to),
@@ -119,11 +100,7 @@ impl Mounted {
         to: u8,
         copy: DirCopy,
     ) -> Result<(), Refusal>
-        requires mounted { IsMounted self.old }
-        requires whole { IsWhole self.old }
-        requires ready { IsReady self.old (B.state bay.old) }
-        requires copy { IsOneMore self.old to copy }
-        requires unnamed { has_bit self.old.register.value.directories to ≡ false }
+        requires { MayStoreOn self.old to copy (B.state bay.old) }
         ensures { CopiesTo self.old to result self.new (B.state bay.old) (B.state bay.new) }
     {
         self.search = Search::start();

@@ -10,6 +10,7 @@ pub mod Pieces
 pub mod Failing
 pub mod Written
 pub mod Held
+pub mod WriteCalls
 pub mod asm_images
 pub mod catalog
 pub mod directory_store

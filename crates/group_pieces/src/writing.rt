@@ -1,15 +1,9 @@
 // A piece of an extent is written to its usable copies.
-ghost use Rattle.std.specs.Prelude.{◌≡◌, IfErr, IfOk, length};
-ghost use Rattle.bay.specs.Moments.{NowOnly};
+ghost use Rattle.std.specs.Prelude.{◌≡◌, length};
 ghost use Rattle.record_laws.specs.group_engine.Mounts.{IsMounted, Takes};
-ghost use Rattle.record_laws.specs.group_engine.Own.{KeepsGroup};
-ghost use Rattle.group_pieces.specs.Bytes.{WritesBytes};
-ghost use Rattle.group_pieces.specs.Copies.{HaveBut, PlacesOf};
-ghost use Rattle.group_pieces.specs.Failing.{AreServing};
-ghost use Rattle.group_pieces.specs.Faults.{AreRisen};
-ghost use Rattle.group_pieces.specs.Held.{WritesHeld};
-ghost use Rattle.group_pieces.specs.Usable.{AreNone, FitsExtent, places_at};
-ghost use Rattle.group_pieces.specs.Writes.{ArePlacesNumbered, IsWriteCause, SomeTook, have_failed};
+ghost use Rattle.group_pieces.specs.Usable.{FitsExtent};
+ghost use Rattle.group_pieces.specs.WriteCalls.{WritesUsableCopies};
+ghost use Rattle.group_pieces.specs.Writes.{ArePlacesNumbered, have_failed};
 
 use crate::copies::{Place, write_copies};
 use crate::usable::{first_disk, usable_copies};
@@ -38,18 +32,7 @@ pub fn write_usable<B: Bay>(
     requires mounted { IsMounted m.now }
     requires takes { Takes m.now (B.state bay.old) }
     requires piece { FitsExtent m.now.catalog.shape x.index inner (length bytes.now) }
-    ensures keeps { KeepsGroup m.now m.now (B.state bay.old) (B.state bay.new) }
-    ensures writes { WritesBytes m.now (PlacesOf (places_at m.now x inner) (length bytes.now)) (B.state bay.old) (B.state bay.new) }
-    ensures done { IfOk result (λ failed. NowOnly (B.state bay.new) (HaveBut (places_at m.now x inner) failed bytes.now)) }
-    ensures failed { IfOk result (λ failed. AreRisen m.now failed (B.state bay.old) (B.state bay.new)) }
-    ensures some { IfOk result (SomeTook (places_at m.now x inner)) }
-    ensures cause { IfErr result (IsWriteCause m.now x inner (B.state bay.old) (B.state bay.new)) }
-    // A group that is mounted is held with the piece's cells Free all the while, and with the bytes where no copy is left behind.
-    ensures holds { WritesHeld m.now x inner bytes.now result (B.state bay.old) (B.state bay.new) }
-    // The disks that failed serve.
-    ensures serving { IfOk result (AreServing m.now.register.value.entries) }
-    // Where no copy is usable nothing was done.
-    ensures lost { AreNone (places_at m.now x inner) → bay.new ≡ bay.old }
+    ensures { WritesUsableCopies B.state m.now x inner bytes.now result bay.old bay.new }
 {
     let places = usable_copies(m, x, inner);
     let Some(disk) = first_disk(&places) else {

@@ -1,4 +1,4 @@
-use Rattle.std.proofs.Common.{◌≡◌, length, ap, subst, sym, ◌∙◌, Ok, Err}
+use Rattle.std.proofs.Common.{◌≡◌, length, ap, refl, subst, sym, ◌∙◌, Ok, Err}
 use Rattle.record_laws.specs.group_engine.Mounts.{MountedGroup}
 use Rattle.refusal_lines.specs.declared.refusal.Refusal.{Refusal}
 use Rattle.group_pieces.specs.Marking.{AreMarked, MarksMore, left_of}
@@ -111,3 +111,6 @@ returns-in-Ok-settle-clause-lost g c = λ none. let some = c.in-Ok.ensures.some 
 
 pub returns-in-Err-settle-clause-lost : goal.returns-in-Err-settle-clause-lost
 returns-in-Err-settle-clause-lost g c = λ none. let some = c.in-Ok.ensures.some in absurd (none some.0 some.1)
+
+pub returns-in-Err-clause-lost : goal.returns-in-Err-clause-lost
+returns-in-Err-clause-lost g c = λ none. (refl, c.write_usable.ensures.lost none)

@@ -1,4 +1,4 @@
-use Rattle.std.proofs.Common.{length, List, Option, ap, sym, subst, ◌∙◌}
+use Rattle.std.proofs.Common.{length, List, Option, ap, refl, sym, subst, ◌∙◌}
 use Rattle.bay.specs.Image.{ChangesOnly}
 use Rattle.bay.specs.Moments.{Runs, NowOnly}
 use Rattle.group_pieces.specs.declared.copies.Place.{Place}
@@ -38,139 +38,73 @@ have_failed-requires g c =
     let takes = c.requires.takes c.requires.mounted in
     subst ArePlacesNumbered (sym c.usable_copies-places.ensures.value) (λ p among. (places_usable m s c.args.x c.args.inner n takes.0 takes.1 c.requires.piece p among).number)
 
-pub returns-in_default-clause-keeps : goal.returns-in_default-clause-keeps
-returns-in_default-clause-keeps g c =
-    let s = g.B.Bay.state c.args.bay.now in
-    let takes = c.requires.takes c.requires.mounted in
-    writes_keep c.args.m.now s s _ takes.0 (piece_unwritten c.args.m.now s c.args.x c.args.inner (length c.args.bytes.now) takes.0 takes.1 c.requires.piece)
-
-pub returns-in_default-clause-writes : goal.returns-in_default-clause-writes
-returns-in_default-clause-writes g c =
-    let takes = c.requires.takes c.requires.mounted in
-    piece_unwritten c.args.m.now (g.B.Bay.state c.args.bay.now) c.args.x c.args.inner (length c.args.bytes.now) takes.0 takes.1 c.requires.piece
-
-pub returns-in_default-clause-cause : goal.returns-in_default-clause-cause
-returns-in_default-clause-cause g c = subst AreNone c.usable_copies-places.ensures.value (none_is_there c.usable_copies-places.result (sym c.first_disk.ensures ∙ c.in_default.is))
-
-pub returns-then-have_failed-clause-writes : goal.returns-then-have_failed-clause-writes
-returns-then-have_failed-clause-writes g c =
+pub returns-in_default : goal.returns-in_default
+returns-in_default g c =
     let m = c.args.m.now in
     let s = g.B.Bay.state c.args.bay.now in
-    let t = g.B.Bay.state c.write_copies-failed.new.bay in
-    let n = length c.args.bytes.now in
     let takes = c.requires.takes c.requires.mounted in
-    piece_writes m s c.args.x c.args.inner n takes.0 takes.1 c.requires.piece t c.write_copies-failed.ensures.attached
-    (subst (λ (l : List (Option Place)). Runs (IsSlotOfPlace l) (ChangesOnly (PlacesOf l n)) s t) c.usable_copies-places.ensures.value c.write_copies-failed.ensures.runs)
-
-pub returns-then-have_failed-clause-keeps : goal.returns-then-have_failed-clause-keeps
-returns-then-have_failed-clause-keeps g c =
-    let m = c.args.m.now in
-    let s = g.B.Bay.state c.args.bay.now in
-    let t = g.B.Bay.state c.write_copies-failed.new.bay in
-    let n = length c.args.bytes.now in
-    let takes = c.requires.takes c.requires.mounted in
-    writes_keep m s t _ takes.0
-    (piece_writes m s c.args.x c.args.inner n takes.0 takes.1 c.requires.piece t c.write_copies-failed.ensures.attached
-    (subst (λ (l : List (Option Place)). Runs (IsSlotOfPlace l) (ChangesOnly (PlacesOf l n)) s t) c.usable_copies-places.ensures.value c.write_copies-failed.ensures.runs))
-
-pub returns-then-have_failed-clause-cause : goal.returns-then-have_failed-clause-cause
-returns-then-have_failed-clause-cause g c =
-    let m = c.args.m.now in
-    let s = g.B.Bay.state c.args.bay.now in
-    let t = g.B.Bay.state c.write_copies-failed.new.bay in
-    let n = length c.args.bytes.now in
-    let takes = c.requires.takes c.requires.mounted in
-    let value = c.usable_copies-places.ensures.value in
-    let failed = c.write_copies-failed.result in
-    is_fault m c.args.x c.args.inner s t c.in-Some.disk
-    (all_failed m c.args.x c.args.inner failed s t (λ p among. (places_usable m s c.args.x c.args.inner n takes.0 takes.1 c.requires.piece p among).number)
-    (subst (λ (l : List (Option Place)). HasOnlyFailedPlaces l failed s t) value c.write_copies-failed.ensures.failed)
-    (ap (have_failed failed) (sym value) ∙ sym c.have_failed.ensures ∙ c.if-have_failed.true))
-    (ap first_disk (sym value) ∙ sym c.in-Some.ensures)
-
-pub returns-else-have_failed-clause-writes : goal.returns-else-have_failed-clause-writes
-returns-else-have_failed-clause-writes g c =
-    let m = c.args.m.now in
-    let s = g.B.Bay.state c.args.bay.now in
-    let t = g.B.Bay.state c.write_copies-failed.new.bay in
-    let n = length c.args.bytes.now in
-    let takes = c.requires.takes c.requires.mounted in
-    piece_writes m s c.args.x c.args.inner n takes.0 takes.1 c.requires.piece t c.write_copies-failed.ensures.attached
-    (subst (λ (l : List (Option Place)). Runs (IsSlotOfPlace l) (ChangesOnly (PlacesOf l n)) s t) c.usable_copies-places.ensures.value c.write_copies-failed.ensures.runs)
-
-pub returns-else-have_failed-clause-keeps : goal.returns-else-have_failed-clause-keeps
-returns-else-have_failed-clause-keeps g c =
-    let m = c.args.m.now in
-    let s = g.B.Bay.state c.args.bay.now in
-    let t = g.B.Bay.state c.write_copies-failed.new.bay in
-    let n = length c.args.bytes.now in
-    let takes = c.requires.takes c.requires.mounted in
-    writes_keep m s t _ takes.0
-    (piece_writes m s c.args.x c.args.inner n takes.0 takes.1 c.requires.piece t c.write_copies-failed.ensures.attached
-    (subst (λ (l : List (Option Place)). Runs (IsSlotOfPlace l) (ChangesOnly (PlacesOf l n)) s t) c.usable_copies-places.ensures.value c.write_copies-failed.ensures.runs))
-
-pub returns-else-have_failed-clause-done : goal.returns-else-have_failed-clause-done
-returns-else-have_failed-clause-done g c =
-    let t = g.B.Bay.state c.write_copies-failed.new.bay in
-    subst (λ (l : List (Option Place)). NowOnly t (HaveBut l c.write_copies-failed.result c.args.bytes.now)) c.usable_copies-places.ensures.value c.write_copies-failed.ensures.done
-
-pub returns-else-have_failed-clause-failed : goal.returns-else-have_failed-clause-failed
-returns-else-have_failed-clause-failed g c =
-    let s = g.B.Bay.state c.args.bay.now in
-    let t = g.B.Bay.state c.write_copies-failed.new.bay in
-    let failed = c.write_copies-failed.result in
-    are_risen c.args.m.now c.args.x c.args.inner failed s t (subst (λ (l : List (Option Place)). HasOnlyFailedPlaces l failed s t) c.usable_copies-places.ensures.value c.write_copies-failed.ensures.failed)
-
-pub returns-else-have_failed-clause-some : goal.returns-else-have_failed-clause-some
-returns-else-have_failed-clause-some g c =
-    let failed = c.write_copies-failed.result in
-    some_took failed (places_at c.args.m.now c.args.x c.args.inner) (ap (have_failed failed) (sym c.usable_copies-places.ensures.value) ∙ sym c.have_failed.ensures ∙ c.if-have_failed.false)
-
-pub returns-in_default-clause-holds : goal.returns-in_default-clause-holds
-returns-in_default-clause-holds g c =
-    let takes = c.requires.takes c.requires.mounted in
-    let s = g.B.Bay.state c.args.bay.now in
     let sound = g.met.B.Bay.sound c.args.bay.now in
-    held_failing c.args.m.now s s sound sound c.args.x c.args.inner c.args.bytes.now c.requires.piece
-    (piece_unwritten c.args.m.now s c.args.x c.args.inner (length c.args.bytes.now) takes.0 takes.1 c.requires.piece) _
+    let writes = piece_unwritten m s c.args.x c.args.inner (length c.args.bytes.now) takes.0 takes.1 c.requires.piece in
+    record {
+      keeps = writes_keep m s s _ takes.0 writes;
+      writes = writes;
+      done = tt;
+      failed = tt;
+      serving = tt;
+      some = tt;
+      cause = subst AreNone c.usable_copies-places.ensures.value (none_is_there c.usable_copies-places.result (sym c.first_disk.ensures ∙ c.in_default.is));
+      holds = held_failing m s s sound sound c.args.x c.args.inner c.args.bytes.now c.requires.piece writes _;
+      lost = λ none. refl;
+    }
 
-pub returns-then-have_failed-clause-holds : goal.returns-then-have_failed-clause-holds
-returns-then-have_failed-clause-holds g c =
-    let m = c.args.m.now in
-    let s = g.B.Bay.state c.args.bay.now in
-    let t = g.B.Bay.state c.write_copies-failed.new.bay in
-    let n = length c.args.bytes.now in
-    let takes = c.requires.takes c.requires.mounted in
-    held_failing m s t (g.met.B.Bay.sound c.args.bay.now) (g.met.B.Bay.sound c.write_copies-failed.new.bay) c.args.x c.args.inner c.args.bytes.now c.requires.piece
-    (piece_writes m s c.args.x c.args.inner n takes.0 takes.1 c.requires.piece t c.write_copies-failed.ensures.attached
-    (subst (λ (l : List (Option Place)). Runs (IsSlotOfPlace l) (ChangesOnly (PlacesOf l n)) s t) c.usable_copies-places.ensures.value c.write_copies-failed.ensures.runs)) _
-
-pub returns-else-have_failed-clause-holds : goal.returns-else-have_failed-clause-holds
-returns-else-have_failed-clause-holds g c =
+pub returns-then-have_failed : goal.returns-then-have_failed
+returns-then-have_failed g c =
     let m = c.args.m.now in
     let s = g.B.Bay.state c.args.bay.now in
     let t = g.B.Bay.state c.write_copies-failed.new.bay in
     let n = length c.args.bytes.now in
     let takes = c.requires.takes c.requires.mounted in
     let value = c.usable_copies-places.ensures.value in
-    held_taken m s t (g.met.B.Bay.sound c.args.bay.now) (g.met.B.Bay.sound c.write_copies-failed.new.bay) c.args.x c.args.inner c.args.bytes.now c.requires.piece
-    (piece_writes m s c.args.x c.args.inner n takes.0 takes.1 c.requires.piece t c.write_copies-failed.ensures.attached
-    (subst (λ (l : List (Option Place)). Runs (IsSlotOfPlace l) (ChangesOnly (PlacesOf l n)) s t) value c.write_copies-failed.ensures.runs))
-    c.write_copies-failed.result
-    (subst (λ (l : List (Option Place)). NowOnly t (HaveBut l c.write_copies-failed.result c.args.bytes.now)) value c.write_copies-failed.ensures.done)
+    let failed = c.write_copies-failed.result in
+    let writes = piece_writes m s c.args.x c.args.inner n takes.0 takes.1 c.requires.piece t c.write_copies-failed.ensures.attached
+    (subst (λ (l : List (Option Place)). Runs (IsSlotOfPlace l) (ChangesOnly (PlacesOf l n)) s t) value c.write_copies-failed.ensures.runs) in
+    record {
+      keeps = writes_keep m s t _ takes.0 writes;
+      writes = writes;
+      done = tt;
+      failed = tt;
+      serving = tt;
+      some = tt;
+      cause = is_fault m c.args.x c.args.inner s t c.in-Some.disk
+          (all_failed m c.args.x c.args.inner failed s t (λ p among. (places_usable m s c.args.x c.args.inner n takes.0 takes.1 c.requires.piece p among).number)
+          (subst (λ (l : List (Option Place)). HasOnlyFailedPlaces l failed s t) value c.write_copies-failed.ensures.failed)
+          (ap (have_failed failed) (sym value) ∙ sym c.have_failed.ensures ∙ c.if-have_failed.true))
+          (ap first_disk (sym value) ∙ sym c.in-Some.ensures);
+      holds = held_failing m s t (g.met.B.Bay.sound c.args.bay.now) (g.met.B.Bay.sound c.write_copies-failed.new.bay) c.args.x c.args.inner c.args.bytes.now c.requires.piece writes _;
+      lost = λ none. absurd (first_is_there c.usable_copies-places.result c.in-Some.disk (sym c.in-Some.ensures) (subst AreNone (sym value) none));
+    }
 
-pub returns-then-have_failed-clause-lost : goal.returns-then-have_failed-clause-lost
-returns-then-have_failed-clause-lost g c = λ none.
-    absurd (first_is_there c.usable_copies-places.result c.in-Some.disk (sym c.in-Some.ensures) (subst AreNone (sym c.usable_copies-places.ensures.value) none))
-
-pub returns-else-have_failed-clause-lost : goal.returns-else-have_failed-clause-lost
-returns-else-have_failed-clause-lost g c = λ none.
-    absurd (first_is_there c.usable_copies-places.result c.in-Some.disk (sym c.in-Some.ensures) (subst AreNone (sym c.usable_copies-places.ensures.value) none))
-
-pub returns-else-have_failed-clause-serving : goal.returns-else-have_failed-clause-serving
-returns-else-have_failed-clause-serving g c =
+pub returns-else-have_failed : goal.returns-else-have_failed
+returns-else-have_failed g c =
+    let m = c.args.m.now in
     let s = g.B.Bay.state c.args.bay.now in
     let t = g.B.Bay.state c.write_copies-failed.new.bay in
+    let n = length c.args.bytes.now in
+    let takes = c.requires.takes c.requires.mounted in
+    let value = c.usable_copies-places.ensures.value in
     let failed = c.write_copies-failed.result in
-    failed_serve c.args.m.now c.args.x c.args.inner failed s t
-    (subst (λ (l : List (Option Place)). HasOnlyFailedPlaces l failed s t) c.usable_copies-places.ensures.value c.write_copies-failed.ensures.failed)
+    let alone = subst (λ (l : List (Option Place)). HasOnlyFailedPlaces l failed s t) value c.write_copies-failed.ensures.failed in
+    let has = subst (λ (l : List (Option Place)). NowOnly t (HaveBut l failed c.args.bytes.now)) value c.write_copies-failed.ensures.done in
+    let writes = piece_writes m s c.args.x c.args.inner n takes.0 takes.1 c.requires.piece t c.write_copies-failed.ensures.attached
+    (subst (λ (l : List (Option Place)). Runs (IsSlotOfPlace l) (ChangesOnly (PlacesOf l n)) s t) value c.write_copies-failed.ensures.runs) in
+    record {
+      keeps = writes_keep m s t _ takes.0 writes;
+      writes = writes;
+      done = has;
+      failed = are_risen m c.args.x c.args.inner failed s t alone;
+      serving = failed_serve m c.args.x c.args.inner failed s t alone;
+      some = some_took failed (places_at m c.args.x c.args.inner) (ap (have_failed failed) (sym value) ∙ sym c.have_failed.ensures ∙ c.if-have_failed.false);
+      cause = tt;
+      holds = held_taken m s t (g.met.B.Bay.sound c.args.bay.now) (g.met.B.Bay.sound c.write_copies-failed.new.bay) c.args.x c.args.inner c.args.bytes.now c.requires.piece writes failed has;
+      lost = λ none. absurd (first_is_there c.usable_copies-places.result c.in-Some.disk (sym c.in-Some.ensures) (subst AreNone (sym value) none));
+    }

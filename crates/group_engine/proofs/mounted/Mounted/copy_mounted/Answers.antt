@@ -26,3 +26,8 @@ returns-then-to-ge64 g c =
 
 pub returns-in-None : goal.returns-in-None
 returns-in-None g c = copied_not c.args.self.now (g.B.Bay.state c.args.bay.now) c.args.to cause.NoMemory c.requires.takes tt
+
+pub store_copy-requires : goal.store_copy-requires
+store_copy-requires g c =
+    let takes = c.requires.takes c.requires.mounted in
+    record { mounted = c.requires.mounted; whole = takes.0; ready = takes.1; copy = search rules; unnamed = search rules }
