@@ -41,7 +41,8 @@ fn is_under(dir: &[Name], path: &[Name]) -> bool
 
 /// Of a new name.
 pub(crate) fn new_name_refusal(tree: &AliasTree, path: &Path) -> Option<TreeError>
-    ensures { option_map cause_said result ≡ first_cause (new_name_causes (tree_of tree.now) path.now.parts) }
+    ensures { option_map cause_said result
+        ≡ first_cause (new_name_causes (tree_of tree.now) path.now.parts) }
 {
     if lacks_parent(tree, path) {
         return Some(TreeError::NoName);
@@ -56,7 +57,8 @@ pub(crate) fn new_name_refusal(tree: &AliasTree, path: &Path) -> Option<TreeErro
 }
 
 pub(crate) fn drop_dir_refusal(tree: &AliasTree, path: &Path) -> Option<TreeError>
-    ensures { option_map cause_said result ≡ first_cause (edit_causes (tree_of tree.now) (DropDir path.now.parts)) }
+    ensures { option_map cause_said result
+        ≡ first_cause (edit_causes (tree_of tree.now) (DropDir path.now.parts)) }
 {
     let parts = path.parts.as_slice();
     if parts.is_empty() || !is_there(tree, parts) {
@@ -72,7 +74,8 @@ pub(crate) fn drop_dir_refusal(tree: &AliasTree, path: &Path) -> Option<TreeErro
 }
 
 pub(crate) fn rename_dir_refusal(tree: &AliasTree, old: &Path, new: &Path) -> Option<TreeError>
-    ensures { option_map cause_said result ≡ first_cause (edit_causes (tree_of tree.now) (RenameDir old.now.parts new.now.parts)) }
+    ensures { option_map cause_said result
+        ≡ first_cause (edit_causes (tree_of tree.now) (RenameDir old.now.parts new.now.parts)) }
 {
     let from = old.parts.as_slice();
     let to = new.parts.as_slice();
@@ -89,7 +92,9 @@ pub(crate) fn rename_dir_refusal(tree: &AliasTree, old: &Path, new: &Path) -> Op
 }
 
 pub(crate) fn add_alias_refusal(tree: &AliasTree, alias: &Path, path: &Path) -> Option<TreeError>
-    ensures { option_map cause_said result ≡ first_cause (edit_causes (tree_of tree.now) (AddAliasEntry alias.now.parts path.now.parts)) }
+    ensures { option_map cause_said result
+        ≡ first_cause (edit_causes (tree_of tree.now)
+        (AddAliasEntry alias.now.parts path.now.parts)) }
 {
     let file = file_at(tree, path.parts.as_slice());
     if file.is_none() || lacks_parent(tree, alias) {
@@ -108,7 +113,9 @@ pub(crate) fn add_alias_refusal(tree: &AliasTree, alias: &Path, path: &Path) -> 
 }
 
 pub(crate) fn rename_alias_refusal(tree: &AliasTree, old: &Path, new: &Path) -> Option<TreeError>
-    ensures { option_map cause_said result ≡ first_cause (edit_causes (tree_of tree.now) (RenameAliasEntry old.now.parts new.now.parts)) }
+    ensures { option_map cause_said result
+        ≡ first_cause (edit_causes (tree_of tree.now)
+        (RenameAliasEntry old.now.parts new.now.parts)) }
 {
     let from = old.parts.as_slice();
     if file_at(tree, from).is_none() || lacks_parent(tree, new) {
@@ -127,7 +134,8 @@ pub(crate) fn rename_alias_refusal(tree: &AliasTree, old: &Path, new: &Path) -> 
 }
 
 pub(crate) fn drop_alias_refusal(tree: &AliasTree, path: &Path) -> Option<TreeError>
-    ensures { option_map cause_said result ≡ first_cause (edit_causes (tree_of tree.now) (DropAliasEntry path.now.parts)) }
+    ensures { option_map cause_said result
+        ≡ first_cause (edit_causes (tree_of tree.now) (DropAliasEntry path.now.parts)) }
 {
     let parts = path.parts.as_slice();
     if file_at(tree, parts).is_none() {
@@ -140,7 +148,8 @@ pub(crate) fn drop_alias_refusal(tree: &AliasTree, path: &Path) -> Option<TreeEr
 }
 
 pub(crate) fn drop_file_refusal(tree: &AliasTree, file: u32) -> Option<TreeError>
-    ensures { option_map cause_said result ≡ first_cause (edit_causes (tree_of tree.now) (DropFileEntries file)) }
+    ensures { option_map cause_said result
+        ≡ first_cause (edit_causes (tree_of tree.now) (DropFileEntries file)) }
 {
     if tree.is_named(file) {
         return None;

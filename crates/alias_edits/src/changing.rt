@@ -48,7 +48,8 @@ pub(crate) fn new_node(
 
 pub(crate) fn add_alias(tree: &mut AliasTree, alias: &Path, path: &Path) -> Result<(), NoMemory>
     requires parts { IsTrue (are_parts alias.now.parts) }
-    requires free { first_cause (edit_causes (tree_of tree.old) (AddAliasEntry alias.now.parts path.now.parts)) ≡ None }
+    requires free { first_cause (edit_causes (tree_of tree.old)
+        (AddAliasEntry alias.now.parts path.now.parts)) ≡ None }
     ensures ok { OnOk result (PutsAlias tree.old tree.new alias.now.parts path.now.parts) }
     ensures err { OnErr result (tree.new ≡ tree.old) }
 {
@@ -63,7 +64,8 @@ pub(crate) fn new_alias(
     path: &Path,
 ) -> Result<(u32, Node), NoMemory>
     requires parts { IsTrue (are_parts alias.now.parts) }
-    requires free { first_cause (edit_causes (tree_of tree.now) (AddAliasEntry alias.now.parts path.now.parts)) ≡ None }
+    requires free { first_cause (edit_causes (tree_of tree.now)
+        (AddAliasEntry alias.now.parts path.now.parts)) ≡ None }
     ensures made { IfOk result (λ m. IsMadeAlias tree.now alias.now.parts path.now.parts m.0 m.1) }
     ensures table { IfOk result (λ m. IsNodeTable (with_numbered_node tree.now m.0 m.1)) }
 {
@@ -140,7 +142,8 @@ pub(crate) fn dropped_alias(tree: &AliasTree, path: &Path) -> u32
 
 pub(crate) fn rename_dir(tree: &mut AliasTree, old: &Path, new: &Path) -> Result<(), NoMemory>
     requires parts { IsTrue (are_parts new.now.parts) }
-    requires free { first_cause (edit_causes (tree_of tree.old) (RenameDir old.now.parts new.now.parts)) ≡ None }
+    requires free { first_cause (edit_causes (tree_of tree.old)
+        (RenameDir old.now.parts new.now.parts)) ≡ None }
     ensures ok { OnOk result (MovesNode tree.old tree.new old.now.parts new.now.parts) }
     ensures err { OnErr result (tree.new ≡ tree.old) }
 {
@@ -151,7 +154,8 @@ pub(crate) fn rename_dir(tree: &mut AliasTree, old: &Path, new: &Path) -> Result
 /// The node of a directory at its new path, with its number.
 pub(crate) fn moved_dir(tree: &AliasTree, old: &Path, new: &Path) -> Result<(u32, Node), NoMemory>
     requires parts { IsTrue (are_parts new.now.parts) }
-    requires free { first_cause (edit_causes (tree_of tree.now) (RenameDir old.now.parts new.now.parts)) ≡ None }
+    requires free { first_cause (edit_causes (tree_of tree.now)
+        (RenameDir old.now.parts new.now.parts)) ≡ None }
     ensures moved { IfOk result (λ m. IsMoved tree.now old.now.parts new.now.parts m.0 m.1) }
     ensures table { IfOk result (λ m. IsNodeTable (with_numbered_node tree.now m.0 m.1)) }
 {
@@ -162,7 +166,8 @@ pub(crate) fn moved_dir(tree: &AliasTree, old: &Path, new: &Path) -> Result<(u32
 
 pub(crate) fn rename_alias(tree: &mut AliasTree, old: &Path, new: &Path) -> Result<(), NoMemory>
     requires parts { IsTrue (are_parts new.now.parts) }
-    requires free { first_cause (edit_causes (tree_of tree.old) (RenameAliasEntry old.now.parts new.now.parts)) ≡ None }
+    requires free { first_cause (edit_causes (tree_of tree.old)
+        (RenameAliasEntry old.now.parts new.now.parts)) ≡ None }
     ensures ok { OnOk result (MovesNode tree.old tree.new old.now.parts new.now.parts) }
     ensures err { OnErr result (tree.new ≡ tree.old) }
 {
@@ -173,7 +178,8 @@ pub(crate) fn rename_alias(tree: &mut AliasTree, old: &Path, new: &Path) -> Resu
 /// The node of an alias at its new path, with its number.
 pub(crate) fn moved_alias(tree: &AliasTree, old: &Path, new: &Path) -> Result<(u32, Node), NoMemory>
     requires parts { IsTrue (are_parts new.now.parts) }
-    requires free { first_cause (edit_causes (tree_of tree.now) (RenameAliasEntry old.now.parts new.now.parts)) ≡ None }
+    requires free { first_cause (edit_causes (tree_of tree.now)
+        (RenameAliasEntry old.now.parts new.now.parts)) ≡ None }
     ensures moved { IfOk result (λ m. IsMoved tree.now old.now.parts new.now.parts m.0 m.1) }
     ensures table { IfOk result (λ m. IsNodeTable (with_numbered_node tree.now m.0 m.1)) }
 {

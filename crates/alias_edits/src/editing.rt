@@ -102,7 +102,8 @@ fn is_part(name: &Name) -> bool
 pub fn edit(tree: &mut AliasTree, edit: &TreeEdit) -> Result<(), TreeError>
     requires { IsTrue (is_tree_edit (edit_meant edit.now)) }
     // The tree of names is edited as the edit says.
-    ensures done { OnOk result (edited (tree_of tree.old) (edit_meant edit.now) ≡ Ok (tree_of tree.new)) }
+    ensures done { OnOk result (edited (tree_of tree.old) (edit_meant edit.now)
+        ≡ Ok (tree_of tree.new)) }
     // One node is put, moved or gone, or the names of one file are gone.
     ensures nodes { OnOk result (ChangesNodes tree.old tree.new (edit_meant edit.now)) }
     ensures refused { IfErr result (IsRefusal (edited (tree_of tree.old) (edit_meant edit.now))) }
@@ -123,7 +124,8 @@ pub fn edit(tree: &mut AliasTree, edit: &TreeEdit) -> Result<(), TreeError>
 
 /// Why an edit is refused, or None where it isn't.
 pub(crate) fn refusal(tree: &AliasTree, edit: &TreeEdit) -> Option<TreeError>
-    ensures { option_map cause_said result ≡ first_cause (edit_causes (tree_of tree.now) (edit_meant edit.now)) }
+    ensures { option_map cause_said result
+        ≡ first_cause (edit_causes (tree_of tree.now) (edit_meant edit.now)) }
 {
     match edit {
         TreeEdit::MakeDir { path } => new_name_refusal(tree, path),

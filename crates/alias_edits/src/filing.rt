@@ -40,18 +40,23 @@ pub fn plan_file(
     requires parts { IsTrue (are_parts path.now.parts) }
     requires some { 0 < length path.now.parts }
     // The nodes with these are those of the tree of names with the file and the missing directories.
-    ensures done { IfOk result (λ made. tree_with_file (tree_of tree.now) path.now.parts file ≡ Ok (tree_of (with_nodes tree.now made.items))) }
+    ensures done { IfOk result (λ made. tree_with_file (tree_of tree.now) path.now.parts file
+        ≡ Ok (tree_of (with_nodes tree.now made.items))) }
     ensures table { IfOk result (λ made. IsNodeTable (with_nodes tree.now made.items)) }
     // Directories come first, and the name last.
     ensures nodes { IfOk result (λ made. IsFiling tree.now made.items path.now.parts file) }
     ensures few { IfOk result (λ made. length made.items ≤ length path.now.parts) }
     // They are those of the missing directories, and that of the name.
-    ensures count { IfOk result (λ made. length made.items ≡ nodes_missing (tree_of tree.now) path.now.parts) }
+    ensures count { IfOk result (λ made. length made.items
+        ≡ nodes_missing (tree_of tree.now) path.now.parts) }
     // None of them was there.
-    ensures fresh { IfOk result (λ made. All (λ (x : Numbered). node_at tree.now x.0 ≡ None) made.items) }
+    ensures fresh { IfOk result (λ made. All (λ (x : Numbered). node_at tree.now x.0 ≡ None)
+        made.items) }
     // Each is one of the formats.
-    ensures items { IfOk result (λ made. All (λ (x : Numbered). is_item (node_item x.0 x.1) ≡ true) made.items) }
-    ensures refused { IfErr result (IsRefusal (tree_with_file (tree_of tree.now) path.now.parts file)) }
+    ensures items { IfOk result (λ made. All (λ (x : Numbered). is_item (node_item x.0 x.1) ≡ true)
+        made.items) }
+    ensures refused { IfErr result (IsRefusal (tree_with_file (tree_of tree.now) path.now.parts
+        file)) }
 {
     tree.keeps_rule();
     let front = front_of(tree, above(path));
@@ -87,7 +92,8 @@ fn front_of(tree: &AliasTree, dirs: &[Name]) -> Front
 fn file_refusal(tree: &AliasTree, path: &Path, front: Front) -> Option<TreeError>
     requires some { 0 < length path.now.parts }
     requires front { IsFront tree.now (up path.now.parts) front.there front.number }
-    ensures { option_map cause_said result ≡ first_cause (file_causes (tree_of tree.now) path.now.parts) }
+    ensures { option_map cause_said result
+        ≡ first_cause (file_causes (tree_of tree.now) path.now.parts) }
 {
     tree.keeps_rule();
     if !may_hang(tree, front.number) {
@@ -121,13 +127,17 @@ fn nodes_for(
     requires some { 0 < length path.now.parts }
     requires front { IsFront tree.now (up path.now.parts) front.there front.number }
     requires free { first_cause (file_causes (tree_of tree.now) path.now.parts) ≡ None }
-    ensures tree { IfOk result (λ made. tree_of (with_nodes tree.now made.items) ≡ with_file (tree_of tree.now) path.now.parts file) }
+    ensures tree { IfOk result (λ made. tree_of (with_nodes tree.now made.items)
+        ≡ with_file (tree_of tree.now) path.now.parts file) }
     ensures table { IfOk result (λ made. IsNodeTable (with_nodes tree.now made.items)) }
     ensures nodes { IfOk result (λ made. IsFiling tree.now made.items path.now.parts file) }
     ensures few { IfOk result (λ made. length made.items ≤ length path.now.parts) }
-    ensures count { IfOk result (λ made. length made.items ≡ nodes_missing (tree_of tree.now) path.now.parts) }
-    ensures fresh { IfOk result (λ made. All (λ (x : Numbered). node_at tree.now x.0 ≡ None) made.items) }
-    ensures items { IfOk result (λ made. All (λ (x : Numbered). is_item (node_item x.0 x.1) ≡ true) made.items) }
+    ensures count { IfOk result (λ made. length made.items
+        ≡ nodes_missing (tree_of tree.now) path.now.parts) }
+    ensures fresh { IfOk result (λ made. All (λ (x : Numbered). node_at tree.now x.0 ≡ None)
+        made.items) }
+    ensures items { IfOk result (λ made. All (λ (x : Numbered). is_item (node_item x.0 x.1) ≡ true)
+        made.items) }
 {
     tree.keeps_rule();
     let dirs = above(path);

@@ -28,9 +28,11 @@ pub enum TreeChange {
 pub fn plan(tree: &AliasTree, alloc: Global, edit: &TreeEdit) -> Result<TreeChange, TreeError>
     requires { IsTrue (is_tree_edit (edit_meant edit.now)) }
     // The nodes after the change are those of the tree of names after the edit.
-    ensures done { IfOk result (λ change. edited (tree_of tree.now) (edit_meant edit.now) ≡ Ok (tree_of (nodes_after tree.now change))) }
+    ensures done { IfOk result (λ change. edited (tree_of tree.now) (edit_meant edit.now)
+        ≡ Ok (tree_of (nodes_after tree.now change))) }
     ensures table { IfOk result (λ change. IsNodeTable (nodes_after tree.now change)) }
-    ensures nodes { IfOk result (λ change. ChangesNodes tree.now (nodes_after tree.now change) (edit_meant edit.now)) }
+    ensures nodes { IfOk result (λ change. ChangesNodes tree.now (nodes_after tree.now change)
+        (edit_meant edit.now)) }
     // One node is put, or one goes, or the names of a file.
     ensures change { IfOk result (IsChange tree.now (edit_meant edit.now)) }
     ensures refused { IfErr result (IsRefusal (edited (tree_of tree.now) (edit_meant edit.now))) }

@@ -64,7 +64,8 @@ impl FileNames {
 
     /// Puts a name, where there is one.
     pub(crate) fn put(&mut self, name: Option<FileName>) -> Result<(), NoMemory>
-        ensures ok { OnOk result ((q : FileName) → has_name self.new q ≡ (is_it name q || has_name self.old q)) }
+        ensures ok { OnOk result ((q : FileName)
+            → has_name self.new q ≡ (is_it name q || has_name self.old q)) }
         ensures err { OnErr result (self.new ≡ self.old) }
     {
         let Some(name) = name else {
@@ -78,7 +79,8 @@ impl FileNames {
 
     /// Takes a name away, unless it is the one that is kept.
     pub(crate) fn forget(&mut self, gone: Option<FileName>, kept: Option<FileName>)
-        ensures { (q : FileName) → has_name self.new q ≡ is_left_there gone kept q (has_name self.old q) }
+        ensures { (q : FileName) → has_name self.new q
+            ≡ is_left_there gone kept q (has_name self.old q) }
     {
         let Some(gone) = gone else {
             return;
@@ -90,8 +92,10 @@ impl FileNames {
 
     /// The first node that is a name of the file.
     pub(crate) fn first(&self, file: u32) -> Option<u32>
-        ensures found { IfSome result (λ n. (q : FileName) × (q.file ≡ file) × (q.number ≡ n) × (has_name self.now q ≡ true)) }
-        ensures none { IfNone result ((q : FileName) → q.file ≡ file → q.number < 2 ^ 32 → has_name self.now q ≡ false) }
+        ensures found { IfSome result (λ n. (q : FileName) × (q.file ≡ file) × (q.number ≡ n)
+            × (has_name self.now q ≡ true)) }
+        ensures none { IfNone result ((q : FileName) → q.file ≡ file → q.number < 2 ^ 32
+            → has_name self.now q ≡ false) }
     {
         let from = FileName {
             file,
@@ -109,8 +113,10 @@ impl FileNames {
 
     /// Whether the file has a user alias.
     pub(crate) fn has_alias(&self, file: u32) -> bool
-        ensures found { result ≡ true → (q : FileName) × (q.file ≡ file) × (q.is_alias ≡ true) × (has_name self.now q ≡ true) }
-        ensures none { result ≡ false → (q : FileName) → q.file ≡ file → q.is_alias ≡ true → q.number < 2 ^ 32 → has_name self.now q ≡ false }
+        ensures found { result ≡ true → (q : FileName) × (q.file ≡ file) × (q.is_alias ≡ true)
+            × (has_name self.now q ≡ true) }
+        ensures none { result ≡ false → (q : FileName) → q.file ≡ file → q.is_alias ≡ true
+            → q.number < 2 ^ 32 → has_name self.now q ≡ false }
     {
         let from = FileName {
             file,
@@ -151,8 +157,10 @@ impl FileNames {
     /// The first name that is between two.
     fn between(&self, from: FileName, to: FileName) -> Option<FileName>
         requires { is_gt (name_cmp from to) ≡ false }
-        ensures found { IfSome result (λ q. IsInRange name_cmp (Included from) (Included to) q × (has_name self.now q ≡ true)) }
-        ensures none { IfNone result ((q : FileName) → IsInRange name_cmp (Included from) (Included to) q → has_name self.now q ≡ false) }
+        ensures found { IfSome result (λ q. IsInRange name_cmp (Included from) (Included to) q
+            × (has_name self.now q ≡ true)) }
+        ensures none { IfNone result ((q : FileName)
+            → IsInRange name_cmp (Included from) (Included to) q → has_name self.now q ≡ false) }
     {
         match self.set.range(from..=to).next() {
             Some(name) => Some(*name),

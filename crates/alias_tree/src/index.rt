@@ -54,7 +54,8 @@ pub(crate) fn put_at(
     requires free { number_at_place places.old at ≡ None }
     ensures ok { OnOk result (nodes.new ≡ with_numbered_node nodes.old key item) }
     // Other numbers keep their nodes.
-    ensures nodes { OnOk result ((n : ℕ) → node_at nodes.new n ≡ (if is_at (nat_cmp key) n then Some item else node_at nodes.old n)) }
+    ensures nodes { OnOk result ((n : ℕ) → node_at nodes.new n
+        ≡ (if is_at (nat_cmp key) n then Some item else node_at nodes.old n)) }
     ensures err { OnErr result (nodes.new ≡ nodes.old) }
     ensures index { IsIndex nodes.new places.new }
 {
@@ -75,7 +76,8 @@ pub(crate) fn remove_node(nodes: &mut Nodes, places: &mut Places, key: u32) -> b
     requires index { IsIndex nodes.old places.old }
     ensures there { result ≡ is_some (node_at nodes.old key) }
     ensures after { nodes.new ≡ without_numbered_node nodes.old key }
-    ensures nodes { (n : ℕ) → node_at nodes.new n ≡ (if is_at (nat_cmp key) n then None else node_at nodes.old n) }
+    ensures nodes { (n : ℕ) → node_at nodes.new n
+        ≡ (if is_at (nat_cmp key) n then None else node_at nodes.old n) }
     ensures index { IsIndex nodes.new places.new }
 {
     let gone = place_at(nodes, key);
@@ -94,7 +96,8 @@ fn place_at(nodes: &Nodes, key: u32) -> Option<Place>
 }
 
 fn forget(places: &mut Places, at: Option<Place>)
-    ensures { (q : Place) → number_at_place places.new q ≡ without_place at q (number_at_place places.old q) }
+    ensures { (q : Place) → number_at_place places.new q
+        ≡ without_place at q (number_at_place places.old q) }
 {
     if let Some(at) = at {
         places.remove(at);
@@ -105,7 +108,8 @@ fn forget(places: &mut Places, at: Option<Place>)
 #[tactic(auto, using(crate::proofs::Readings::name_is_short, crate::proofs::Rules::so_far_none, crate::proofs::Rules::so_far_more, crate::proofs::Rules::so_far_clash, crate::proofs::Rules::so_far_all))]
 pub(crate) fn places_of(alloc: Global, nodes: &Nodes) -> Result<Option<Places>, NoMemory>
     requires { IsItemTable is_before item_of_node nodes.now }
-    ensures { IfOk result (λ read. MatchOption read (Clash nodes.now) (λ places. Indexes nodes.now places)) }
+    ensures { IfOk result (λ read. MatchOption read (Clash nodes.now)
+        (λ places. Indexes nodes.now places)) }
 {
     let mut places = Places::new(alloc);
     for (number, node) in nodes.iter() {
@@ -119,8 +123,13 @@ pub(crate) fn places_of(alloc: Global, nodes: &Nodes) -> Result<Option<Places>, 
 /// Puts a node's number at its place. `false` where there is another.
 pub(crate) fn add_place(places: &mut Places, number: u32, node: &Node) -> Result<bool, NoMemory>
     requires { length node.now.name ≤ 80 }
-    ensures added { IfOk result (λ added. OnTrue added ((number_at_place places.old (place_of node.now) ≡ None) × ((q : Place) → number_at_place places.new q ≡ (if is_same_place (place_of node.now) q then Some number else number_at_place places.old q)))) }
-    ensures refused { IfOk result (λ added. OnFalse added (is_some (number_at_place places.old (place_of node.now)) ≡ true)) }
+    ensures added { IfOk result (λ added. OnTrue added
+        ((number_at_place places.old (place_of node.now) ≡ None)
+        × ((q : Place) → number_at_place places.new q
+        ≡ (if is_same_place (place_of node.now) q then Some number
+        else number_at_place places.old q)))) }
+    ensures refused { IfOk result (λ added. OnFalse added
+        (is_some (number_at_place places.old (place_of node.now)) ≡ true)) }
 {
     let at = named_place(node.parent, node.name.as_bytes());
     if places.get(at).is_some() {

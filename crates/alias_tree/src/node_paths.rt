@@ -17,10 +17,14 @@ impl AliasTree {
     /// memory go by the number of parts.
     #[tactic(auto, using(crate::proofs::Spelled::leads_there, crate::proofs::Spelled::has_entry))]
     pub fn path_to(&self, alloc: Global, node: u32) -> Result<Option<List<Name>>, NoMemory>
-        ensures spelt { IfOk result (λ path. IfSome path (λ parts. parts ≡ names_to self.now (length self.now) node)) }
+        ensures spelt { IfOk result (λ path. IfSome path
+            (λ parts. parts ≡ names_to self.now (length self.now) node)) }
         // It leads to the node.
-        ensures at { IfOk result (λ path. IfSome path (λ parts. number_of self.now parts ≡ Some node)) }
-        ensures entry { IfOk result (λ path. IfSome path (λ parts. entry_at (tree_of self.now) parts ≡ option_map entry_of_node (node_at self.now node))) }
+        ensures at { IfOk result (λ path. IfSome path
+            (λ parts. number_of self.now parts ≡ Some node)) }
+        ensures entry { IfOk result (λ path. IfSome path
+            (λ parts. entry_at (tree_of self.now) parts
+            ≡ option_map entry_of_node (node_at self.now node))) }
         ensures none { IfOk result (λ path. IfNone path (node_at self.now node ≡ None)) }
     {
         self.keeps_rule();
@@ -43,7 +47,8 @@ impl AliasTree {
     /// The names on the way up from a node.
     #[tactic(auto, using(crate::proofs::Spelled::one_up, crate::proofs::Spelled::at_top, crate::proofs::Spelled::at_last, crate::proofs::Spelled::at_first))]
     fn names_up(&self, alloc: Global, node: u32) -> Result<Vec<Name>, NoMemory>
-        ensures { IfOk result (λ names. reverse names.items ≡ names_to self.now (length self.now) node) }
+        ensures { IfOk result (λ names. reverse names.items
+            ≡ names_to self.now (length self.now) node) }
     {
         let mut names = Vec::new(alloc);
         let mut at = node;

@@ -82,7 +82,8 @@ impl Nodes {
 
     pub(crate) fn put(&mut self, number: u32, node: Node) -> Result<(), NoMemory>
         ensures ok { OnOk result (self.new ≡ with_numbered_node self.old number node) }
-        ensures at { OnOk result ((n : ℕ) → node_at self.new n ≡ (if is_at (nat_cmp number) n then Some node else node_at self.old n)) }
+        ensures at { OnOk result ((n : ℕ) → node_at self.new n
+            ≡ (if is_at (nat_cmp number) n then Some node else node_at self.old n)) }
         ensures err { OnErr result (self.new ≡ self.old) }
     {
         let before = name_at(&self.map, number);
@@ -104,7 +105,8 @@ impl Nodes {
     pub(crate) fn remove(&mut self, number: u32) -> bool
         ensures there { result ≡ is_some (node_at self.old number) }
         ensures after { self.new ≡ without_numbered_node self.old number }
-        ensures at { (n : ℕ) → node_at self.new n ≡ (if is_at (nat_cmp number) n then None else node_at self.old n) }
+        ensures at { (n : ℕ) → node_at self.new n
+            ≡ (if is_at (nat_cmp number) n then None else node_at self.old n) }
     {
         let gone = name_at(&self.map, number);
         self.names.forget(gone, None);
@@ -139,7 +141,8 @@ impl Nodes {
     /// The first node that is a name of the file, an alias after the others.
     pub(crate) fn name_of(&self, file: u32) -> Option<u32>
         requires { IsItemTable is_before item_of_node self.now }
-        ensures there { is_some result ≡ list_any (λ x. names_file file (node_kind x.1.kind x.1.file)) self.now }
+        ensures there { is_some result ≡ list_any
+            (λ x. names_file file (node_kind x.1.kind x.1.file)) self.now }
         ensures named { IfSome result (λ n. is_name_of file (node_at self.now n) ≡ true) }
     {
         self.names.first(file)
@@ -148,7 +151,8 @@ impl Nodes {
     /// The nodes that are names of the file.
     pub(crate) fn names_of(&self, alloc: Global, file: u32) -> Result<Vec<u32>, NoMemory>
         requires { IsItemTable is_before item_of_node self.now }
-        ensures { IfOk result (λ v. (n : ℕ) → list_any (λ m. m == n) v.items ≡ is_name_of file (node_at self.now n)) }
+        ensures { IfOk result (λ v. (n : ℕ)
+            → list_any (λ m. m == n) v.items ≡ is_name_of file (node_at self.now n)) }
     {
         let numbers = self.names.all(alloc, file)?;
         Ok(numbers)
@@ -181,15 +185,21 @@ impl Nodes {
 
     /// The nodes whose records these are.
     pub(crate) fn from_records(alloc: Global, records: &Records) -> Result<Option<Nodes>, NoMemory>
-        ensures found { IfOk result (λ read. IfSome read (λ t. IsItemTable is_before item_of_node t × (of_kinds is_key_of_node records.now ≡ map record_of_node t))) }
-        ensures only { IfOk result (λ read. (t : Items Numbered) → IsItemTable is_before item_of_node t → of_kinds is_key_of_node records.now ≡ map record_of_node t → read ≡ Some t) }
+        ensures found { IfOk result (λ read. IfSome read
+            (λ t. IsItemTable is_before item_of_node t
+            × (of_kinds is_key_of_node records.now ≡ map record_of_node t))) }
+        ensures only { IfOk result (λ read. (t : Items Numbered)
+            → IsItemTable is_before item_of_node t
+            → of_kinds is_key_of_node records.now ≡ map record_of_node t → read ≡ Some t) }
     {
         Nodes::read(alloc, records)
     }
 
     #[tactic(auto, using(asm_base::proofs::Tables::read_taken, asm_base::proofs::Tables::read_refused), unfolding(asm_base::specs::Records::read_from))]
     fn read(alloc: Global, records: &Records) -> Result<Option<Nodes>, NoMemory>
-        ensures { IfOk result (λ read. read ≡ read_from is_key_of_node (add_item is_before (entry_of_record node_of_item)) [] records.now) }
+        ensures { IfOk result (λ read. read
+            ≡ read_from is_key_of_node (add_item is_before (entry_of_record node_of_item)) []
+            records.now) }
     {
         let mut nodes = Nodes::new(alloc);
         for (key, value) in records.iter() {
@@ -204,7 +214,9 @@ impl Nodes {
     #[tactic(auto, using(crate::proofs::Rules::taken_step, crate::proofs::Rules::refused_value, crate::proofs::Rules::refused_order))]
     fn take_up(&mut self, alloc: Global, key: Key, value: &Value) -> Result<bool, NoMemory>
         requires { Ascend is_before self.old }
-        ensures step { IfOk result (λ taken. (if is_key_of_node key then add_item is_before (entry_of_record node_of_item) self.old (key, value.now) else Some self.old) ≡ (if taken then Some self.new else None)) }
+        ensures step { IfOk result (λ taken. (if is_key_of_node key
+            then add_item is_before (entry_of_record node_of_item) self.old (key, value.now)
+            else Some self.old) ≡ (if taken then Some self.new else None)) }
         ensures ascending { IfOk result (λ taken. OnTrue taken (Ascend is_before self.new)) }
     {
         if key.kind != record_kind::NODES {
@@ -309,7 +321,8 @@ fn first_from(map: &BTreeMap<u32, Node>, from: u32) -> Option<u32>
     ensures free { IfSome result (λ n. node_at map.now.entries n ≡ None) }
     ensures from { IfSome result (λ n. from ≤ n) }
     ensures small { IfSome result (λ n. n < 2 ^ 32) }
-    ensures least { IfSome result (λ n. (k : ℕ) → from ≤ k → k < n → IsTrue (is_some (node_at map.now.entries k))) }
+    ensures least { IfSome result (λ n. (k : ℕ) → from ≤ k → k < n
+        → IsTrue (is_some (node_at map.now.entries k))) }
 {
     let mut number = from;
     while map.get(&number).is_some() {

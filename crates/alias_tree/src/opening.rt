@@ -48,7 +48,8 @@ impl OpenTree {
     /// Takes the node of a number away, where it is there.
     #[tactic(auto, using(crate::proofs::OpenLaws::record_gone, crate::proofs::OpenLaws::removed_keeps_nodes))]
     pub fn remove_record(&mut self, number: u32)
-        ensures { (n : ℕ) → node_value_at self.new n ≡ (if is_at (nat_cmp number) n then None else node_value_at self.old n) }
+        ensures { (n : ℕ) → node_value_at self.new n
+            ≡ (if is_at (nat_cmp number) n then None else node_value_at self.old n) }
     {
         let _ = remove_node(&mut self.nodes, &mut self.places, number);
     }
@@ -59,7 +60,9 @@ impl OpenTree {
     pub fn put_record(&mut self, alloc: Global, key: Key, value: &Value) -> Result<bool, NoMemory>
         requires kind { key.kind ≡ nodes_kind }
         requires absent { node_at self.old key.a ≡ None }
-        ensures put { IfOk result (λ put. OnTrue put ((n : ℕ) → node_value_at self.new n ≡ (if is_at (nat_cmp key.a) n then Some value.now else node_value_at self.old n))) }
+        ensures put { IfOk result (λ put. OnTrue put
+            ((n : ℕ) → node_value_at self.new n
+            ≡ (if is_at (nat_cmp key.a) n then Some value.now else node_value_at self.old n))) }
         ensures refused { IfOk result (λ put. OnFalse put (Refuses self.old key value.now)) }
         ensures stays { IfOk result (λ put. OnFalse put (self.new ≡ self.old)) }
         ensures err { OnErr result (self.new ≡ self.old) }

@@ -108,7 +108,9 @@ impl Places {
     }
 
     pub(crate) fn put(&mut self, place: Place, number: u32) -> Result<(), NoMemory>
-        ensures ok { OnOk result ((q : Place) → number_at_place self.new q ≡ (if is_same_place place q then Some number else number_at_place self.old q)) }
+        ensures ok { OnOk result ((q : Place)
+            → number_at_place self.new q
+            ≡ (if is_same_place place q then Some number else number_at_place self.old q)) }
         ensures err { OnErr result (self.new ≡ self.old) }
     {
         let Ok(_) = self.map.insert(place, number) else {
@@ -118,7 +120,8 @@ impl Places {
     }
 
     pub(crate) fn remove(&mut self, place: Place)
-        ensures { (q : Place) → number_at_place self.new q ≡ (if is_same_place place q then None else number_at_place self.old q) }
+        ensures { (q : Place) → number_at_place self.new q
+            ≡ (if is_same_place place q then None else number_at_place self.old q) }
     {
         let _ = self.map.remove(&place);
     }

@@ -144,9 +144,11 @@ impl AliasTree {
     /// rule of the tree.
     pub fn from_records(alloc: Global, records: &Records) -> Result<Option<AliasTree>, NoMemory>
         // What is read is a tree with these records.
-        ensures found { IfOk result (λ read. IfSome read (λ t. IsNodeTable t × (of_kinds is_key_of_node records.now ≡ map record_of_node t))) }
+        ensures found { IfOk result (λ read. IfSome read
+            (λ t. IsNodeTable t × (of_kinds is_key_of_node records.now ≡ map record_of_node t))) }
         // A tree that has these records is read.
-        ensures only { IfOk result (λ read. (t : Items Numbered) → IsNodeTable t → of_kinds is_key_of_node records.now ≡ map record_of_node t → read ≡ Some t) }
+        ensures only { IfOk result (λ read. (t : Items Numbered) → IsNodeTable t
+            → of_kinds is_key_of_node records.now ≡ map record_of_node t → read ≡ Some t) }
     {
         let Some(nodes) = Nodes::from_records(alloc, records)? else {
             return Ok(None);
@@ -174,7 +176,8 @@ impl AliasTree {
     #[tactic(auto, using(crate::proofs::Under::under_is, crate::proofs::Under::under_once))]
     pub fn children(&self, alloc: Global, node: u32) -> Result<Vec<u32>, NoMemory>
         // They are just the nodes of this parent.
-        ensures each { IfOk result (λ v. (n : ℕ) → list_any (λ m. m == n) v.items ≡ is_under_parent self.now node n) }
+        ensures each { IfOk result (λ v. (n : ℕ)
+            → list_any (λ m. m == n) v.items ≡ is_under_parent self.now node n) }
         // None is given twice.
         ensures once { IfOk result (λ v. are_distinct v.items ≡ true) }
         ensures order { IfOk result (λ v. AreByName self.now v.items) }
@@ -186,7 +189,8 @@ impl AliasTree {
     /// The node at a path, which the root hasn't.
     pub fn node_of(&self, parts: &[Name]) -> Option<&Node>
         ensures node { option_copied result ≡ node_by self.now (folded_path parts.now) }
-        ensures entry { option_map entry_of_node (option_copied result) ≡ entry_at (tree_of self.now) parts.now }
+        ensures entry { option_map entry_of_node (option_copied result)
+            ≡ entry_at (tree_of self.now) parts.now }
     {
         match self.find_parts(parts) {
             Some(number) => self.nodes.get(number),
@@ -224,7 +228,8 @@ impl AliasTree {
 
     /// The first node that is a name of the file.
     pub fn name_of(&self, file: u32) -> Option<u32>
-        ensures there { is_some result ≡ list_any (λ x. names_file file (node_kind x.1.kind x.1.file)) self.now }
+        ensures there { is_some result ≡ list_any
+            (λ x. names_file file (node_kind x.1.kind x.1.file)) self.now }
         ensures named { IfSome result (λ n. is_name_of file (node_at self.now n) ≡ true) }
         ensures table { IsNodeTable self.now }
     {
@@ -234,7 +239,8 @@ impl AliasTree {
     /// The nodes that are names of the file. They may go.
     #[tactic(auto, using(crate::proofs::IndexLaws::nodes_of))]
     pub fn names_of(&self, alloc: Global, file: u32) -> Result<Vec<u32>, NoMemory>
-        ensures all { IfOk result (λ v. (n : ℕ) → list_any (λ m. m == n) v.items ≡ is_name_of file (node_at self.now n)) }
+        ensures all { IfOk result (λ v. (n : ℕ)
+            → list_any (λ m. m == n) v.items ≡ is_name_of file (node_at self.now n)) }
         ensures table { IfOk result (λ v. IsNodeTable (without_all self.now v.items)) }
     {
         let numbers = self.nodes.names_of(alloc, file)?;

@@ -221,7 +221,8 @@ fn resized_words(
 
 /// So many words: the first ones of others, and zeros behind them.
 fn kept_words(alloc: Global, old: &[u64], count: u32) -> Result<Vec<u64>, NoMemory>
-    ensures { IfOk result (λ words. words.items ≡ take count old.now ++ replicate (count - length old.now) 0) }
+    ensures { IfOk result (λ words. words.items
+        ≡ take count old.now ++ replicate (count - length old.now) 0) }
 {
     let kept = old.len().min(count as usize);
     let mut words = Vec::with_capacity(alloc, count as usize).map_err(no_memory)?;

@@ -181,7 +181,8 @@ pub fn put_name(to: &mut Writer, name: &Name, width: u8)
 /// Takes a text of a width, or None where the field is short, or isn't a spelling of one.
 #[tactic(auto, unfolding(crate::specs::Readings::text_reading))]
 pub fn take_text(alloc: Global, from: &mut Reader, width: u8) -> Result<Option<Text>, NoMemory>
-    ensures read { IfOk result (λ read. TakesValue from.old from.new read (text_reading width from.old)) }
+    ensures read { IfOk result (λ read. TakesValue from.old from.new read
+        (text_reading width from.old)) }
     ensures err { OnErr result (from.new ≡ from.old) }
 {
     let Some(text) = text_in(&from.bytes[from.at as usize..], width) else {
@@ -196,7 +197,8 @@ pub fn take_text(alloc: Global, from: &mut Reader, width: u8) -> Result<Option<T
 /// spelling of one.
 #[tactic(auto, unfolding(crate::specs::Readings::text_reading), using(crate::proofs::NameLaws::part_is_longer))]
 pub fn take_name(alloc: Global, from: &mut Reader, width: u8) -> Result<Option<Name>, NoMemory>
-    ensures read { IfOk result (λ read. TakesValue from.old from.new read (name_reading width from.old)) }
+    ensures read { IfOk result (λ read. TakesValue from.old from.new read
+        (name_reading width from.old)) }
     ensures err { OnErr result (from.new ≡ from.old) }
 {
     let Some(text) = text_in(&from.bytes[from.at as usize..], width) else {

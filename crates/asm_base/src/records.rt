@@ -152,7 +152,8 @@ impl Records {
         ensures ok { OnOk result (self.new ≡ with_record self.old key value) }
         ensures err { OnErr result (self.new ≡ self.old) }
         // Other keys keep their values. Only a new key can fail.
-        ensures updates { OnOk result ((k : FormatKey) → record_at self.new k ≡ (if is_key key k then Some value else record_at self.old k)) }
+        ensures updates { OnOk result ((k : FormatKey)
+            → record_at self.new k ≡ (if is_key key k then Some value else record_at self.old k)) }
         ensures absent { OnErr result (record_at self.old key ≡ None) }
     {
         match self.map.insert(key, value) {
@@ -163,7 +164,8 @@ impl Records {
 
     pub fn remove(&mut self, key: Key)
         ensures after { self.new ≡ without_record self.old key }
-        ensures updates { (k : FormatKey) → record_at self.new k ≡ (if is_key key k then None else record_at self.old k) }
+        ensures updates { (k : FormatKey) → record_at self.new k
+            ≡ (if is_key key k then None else record_at self.old k) }
     {
         let _ = self.map.remove(&key);
     }

@@ -109,7 +109,8 @@ pub fn try_exact<'a>(place: Place<'a>, key: &[u8]) -> (bool, Place<'a>)
 
 /// The word is the next.
 pub fn exact<'a>(place: Place<'a>, key: &[u8]) -> Result<Place<'a>, ReadError>
-    ensures { Passes result (one (Argument (Exact key.now)) place.entry.rest.now place.entry.left (fit (Argument (Exact key.now)) place.entry.rest.now)) }
+    ensures { Passes result (one (Argument (Exact key.now)) place.entry.rest.now place.entry.left
+        (fit (Argument (Exact key.now)) place.entry.rest.now)) }
 {
     let (found, place) = try_exact(place, key);
     if found {
@@ -121,7 +122,8 @@ pub fn exact<'a>(place: Place<'a>, key: &[u8]) -> Result<Place<'a>, ReadError>
 
 /// The next word, where it is of the kind.
 pub fn try_text<'a>(place: Place<'a>, kind: TextKind) -> (Option<&'a [u8]>, Place<'a>)
-    ensures { TriesFor (Argument (Text (text_kind_of kind))) place.entry (option_map (λ b. b.now) result.0) result.1 }
+    ensures { TriesFor (Argument (Text (text_kind_of kind))) place.entry
+        (option_map (λ b. b.now) result.0) result.1 }
 {
     let (_spaces, text) = split_run(Run::Spaces, place.rest);
     let (word, rest) = split_run(Run::Filled, text);
@@ -140,7 +142,9 @@ pub fn try_text<'a>(place: Place<'a>, kind: TextKind) -> (Option<&'a [u8]>, Plac
 
 /// The next word is of the kind.
 pub fn text<'a>(place: Place<'a>, kind: TextKind) -> Result<(&'a [u8], Place<'a>), ReadError>
-    ensures { Gives (λ b. b.now) result (one (Argument (Text (text_kind_of kind))) place.entry.rest.now place.entry.left (fit (Argument (Text (text_kind_of kind))) place.entry.rest.now)) }
+    ensures { Gives (λ b. b.now) result (one (Argument (Text (text_kind_of kind)))
+        place.entry.rest.now place.entry.left
+        (fit (Argument (Text (text_kind_of kind))) place.entry.rest.now)) }
 {
     match try_text(place, kind) {
         (Some(word), place) => Ok((word, place)),
@@ -181,7 +185,8 @@ fn judge_size(word: &[u8]) -> (Option<u64>, usize)
 
 /// The next word is a number.
 pub fn number_word<'a>(place: Place<'a>) -> Result<(u64, Place<'a>), ReadError>
-    ensures { Gives (λ n. n) result (one (Argument PlainNumber) place.entry.rest.now place.entry.left (fit (Argument PlainNumber) place.entry.rest.now)) }
+    ensures { Gives (λ n. n) result (one (Argument PlainNumber) place.entry.rest.now
+        place.entry.left (fit (Argument PlainNumber) place.entry.rest.now)) }
 {
     let (_spaces, text) = split_run(Run::Spaces, place.rest);
     let (word, rest) = split_run(Run::Filled, text);
@@ -202,7 +207,8 @@ pub fn number_word<'a>(place: Place<'a>) -> Result<(u64, Place<'a>), ReadError>
 
 /// The next word is a size, in bytes.
 pub fn size_word<'a>(place: Place<'a>) -> Result<(u64, Place<'a>), ReadError>
-    ensures { Gives (λ n. n) result (one (Argument Sized) place.entry.rest.now place.entry.left (fit (Argument Sized) place.entry.rest.now)) }
+    ensures { Gives (λ n. n) result (one (Argument Sized) place.entry.rest.now place.entry.left
+        (fit (Argument Sized) place.entry.rest.now)) }
 {
     let (_spaces, text) = split_run(Run::Spaces, place.rest);
     let (word, rest) = split_run(Run::Filled, text);
@@ -233,7 +239,9 @@ fn judge_hex(word: &[u8]) -> (bool, usize)
 /// The next word is an even number of hexadecimal digits, which it gives.
 pub fn hex_word<'a>(place: Place<'a>) -> Result<(&'a [u8], Place<'a>), ReadError>
     ensures digits { IfOk result (λ r. list_all is_hex r.0.now ≡ true) }
-    ensures gives { Gives (λ b. hex_bytes b.now) result (one (Argument HexBytes) place.entry.rest.now place.entry.left (fit (Argument HexBytes) place.entry.rest.now)) }
+    ensures gives { Gives (λ b. hex_bytes b.now) result
+        (one (Argument HexBytes) place.entry.rest.now place.entry.left
+        (fit (Argument HexBytes) place.entry.rest.now)) }
 {
     let (_spaces, text) = split_run(Run::Spaces, place.rest);
     let (word, rest) = split_run(Run::Filled, text);
@@ -281,7 +289,8 @@ fn judge_byte(word: &[u8]) -> (Option<u8>, usize)
 
 /// The next word is two hexadecimal digits: the byte that they stand for.
 pub fn byte_word<'a>(place: Place<'a>) -> Result<(u8, Place<'a>), ReadError>
-    ensures { Gives (λ n. n) result (one (Argument HexByte) place.entry.rest.now place.entry.left (fit (Argument HexByte) place.entry.rest.now)) }
+    ensures { Gives (λ n. n) result (one (Argument HexByte) place.entry.rest.now place.entry.left
+        (fit (Argument HexByte) place.entry.rest.now)) }
 {
     let (_spaces, text) = split_run(Run::Spaces, place.rest);
     let (word, rest) = split_run(Run::Filled, text);

@@ -140,7 +140,8 @@ pub fn number_prefix(text: &[u8]) -> (usize, u64)
 
 /// The number with one more digit, where the byte is a digit and it stays below 2 ^ 64.
 pub fn with_digit(number: u64, b: u8) -> Option<u64>
-    ensures { result ≡ (if is_digit_byte b && nat_lt (number * 10 + (b - 48)) (2 ^ 64) then Some (number * 10 + (b - 48)) else None) }
+    ensures { result ≡ (if is_digit_byte b && nat_lt (number * 10 + (b - 48)) (2 ^ 64)
+        then Some (number * 10 + (b - 48)) else None) }
 {
     if b < b'0' || b'9' < b {
         return None;
@@ -198,8 +199,10 @@ pub fn size_prefix(text: &[u8]) -> (usize, u64)
 /// The length and the size of digits and a letter, where the byte is one.
 fn behind_digits(len: usize, size: u64, b: u8) -> (usize, u64)
     requires { len + 1 < 2 ^ 64 }
-    ensures len { result.0 ≡ len + (if not (factor b == 0) && nat_lt (size * factor b) (2 ^ 64) then 1 else 0) }
-    ensures value { result.1 ≡ (if not (factor b == 0) && nat_lt (size * factor b) (2 ^ 64) then size * factor b else size) }
+    ensures len { result.0 ≡ len + (if not (factor b == 0) && nat_lt (size * factor b) (2 ^ 64)
+        then 1 else 0) }
+    ensures value { result.1 ≡ (if not (factor b == 0) && nat_lt (size * factor b) (2 ^ 64)
+        then size * factor b else size) }
 {
     match with_letter(size, b) {
         Some(sized) => (len + 1, sized),
@@ -220,7 +223,8 @@ fn minutes_in(b: u8) -> u64
 
 /// The number with one more digit, where the byte is a digit and so many minutes stay below 2 ^ 64 seconds.
 fn with_count(number: u64, b: u8) -> Option<u64>
-    ensures { result ≡ (if is_digit_byte b && nat_lt ((number * 10 + (b - 48)) * 60) (2 ^ 64) then Some (number * 10 + (b - 48)) else None) }
+    ensures { result ≡ (if is_digit_byte b && nat_lt ((number * 10 + (b - 48)) * 60) (2 ^ 64)
+        then Some (number * 10 + (b - 48)) else None) }
 {
     if b < b'0' || b'9' < b {
         return None;
@@ -247,7 +251,8 @@ pub fn count_prefix(text: &[u8]) -> (usize, u64)
 
 /// So many minutes or hours, by the letter, in minutes, where that is below 2 ^ 64 seconds.
 pub fn with_unit(count: u64, b: u8) -> Option<u64>
-    ensures { result ≡ (if not (minutes_in b == 0) && nat_lt (count * minutes_in b * 60) (2 ^ 64) then Some (count * minutes_in b) else None) }
+    ensures { result ≡ (if not (minutes_in b == 0) && nat_lt (count * minutes_in b * 60) (2 ^ 64)
+        then Some (count * minutes_in b) else None) }
 {
     let unit = minutes_in(b);
     if unit == 0 {

@@ -116,7 +116,8 @@ fn factor(b: u8) -> u64
 
 /// The size with a letter behind it, where the byte is one and the size stays below 2^64.
 pub fn with_letter(number: u64, b: u8) -> Option<u64>
-    ensures { result ≡ (if not (factor b == 0) && nat_lt (number * factor b) (2 ^ 64) then Some (number * factor b) else None) }
+    ensures { result ≡ (if not (factor b == 0) && nat_lt (number * factor b) (2 ^ 64)
+        then Some (number * factor b) else None) }
 {
     let factor = factor(b);
     if factor == 0 {
@@ -175,7 +176,8 @@ fn size_goes_on(number: u64, b: u8) -> Option<Stage>
 
 /// What a path goes on with.
 fn path_step(stage: Stage, b: u8) -> Option<Stage>
-    ensures { option_map stage_of result ≡ (if is_path_stage (stage_of stage) then step (stage_of stage) b else None) }
+    ensures { option_map stage_of result
+        ≡ (if is_path_stage (stage_of stage) then step (stage_of stage) b else None) }
 {
     match stage {
         Stage::PathStart(parts) if b == b'+' => Some(Stage::Plus(parts)),

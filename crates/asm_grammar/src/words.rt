@@ -80,7 +80,8 @@ pub fn try_key<'a>(place: Place<'a>, key: &[u8]) -> (bool, Place<'a>)
 
 /// The keyword is the next word.
 pub fn key<'a>(place: Place<'a>, key: &[u8]) -> Result<Place<'a>, ReadError>
-    ensures { Passes result (one (Keyword key.now) place.entry.rest.now place.entry.left (fit (Keyword key.now) place.entry.rest.now)) }
+    ensures { Passes result (one (Keyword key.now) place.entry.rest.now place.entry.left
+        (fit (Keyword key.now) place.entry.rest.now)) }
 {
     let (found, place) = try_key(place, key);
     if found {
@@ -110,7 +111,8 @@ pub fn try_mark<'a>(place: Place<'a>, mark: u8) -> (bool, Place<'a>)
 
 /// The mark is next.
 pub fn mark<'a>(place: Place<'a>, mark: u8) -> Result<Place<'a>, ReadError>
-    ensures { Passes result (one (Mark mark) place.entry.rest.now place.entry.left (fit (Mark mark) place.entry.rest.now)) }
+    ensures { Passes result (one (Mark mark) place.entry.rest.now place.entry.left
+        (fit (Mark mark) place.entry.rest.now)) }
 {
     let (found, place) = try_mark(place, mark);
     if found {
@@ -123,7 +125,8 @@ pub fn mark<'a>(place: Place<'a>, mark: u8) -> Result<Place<'a>, ReadError>
 /// The next word is a name.
 #[tactic(auto, using(crate::proofs::Consumes::run_and_rest))]
 pub fn name<'a>(place: Place<'a>) -> Result<(&'a [u8], Place<'a>), ReadError>
-    ensures { Gives (λ b. b.now) result (one Name place.entry.rest.now place.entry.left (fit Name place.entry.rest.now)) }
+    ensures { Gives (λ b. b.now) result (one Name place.entry.rest.now place.entry.left
+        (fit Name place.entry.rest.now)) }
 {
     let (_blanks, text) = split_run(Run::Blanks, place.rest);
     let (word, rest) = split_run(Run::Word, text);
@@ -149,7 +152,8 @@ pub fn name<'a>(place: Place<'a>) -> Result<(&'a [u8], Place<'a>), ReadError>
 /// The next word is a number.
 #[tactic(auto, using(crate::proofs::Consumes::run_and_rest, crate::proofs::Readers::number_read, crate::proofs::Readers::number_near_is))]
 pub fn number<'a>(place: Place<'a>) -> Result<(u64, Place<'a>), ReadError>
-    ensures { Gives (λ n. n) result (one Number place.entry.rest.now place.entry.left (fit Number place.entry.rest.now)) }
+    ensures { Gives (λ n. n) result (one Number place.entry.rest.now place.entry.left
+        (fit Number place.entry.rest.now)) }
 {
     let (_blanks, text) = split_run(Run::Blanks, place.rest);
     let (word, rest) = split_run(Run::Word, text);
@@ -186,7 +190,8 @@ fn judge_size(text: &[u8], word: &[u8]) -> (Option<u64>, usize)
 
 /// The next word is a size, in bytes.
 pub fn size<'a>(place: Place<'a>) -> Result<(u64, Place<'a>), ReadError>
-    ensures { Gives (λ n. n) result (one Size place.entry.rest.now place.entry.left (fit Size place.entry.rest.now)) }
+    ensures { Gives (λ n. n) result (one Size place.entry.rest.now place.entry.left
+        (fit Size place.entry.rest.now)) }
 {
     let (_blanks, text) = split_run(Run::Blanks, place.rest);
     let (word, rest) = split_run(Run::Word, text);
@@ -222,7 +227,8 @@ fn judge_unit(count: u64, text: &[u8]) -> (Option<(u64, &[u8])>, usize)
 
 /// The next is a number of minutes or hours, in minutes.
 pub fn minutes<'a>(place: Place<'a>) -> Result<(u64, Place<'a>), ReadError>
-    ensures { Gives (λ n. n) result (one Minutes place.entry.rest.now place.entry.left (fit Minutes place.entry.rest.now)) }
+    ensures { Gives (λ n. n) result (one Minutes place.entry.rest.now place.entry.left
+        (fit Minutes place.entry.rest.now)) }
 {
     let (_blanks, text) = split_run(Run::Blanks, place.rest);
     let (digits, after) = split_run(Run::Digits, text);
@@ -261,7 +267,8 @@ fn begins_quote(text: &[u8]) -> bool
 /// The next is a text in single quotes.
 #[tactic(auto, using(crate::proofs::Consumes::run_and_rest, crate::proofs::Readers::near_open))]
 pub fn quoted<'a>(place: Place<'a>) -> Result<(&'a [u8], Place<'a>), ReadError>
-    ensures { Gives (λ b. b.now) result (one Quoted place.entry.rest.now place.entry.left (fit Quoted place.entry.rest.now)) }
+    ensures { Gives (λ b. b.now) result (one Quoted place.entry.rest.now place.entry.left
+        (fit Quoted place.entry.rest.now)) }
 {
     let (_blanks, text) = split_run(Run::Blanks, place.rest);
     match split_quoted(text) {

@@ -51,7 +51,8 @@ pub fn generate<B: Bay, H: Host, K: Sink, C: Clock>(
 
 /// The script made from a number over images.
 fn script_of(alloc: Global, number: u64, images: &[String]) -> Result<GeneratedScript, NoMemory>
-    ensures { IfOk result (λ script. left_in script ≡ generated_script number (map string_bytes images.now)) }
+    ensures { IfOk result (λ script. left_in script
+        ≡ generated_script number (map string_bytes images.now)) }
 {
     let paths = texts_of(alloc, images)?;
     GeneratedScript::new(alloc, number, &paths)

@@ -36,10 +36,12 @@ pub fn run<B: Bay, H: Host, S: Source, K: Sink, C: Clock>(
     ensures generated { (number : ℕ) → number_given (map string_bytes words.now) ≡ Some number → (w : World) → IsFirstWorld w
         → GeneratedRun C.gives number (images_in (map string_bytes words.now)) result.status result.marks.items
         (K.taken sink) (K.taken result.sink) clock result.clock (B.state bay) (B.state result.bay) w }
-    ensures unread { (number : ℕ) → number_given (map string_bytes words.now) ≡ Some number → source.new ≡ source.old }
+    ensures unread { (number : ℕ) → number_given (map string_bytes words.now) ≡ Some number
+        → source.new ≡ source.old }
     ensures replies { result.replies ≡ length result.marks.items }
     ensures status { result.status ≤ 6 }
-    ensures usage { result.status ≡ 2 → (generate : Option ℕ) (images : List WordBytes) → IsRead (map string_bytes words.now) generate images → ⊥ }
+    ensures usage { result.status ≡ 2 → (generate : Option ℕ) (images : List WordBytes)
+        → IsRead (map string_bytes words.now) generate images → ⊥ }
     ensures named { result.status ≢ 2 → result.status ≢ 5
         → IsRead (map string_bytes words.now) (number_given (map string_bytes words.now)) (images_in (map string_bytes words.now)) }
     ensures read_fault { result.status ≡ 3 → Rose (S.faults source.old) (S.faults source.new) }

@@ -27,7 +27,8 @@ pub fn ended<B: Bay, H: Host, K: Sink, C: Clock>(
     ensures status { result.status ≡ status_number outcome program.refused }
     ensures replies { result.replies ≡ length result.marks.items }
     ensures marks { result.marks.items ≡ program.marks.items }
-    ensures outside { (result.bay ≡ program.desk.bay) × (result.sink ≡ program.sink) × (result.clock ≡ program.clock) }
+    ensures outside { (result.bay ≡ program.desk.bay) × (result.sink ≡ program.sink)
+        × (result.clock ≡ program.clock) }
     ensures host { result.host ≡ program.desk.host }
 {
     let Program {

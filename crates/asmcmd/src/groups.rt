@@ -17,7 +17,8 @@ pub fn report_verb<'a>(
     alloc: Global,
     place: Place<'a>,
 ) -> Result<(Option<Verb>, Place<'a>), ReadError>
-    ensures { Gives (λ v. option_map meant_verb v) result (may_read reports of_reports place.entry) }
+    ensures { Gives (λ v. option_map meant_verb v) result
+        (may_read reports of_reports place.entry) }
 {
     let (groups, place) = try_exact(place, b"lsdg");
     if groups {

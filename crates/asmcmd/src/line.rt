@@ -70,14 +70,16 @@ fn verb<'a>(alloc: Global, place: Place<'a>) -> Result<(Verb, Place<'a>), Unread
 
 /// The verb, where the line ends behind it.
 fn with_end<'a>(verb: Verb, place: Place<'a>) -> Result<(Verb, Place<'a>), Unread>
-    ensures { Gives meant_verb result (mapped (λ u. meant_verb verb) (close End place.entry.rest.now place.entry.left)) }
+    ensures { Gives meant_verb result (mapped (λ u. meant_verb verb)
+        (close End place.entry.rest.now place.entry.left)) }
 {
     let place = line_end(place)?;
     Ok((verb, place))
 }
 
 fn whole_verb<'a>(alloc: Global, place: Place<'a>) -> Result<(Verb, Place<'a>), Unread>
-    ensures { Gives meant_verb result (mapped verb_of (ended_by_word End (parse g.verb place.entry.rest.now place.entry.left))) }
+    ensures { Gives meant_verb result (mapped verb_of
+        (ended_by_word End (parse g.verb place.entry.rest.now place.entry.left))) }
 {
     match verb(alloc, place) {
         Ok((verb, place)) => with_end(verb, place),
@@ -115,7 +117,8 @@ fn read_whole(alloc: Global, text: &[u8]) -> Result<Verb, ReadError>
 pub fn read_line(alloc: Global, text: &[u8]) -> Result<Verb, ReadError>
     ensures reads { IsVerbRead result text.now }
     ensures exact { IsExact result text.now }
-    ensures command { opens_statement text.now ≡ false → begins_blank text.now ≡ false → IsCommand result text.now }
+    ensures command { opens_statement text.now ≡ false → begins_blank text.now ≡ false
+        → IsCommand result text.now }
 {
     read_whole(alloc, text)
 }

@@ -41,7 +41,8 @@ fn copy_from<'a>(
     source: Text,
     place: Place<'a>,
 ) -> Result<(Verb, Place<'a>), ReadError>
-    ensures { Gives meant_verb result (reads target (λ v. CopyFile source (target_of v)) place.entry) }
+    ensures { Gives meant_verb result (reads target (λ v. CopyFile source (target_of v))
+        place.entry) }
 {
     let (target, place) = any_target(alloc, place)?;
     Ok((Verb::Copy { source, target }, place))
@@ -81,7 +82,8 @@ fn later_name_verb<'a>(
     alloc: Global,
     place: Place<'a>,
 ) -> Result<(Option<Verb>, Place<'a>), ReadError>
-    ensures { Gives (λ v. option_map meant_verb v) result (may_read later_names later_names_of place.entry) }
+    ensures { Gives (λ v. option_map meant_verb v) result
+        (may_read later_names later_names_of place.entry) }
 {
     let (copies, place) = try_exact(place, b"cp");
     if copies {

@@ -10,7 +10,8 @@ use std::alloc::Global;
 
 /// The text with the parts of a path behind it, each after a slash.
 fn with_parts(mut text: Vec<u8>, parts: &[Name]) -> Result<Vec<u8>, NoMemory>
-    ensures { IfOk result (λ longer. longer.items ≡ text.items ++ flat_map (λ part. 47 ∷ part) parts.now) }
+    ensures { IfOk result (λ longer. longer.items
+        ≡ text.items ++ flat_map (λ part. 47 ∷ part) parts.now) }
 {
     for part in parts {
         text = with_bytes(with_byte(text, b'/')?, part.as_bytes())?;
@@ -20,7 +21,8 @@ fn with_parts(mut text: Vec<u8>, parts: &[Name]) -> Result<Vec<u8>, NoMemory>
 
 /// The text with that of a path behind it.
 fn with_path(text: Vec<u8>, group: &Name, parts: &[Name]) -> Result<Vec<u8>, NoMemory>
-    ensures { IfOk result (λ longer. longer.items ≡ text.items ++ path_text_in_group group.now parts.now) }
+    ensures { IfOk result (λ longer. longer.items
+        ≡ text.items ++ path_text_in_group group.now parts.now) }
 {
     let text = with_bytes(with_byte(text, b'+')?, group.as_bytes())?;
     with_parts(text, parts)

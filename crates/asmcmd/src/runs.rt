@@ -138,7 +138,8 @@ impl Runs {
 
     /// Puts the line of the last run behind the others, where it has bytes. Another byte comes next.
     fn end_run(&mut self) -> Result<(), NoMemory>
-        ensures lines { OnOk result ((more : Bytes) → equal_front self.old.byte more ≡ 0 → lines_with self.new more ≡ lines_with self.old more) }
+        ensures lines { OnOk result ((more : Bytes) → equal_front self.old.byte more ≡ 0
+            → lines_with self.new more ≡ lines_with self.old more) }
         ensures end { self.new.end ≡ self.old.end }
         ensures at { OnOk result (self.new.at ≡ self.old.end) }
     {
@@ -155,7 +156,8 @@ impl Runs {
     fn put_run(&mut self, byte: u8, len: u64) -> Result<(), NoMemory>
         requires some { 0 < len }
         requires room { self.old.end + len < 2 ^ 64 }
-        ensures lines { OnOk result ((more : Bytes) → lines_with self.new more ≡ lines_with self.old (replicate len byte ++ more)) }
+        ensures lines { OnOk result ((more : Bytes)
+            → lines_with self.new more ≡ lines_with self.old (replicate len byte ++ more)) }
         ensures end { OnOk result (self.new.end ≡ self.old.end + len) }
     {
         if byte == self.byte {
@@ -171,7 +173,8 @@ impl Runs {
     /// Puts bytes behind the others. All offsets are numbers of 64 bits.
     pub fn put(&mut self, bytes: &[u8]) -> Result<(), NoMemory>
         requires room { self.old.end + length bytes.now < 2 ^ 64 }
-        ensures holds { OnOk result ((at : ℕ) (before : Bytes) → HoldsRun self.old at before → HoldsRun self.new at (before ++ bytes.now)) }
+        ensures holds { OnOk result ((at : ℕ) (before : Bytes) → HoldsRun self.old at before
+            → HoldsRun self.new at (before ++ bytes.now)) }
         ensures end { OnOk result (self.new.end ≡ self.old.end + length bytes.now) }
     {
         let mut rest = bytes;
@@ -184,7 +187,8 @@ impl Runs {
 
     /// The lines of all runs: where each begins, how many bytes it has, and its byte in hexadecimal digits.
     pub fn into_lines(mut self) -> Result<List<Text>, NoMemory>
-        ensures { IfOk result (λ lines. (at : ℕ) (bytes : Bytes) → HoldsRun self at bytes → lines ≡ read_lines at bytes) }
+        ensures { IfOk result (λ lines. (at : ℕ) (bytes : Bytes) → HoldsRun self at bytes
+            → lines ≡ read_lines at bytes) }
     {
         self.end_run()?;
         Ok(self.lines)

@@ -52,7 +52,8 @@ fn with_next(text: Vec<u8>, field: Field<'_>) -> Result<Vec<u8>, NoMemory>
 }
 
 fn with_others(mut text: Vec<u8>, others: &[Field<'_>]) -> Result<Vec<u8>, NoMemory>
-    ensures { IfOk result (λ longer. longer.items ≡ text.items ++ flat_map (λ field. 32 ∷ text_of_field field) others.now) }
+    ensures { IfOk result (λ longer. longer.items
+        ≡ text.items ++ flat_map (λ field. 32 ∷ text_of_field field) others.now) }
 {
     for field in others {
         text = with_next(text, *field)?;
@@ -62,7 +63,8 @@ fn with_others(mut text: Vec<u8>, others: &[Field<'_>]) -> Result<Vec<u8>, NoMem
 
 /// The text with words behind it, with one space between.
 fn with_words(text: Vec<u8>, first: Field<'_>, others: &[Field<'_>]) -> Result<Vec<u8>, NoMemory>
-    ensures { IfOk result (λ longer. longer.items ≡ text.items ++ spaced (text_of_field first.entry ∷ map text_of_field others.now)) }
+    ensures { IfOk result (λ longer. longer.items
+        ≡ text.items ++ spaced (text_of_field first.entry ∷ map text_of_field others.now)) }
 {
     let text = with_field(text, first)?;
     with_others(text, others)
@@ -70,7 +72,8 @@ fn with_words(text: Vec<u8>, first: Field<'_>, others: &[Field<'_>]) -> Result<V
 
 /// The line of these words, with one space between.
 pub fn line_of(alloc: Global, first: Field<'_>, others: &[Field<'_>]) -> Result<Text, NoMemory>
-    ensures { IfOk result (λ line. line ≡ spaced (text_of_field first.entry ∷ map text_of_field others.now)) }
+    ensures { IfOk result (λ line. line ≡ spaced
+        (text_of_field first.entry ∷ map text_of_field others.now)) }
 {
     let line = with_words(Vec::new(alloc), first, others)?;
     Ok(List::from_vec(line))

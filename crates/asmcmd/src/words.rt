@@ -33,7 +33,9 @@ pub fn text_word<'a>(
     place: Place<'a>,
     kind: TextKind,
 ) -> Result<(Text, Place<'a>), ReadError>
-    ensures { Gives (λ t. t) result (one (Argument (OfKind (text_kind_of kind))) place.entry.rest.now place.entry.left (fit (Argument (OfKind (text_kind_of kind))) place.entry.rest.now)) }
+    ensures { Gives (λ t. t) result (one (Argument (OfKind (text_kind_of kind)))
+        place.entry.rest.now place.entry.left
+        (fit (Argument (OfKind (text_kind_of kind))) place.entry.rest.now)) }
 {
     let (word, place) = text(place, kind)?;
     let word = owned(alloc, word)?;
@@ -46,7 +48,8 @@ pub fn maybe_text<'a>(
     place: Place<'a>,
     kind: TextKind,
 ) -> Result<(Option<Text>, Place<'a>), ReadError>
-    ensures { Gives (λ t. t) result (may_read (argument (OfKind (text_kind_of kind))) (λ t. t) place.entry) }
+    ensures { Gives (λ t. t) result (may_read (argument (OfKind (text_kind_of kind))) (λ t. t)
+        place.entry) }
 {
     let (word, place) = try_text(place, kind);
     let Some(word) = word else {
@@ -70,7 +73,8 @@ fn owned_name(alloc: Global, word: &[u8]) -> Result<Name, ReadError>
 
 /// The next word is a name.
 pub fn name_word<'a>(alloc: Global, place: Place<'a>) -> Result<(Name, Place<'a>), ReadError>
-    ensures { Gives (λ n. n) result (one (Argument (OfKind PlainName)) place.entry.rest.now place.entry.left (fit (Argument (OfKind PlainName)) place.entry.rest.now)) }
+    ensures { Gives (λ n. n) result (one (Argument (OfKind PlainName)) place.entry.rest.now
+        place.entry.left (fit (Argument (OfKind PlainName)) place.entry.rest.now)) }
 {
     let (word, place) = text(place, TextKind::Named)?;
     let name = owned_name(alloc, word)?;
@@ -109,7 +113,8 @@ fn bytes_of(alloc: Global, digits: &[u8]) -> Result<Text, ReadError>
 
 /// The next word is an even number of hexadecimal digits: the bytes that they stand for.
 pub fn bytes_word<'a>(alloc: Global, place: Place<'a>) -> Result<(Text, Place<'a>), ReadError>
-    ensures { Gives (λ t. t) result (one (Argument HexBytes) place.entry.rest.now place.entry.left (fit (Argument HexBytes) place.entry.rest.now)) }
+    ensures { Gives (λ t. t) result (one (Argument HexBytes) place.entry.rest.now place.entry.left
+        (fit (Argument HexBytes) place.entry.rest.now)) }
 {
     let (digits, place) = hex_word(place)?;
     let bytes = bytes_of(alloc, digits)?;
@@ -120,7 +125,8 @@ pub fn bytes_word<'a>(alloc: Global, place: Place<'a>) -> Result<(Text, Place<'a
 pub fn present<'a>(
     read: Result<(Verb, Place<'a>), ReadError>,
 ) -> Result<(Option<Verb>, Place<'a>), ReadError>
-    ensures { (o : Outcome c.Verb) → Gives meant_verb read.entry o → Gives (λ v. option_map meant_verb v) result (mapped (λ v. Some v) o) }
+    ensures { (o : Outcome c.Verb) → Gives meant_verb read.entry o
+        → Gives (λ v. option_map meant_verb v) result (mapped (λ v. Some v) o) }
 {
     match read {
         Ok((verb, place)) => Ok((Some(verb), place)),

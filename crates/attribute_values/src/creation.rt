@@ -42,7 +42,9 @@ impl Creation {
         value: &[u8],
     ) -> Result<Option<Creation>, NoMemory>
         requires { IsNewCreation self.now }
-        ensures given { IfOk result (λ new. option_map creation_meant new ≡ with_creation_attribute (creation_meant self.now) (record { name = name.now; value = value.now })) }
+        ensures given { IfOk result (λ new. option_map creation_meant new
+            ≡ with_creation_attribute (creation_meant self.now)
+            (record { name = name.now; value = value.now })) }
         ensures new { IfOk result AreNew }
     {
         if is_same(name, b"au_size") {
@@ -71,7 +73,8 @@ impl Creation {
     /// With another shape, where there is one.
     fn with_shape(&self, shape: Option<Shape>) -> Result<Option<Creation>, NoMemory>
         requires { IsNewCreation self.now }
-        ensures given { IfOk result (λ new. option_map creation_meant new ≡ option_map (λ s. record (creation_meant self.now) { shape = s }) shape) }
+        ensures given { IfOk result (λ new. option_map creation_meant new
+            ≡ option_map (λ s. record (creation_meant self.now) { shape = s }) shape) }
         ensures new { IfOk result AreNew }
     {
         let Some(shape) = shape else {
@@ -91,7 +94,10 @@ impl Creation {
         value: &[u8],
     ) -> Result<Option<Creation>, NoMemory>
         requires { IsNewCreation self.now }
-        ensures given { IfOk result (λ new. option_map creation_meant new ≡ option_map (λ a. record (creation_meant self.now) { attributes = a }) (with_attribute self.now.settings.attributes (record { name = name.now; value = value.now }))) }
+        ensures given { IfOk result (λ new. option_map creation_meant new
+            ≡ option_map (λ a. record (creation_meant self.now) { attributes = a })
+            (with_attribute self.now.settings.attributes
+            (record { name = name.now; value = value.now }))) }
         ensures new { IfOk result AreNew }
     {
         let Some(settings) = with_attribute(alloc, &self.settings, name, value)? else {
@@ -132,7 +138,8 @@ fn with_unit(shape: &Shape, size: Option<u64>) -> Option<Shape>
 }
 
 fn with_sector(shape: &Shape, size: Option<u64>) -> Option<Shape>
-    ensures { result ≡ shape_if (λ n. n == 512 || n == 4096) (λ n. record shape.now { sector = n }) size }
+    ensures { result ≡ shape_if (λ n. n == 512 || n == 4096) (λ n. record shape.now { sector = n })
+        size }
 {
     match size {
         Some(sector) if sector == 512 || sector == 4096 => Some(Shape {

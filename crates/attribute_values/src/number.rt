@@ -28,7 +28,8 @@ pub(crate) fn number_of(digits: &[u8]) -> Option<u64>
 
 /// The number with one more digit, where the byte is a digit and it stays below 2^64.
 fn with_digit(number: u64, b: u8) -> Option<u64>
-    ensures { result ≡ (if is_digit_byte b && nat_lt (number * 10 + (b - 48)) (2 ^ 64) then Some (number * 10 + (b - 48)) else None) }
+    ensures { result ≡ (if is_digit_byte b && nat_lt (number * 10 + (b - 48)) (2 ^ 64)
+        then Some (number * 10 + (b - 48)) else None) }
 {
     if !is_digit(b) {
         return None;
@@ -60,7 +61,8 @@ fn size_behind(number: u64, rest: &[u8]) -> Option<u64>
 }
 
 fn with_letter(number: u64, b: u8) -> Option<u64>
-    ensures { result ≡ (if not (factor b == 0) && nat_lt (number * factor b) (2 ^ 64) then Some (number * factor b) else None) }
+    ensures { result ≡ (if not (factor b == 0) && nat_lt (number * factor b) (2 ^ 64)
+        then Some (number * factor b) else None) }
 {
     match factor(b) {
         0 => None,

@@ -46,7 +46,8 @@ fn whole_number(digits: &[u8]) -> Option<u64>
 /// The number with one more digit, and 100,001 where it is greater. None where the byte is no digit.
 fn with_digit(number: u64, b: u8) -> Option<u64>
     requires { number ≤ 100001 }
-    ensures { result ≡ (if is_digit_byte b then Some (min 100001 (number * 10 + (b - 48))) else None) }
+    ensures { result ≡ (if is_digit_byte b then Some (min 100001 (number * 10 + (b - 48)))
+        else None) }
 {
     if !is_digit(b) {
         return None;

@@ -59,7 +59,9 @@ pub(crate) fn is_same(name: &[u8], other: &[u8]) -> bool
 
 fn with_repair(settings: &Settings, value: &[u8]) -> Result<Option<Settings>, NoMemory>
     requires { is_item (settings_item settings.now) ≡ true }
-    ensures edited { IfOk result (λ new. new ≡ option_map (λ n. record settings.now { attributes = record settings.now.attributes { repair = n } }) (repair_seconds value.now)) }
+    ensures edited { IfOk result (λ new. new ≡ option_map
+        (λ n. record settings.now { attributes = record settings.now.attributes { repair = n } })
+        (repair_seconds value.now)) }
     ensures allowed { IfOk result (λ new. IfSome new (λ s. is_item (settings_item s) ≡ true)) }
 {
     let Some(repair) = repair_seconds(value) else {
@@ -76,7 +78,9 @@ fn with_repair(settings: &Settings, value: &[u8]) -> Result<Option<Settings>, No
 
 fn with_asm(alloc: Global, settings: &Settings, value: &[u8]) -> Result<Option<Settings>, NoMemory>
     requires { is_item (settings_item settings.now) ≡ true }
-    ensures edited { IfOk result (λ new. new ≡ option_map (λ v. record settings.now { attributes = record settings.now.attributes { asm = v } }) (when (is_version value.now) value.now)) }
+    ensures edited { IfOk result (λ new. new ≡ option_map
+        (λ v. record settings.now { attributes = record settings.now.attributes { asm = v } })
+        (when (is_version value.now) value.now)) }
     ensures allowed { IfOk result (λ new. IfSome new (λ s. is_item (settings_item s) ≡ true)) }
 {
     if !is_version(value) {
@@ -97,7 +101,9 @@ fn with_rdbms(
     value: &[u8],
 ) -> Result<Option<Settings>, NoMemory>
     requires { is_item (settings_item settings.now) ≡ true }
-    ensures edited { IfOk result (λ new. new ≡ option_map (λ v. record settings.now { attributes = record settings.now.attributes { rdbms = v } }) (when (is_version value.now) value.now)) }
+    ensures edited { IfOk result (λ new. new ≡ option_map
+        (λ v. record settings.now { attributes = record settings.now.attributes { rdbms = v } })
+        (when (is_version value.now) value.now)) }
     ensures allowed { IfOk result (λ new. IfSome new (λ s. is_item (settings_item s) ≡ true)) }
 {
     if !is_version(value) {
@@ -114,7 +120,9 @@ fn with_rdbms(
 
 fn with_advm(alloc: Global, settings: &Settings, value: &[u8]) -> Result<Option<Settings>, NoMemory>
     requires { is_item (settings_item settings.now) ≡ true }
-    ensures edited { IfOk result (λ new. new ≡ option_map (λ v. record settings.now { attributes = record settings.now.attributes { advm = v } }) (when (is_version value.now) value.now)) }
+    ensures edited { IfOk result (λ new. new ≡ option_map
+        (λ v. record settings.now { attributes = record settings.now.attributes { advm = v } })
+        (when (is_version value.now) value.now)) }
     ensures allowed { IfOk result (λ new. IfSome new (λ s. is_item (settings_item s) ≡ true)) }
 {
     if !is_version(value) {

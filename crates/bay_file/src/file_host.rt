@@ -37,9 +37,13 @@ impl FileHost {
     // for the count it is NoMemory too.
     fn passed<T: Drop>(&mut self, answer: io::Result<T>, path: &str) -> Result<T, HostError>
         ensures ok { IfOk answer (λ value. result ≡ Ok value) }
-        ensures counts { CountsAt path.now (faults_of_path self.old.faults) (faults_of_path self.new.faults) }
-        ensures err { IfErr answer (λ error. IsFaultTold error path.now result (faults_of_path self.old.faults) (faults_of_path self.new.faults)) }
-        ensures cause { IsErrOf result HostError.Fault → Rose (faults_of_path self.old.faults path.now) (faults_of_path self.new.faults path.now) }
+        ensures counts { CountsAt path.now (faults_of_path self.old.faults)
+            (faults_of_path self.new.faults) }
+        ensures err { IfErr answer (λ error. IsFaultTold error path.now result
+            (faults_of_path self.old.faults) (faults_of_path self.new.faults)) }
+        ensures cause { IsErrOf result HostError.Fault
+            → Rose (faults_of_path self.old.faults path.now)
+            (faults_of_path self.new.faults path.now) }
     {
         match answer {
             Ok(value) => Ok(value),

@@ -60,7 +60,8 @@ impl Slot {
 
     pub fn write(&mut self, at: u64, bytes: &[u8]) -> Result<(), Fault>
         requires { IsSome (size_in self.old) }
-        ensures call { IsServed result (sends (length bytes.now)) (slot_state self.old) (slot_state self.new) }
+        ensures call { IsServed result (sends (length bytes.now)) (slot_state self.old)
+            (slot_state self.new) }
     {
         self.written = self.written.saturating_add(bytes.len() as u64);
         let answer = self.image.as_mut().unwrap().write(at, bytes);

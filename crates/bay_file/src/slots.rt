@@ -95,7 +95,8 @@ pub fn read_in(slots: &mut SlotMap, slot: u32, at: u64, buf: &mut [u8]) -> Resul
 
 pub fn write_in(slots: &mut SlotMap, slot: u32, at: u64, bytes: &[u8]) -> Result<(), Fault>
     requires { IsSome (attached_in slots.old slot) }
-    ensures call { IsServed result (sends (length bytes.now)) (state_in slots.old slot) (state_in slots.new slot) }
+    ensures call { IsServed result (sends (length bytes.now)) (state_in slots.old slot)
+        (state_in slots.new slot) }
     ensures others { OtherSlotsStay slot slots.old slots.new }
 {
     slots.get_mut(&slot).unwrap().write(at, bytes)

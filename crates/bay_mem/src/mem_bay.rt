@@ -42,7 +42,8 @@ impl MemBay {
     /// call is to fail.
     pub fn new(alloc: Global, sizes: &[Option<u64>]) -> Result<Self, NoMemory>
         ensures begins { IfOk result (λ bay. IsNewBay sizes.now (state_of bay)) }
-        ensures slots { IfOk result (λ bay. (s : ℕ) → is_absent (plan_of bay) s ≡ not (nat_lt s (length sizes.now))) }
+        ensures slots { IfOk result (λ bay. (s : ℕ)
+            → is_absent (plan_of bay) s ≡ not (nat_lt s (length sizes.now))) }
         ensures unlisted { IfOk result (λ bay. (n : ℕ) → is_listed (plan_of bay) n ≡ false) }
         ensures runs_on { IfOk result (λ bay. (n : ℕ) → is_past_stop (plan_of bay) n ≡ false) }
     {
@@ -62,9 +63,12 @@ impl MemBay {
     pub fn fail_at(&mut self, call: u64) -> Result<(), NoMemory>
         ensures quiet { IsQuiet (state_of self.old) (state_of self.new) }
         ensures attached { KeepsAttached (state_of self.old) (state_of self.new) }
-        ensures listed { OnOk result ((n : ℕ) → is_listed (plan_of self.new) n ≡ (is_listed (plan_of self.old) n || call == n)) }
-        ensures unlisted { OnErr result ((n : ℕ) → is_listed (plan_of self.new) n ≡ is_listed (plan_of self.old) n) }
-        ensures stop { (n : ℕ) → is_past_stop (plan_of self.new) n ≡ is_past_stop (plan_of self.old) n }
+        ensures listed { OnOk result ((n : ℕ) → is_listed (plan_of self.new) n
+            ≡ (is_listed (plan_of self.old) n || call == n)) }
+        ensures unlisted { OnErr result ((n : ℕ) → is_listed (plan_of self.new) n
+            ≡ is_listed (plan_of self.old) n) }
+        ensures stop { (n : ℕ) → is_past_stop (plan_of self.new) n
+            ≡ is_past_stop (plan_of self.old) n }
         ensures absent { (s : ℕ) → is_absent (plan_of self.new) s ≡ is_absent (plan_of self.old) s }
     {
         Ok(self.plan.fails.push(call)?)
@@ -85,10 +89,13 @@ impl MemBay {
     pub fn set_absent(&mut self, slot: u32, absent: bool)
         ensures quiet { IsQuiet (state_of self.old) (state_of self.new) }
         ensures attached { KeepsAttached (state_of self.old) (state_of self.new) }
-        ensures here { is_absent (plan_of self.new) slot ≡ (absent || not (is_slot (plan_of self.old) slot)) }
-        ensures others { (s : ℕ) → s ≢ slot → is_absent (plan_of self.new) s ≡ is_absent (plan_of self.old) s }
+        ensures here { is_absent (plan_of self.new) slot
+            ≡ (absent || not (is_slot (plan_of self.old) slot)) }
+        ensures others { (s : ℕ) → s ≢ slot → is_absent (plan_of self.new) s
+            ≡ is_absent (plan_of self.old) s }
         ensures listed { (n : ℕ) → is_listed (plan_of self.new) n ≡ is_listed (plan_of self.old) n }
-        ensures stop { (n : ℕ) → is_past_stop (plan_of self.new) n ≡ is_past_stop (plan_of self.old) n }
+        ensures stop { (n : ℕ) → is_past_stop (plan_of self.new) n
+            ≡ is_past_stop (plan_of self.old) n }
     {
         self.plan.set_absent(slot as usize, absent);
     }
@@ -107,8 +114,10 @@ impl MemBay {
 
     /// Fills a buffer with what the disk of a slot holds from a place on. It is no call of the bay.
     pub fn image(&self, slot: u32, at: u64, buf: &mut [u8])
-        requires inside { ForSome (state_of self.now).holds (λ image. at + length buf.old ≤ image.size slot) }
-        ensures bytes { ForSome (state_of self.now).holds (λ image. buf.new ≡ window (image.byte slot) at (length buf.old)) }
+        requires inside { ForSome (state_of self.now).holds
+            (λ image. at + length buf.old ≤ image.size slot) }
+        ensures bytes { ForSome (state_of self.now).holds
+            (λ image. buf.new ≡ window (image.byte slot) at (length buf.old)) }
     {
         let slot = slot as usize;
         if slot < self.disks.len() {
@@ -124,7 +133,8 @@ impl MemBay {
     fn begin(&mut self, slot: usize) -> bool
         ensures begins { BeginsCall self.old self.new }
         ensures runs { Runs (IsSlot slot) Same (state_of self.old) (state_of self.new) }
-        ensures cause { result ≡ false → Rose ((state_of self.old).faults slot) ((state_of self.new).faults slot) }
+        ensures cause { result ≡ false → Rose ((state_of self.old).faults slot)
+            ((state_of self.new).faults slot) }
         ensures named { result ≡ not (fails_now self.old slot) }
     {
         self.calls = self.calls.saturating_add(1);
@@ -140,8 +150,10 @@ impl MemBay {
         requires inside { at + length bytes.now ≤ (image_of self.old.disks.items).size slot }
         requires there { slot < vec_len self.old.disks }
         ensures attached { KeepsAttached (state_of self.old) (state_of self.new) }
-        ensures runs { Runs (IsSlot slot) (ChangesOnly (Range slot at (length bytes.now))) (state_of self.old) (state_of self.new) }
-        ensures held { OnOk result (Holds (Puts slot at bytes.now) (state_of self.old) (state_of self.new)) }
+        ensures runs { Runs (IsSlot slot) (ChangesOnly (Range slot at (length bytes.now)))
+            (state_of self.old) (state_of self.new) }
+        ensures held { OnOk result (Holds (Puts slot at bytes.now) (state_of self.old)
+            (state_of self.new)) }
         ensures counts { KeepsCounts self.old self.new }
     {
         let old = old_bytes(self.alloc, &self.disks, slot, at, bytes.len())?;
@@ -170,7 +182,8 @@ impl MemBay {
         ensures attached { OnOk result (attached_at self.new.disks.items slot ≡ Some size) }
         ensures others { AttachesOnly slot (state_of self.old) (state_of self.new) }
         ensures runs { Runs (IsSlot slot) (MayMake slot) (state_of self.old) (state_of self.new) }
-        ensures done { OnOk result (Ends (Makes slot size) (state_of self.old) (state_of self.new)) }
+        ensures done { OnOk result (Ends (Makes slot size) (state_of self.old)
+            (state_of self.new)) }
         ensures counts { KeepsCounts self.old self.new }
     {
         make_disk(
@@ -197,7 +210,8 @@ impl Bay for MemBay {
         ensures call { AttachCall result slot Same (Attaches slot) ((state_of self.old).attached slot)
             (state_of self.old) (state_of self.new) }
         ensures plan { plan_of self.new ≡ plan_of self.old }
-        ensures named { IsErr result ↔ IsTrue (fails_now self.old slot || not (has_image self.old slot)) }
+        ensures named { IsErr result ↔ IsTrue (fails_now self.old slot
+            || not (has_image self.old slot)) }
     {
         let slot = slot as usize;
         if !self.begin(slot) {
@@ -278,7 +292,8 @@ impl Bay for MemBay {
 
     fn sync(&mut self, slot: u32) -> Result<(), Fault>
         requires attached { IsSome ((state_of self.old).attached slot) }
-        ensures call { DeviceCall result slot Same (Settles slot) sends_none (state_of self.old) (state_of self.new) }
+        ensures call { DeviceCall result slot Same (Settles slot) sends_none (state_of self.old)
+            (state_of self.new) }
         ensures plan { plan_of self.new ≡ plan_of self.old }
         ensures named { IsErr result ↔ IsTrue (fails_now self.old slot) }
     {

@@ -140,10 +140,14 @@ fn make_next(
 }
 
 fn make(alloc: Global, catalog: &mut Catalog, x: ExtentId, copy: u8, to: Home) -> io::Result<()>
-    ensures moved { OnOk result (catalog.new.tables ≡ with_move catalog.old.tables x.file x.index copy to) }
+    ensures moved { OnOk result (catalog.new.tables
+        ≡ with_move catalog.old.tables x.file x.index copy to) }
     ensures shape { catalog.new.shape ≡ catalog.old.shape }
-    ensures units { (entries : List Entry) → HasUnits catalog.old.shape entries catalog.old.tables catalog.old.units → HasUnits catalog.new.shape entries catalog.new.tables catalog.new.units }
-    ensures regular { (entries : List Entry) → AreOnRegular entries catalog.old.tables → IsTrue (is_on_regular entries (Some to)) → AreOnRegular entries catalog.new.tables }
+    ensures units { (entries : List Entry) → HasUnits catalog.old.shape entries catalog.old.tables
+        catalog.old.units → HasUnits catalog.new.shape entries catalog.new.tables
+        catalog.new.units }
+    ensures regular { (entries : List Entry) → AreOnRegular entries catalog.old.tables
+        → IsTrue (is_on_regular entries (Some to)) → AreOnRegular entries catalog.new.tables }
 {
     match make_move(alloc, catalog, x, copy, to) {
         Ok(true) => Ok(()),

@@ -127,7 +127,8 @@ pub fn fill_body<B: Bay>(
     bytes: &[u8],
 ) -> Result<(), Fault>
     requires usable { IsUsablePlace (B.state bay.old) slot place }
-    requires closed { ForSome (B.state bay.old).holds (λ image. shown_body place slot image ≡ None) }
+    requires closed { ForSome (B.state bay.old).holds
+        (λ image. shown_body place slot image ≡ None) }
     requires inside { from + length bytes.now ≤ place.len }
     requires sectors { (from % place.sector ≡ 0) × (length bytes.now % place.sector ≡ 0) }
     ensures { Call result slot (ChangesOnly (Range slot (place.body + from) (length bytes.now)))
@@ -149,7 +150,8 @@ pub fn open_gate<B: Bay>(bay: &mut B, slot: u32, place: Place) -> Result<(), Fau
 // Writes the body of a closed slot, and opens the gate.
 fn fill_and_open<B: Bay>(bay: &mut B, slot: u32, place: Place, body: &[u8]) -> Result<(), Fault>
     requires usable { IsUsablePlace (B.state bay.old) slot place }
-    requires closed { ForSome (B.state bay.old).holds (λ image. shown_body place slot image ≡ None) }
+    requires closed { ForSome (B.state bay.old).holds
+        (λ image. shown_body place slot image ≡ None) }
     requires whole { length body.now ≡ place.len }
     ensures { Call result slot (MayFillShut place slot body.now) (ChangesEachImage (HasPut place slot body.now))
         (cost 4 (place.sector + place.len)) (B.state bay.old) (B.state bay.new) }

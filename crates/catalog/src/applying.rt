@@ -46,7 +46,9 @@ impl Catalog {
         // The next tables are the tables now.
         ensures tables { Some self.new.tables ≡ self.old.next }
         // For entries of which the units were those of the homes, they still are.
-        ensures units { (entries : Items StatusEntry) → HasUnits self.old.shape entries self.old.tables self.old.units → HasUnits self.new.shape entries self.new.tables self.new.units }
+        ensures units { (entries : Items StatusEntry)
+            → HasUnits self.old.shape entries self.old.tables self.old.units
+            → HasUnits self.new.shape entries self.new.tables self.new.units }
         ensures shape { self.new.shape ≡ self.old.shape }
         ensures next { self.new.next ≡ None }
         ensures next_units { self.new.next_units ≡ None }

@@ -21,10 +21,13 @@ impl Catalog {
     /// as it had, no memory is taken and the unit maps stay.
     pub fn ready_disks(&mut self, alloc: Global, next: &PstRecord) -> Result<(), NoMemory>
         requires entries { IsTrue (list_all is_entry next.now.entries) }
-        requires units { (ms : Items UnitMap) × HasUnits self.old.shape next.now.entries self.old.tables ms }
+        requires units { (ms : Items UnitMap) × HasUnits self.old.shape next.now.entries
+            self.old.tables ms }
         ensures ready { OnOk result (AreDisksReady self.new next.now.entries) }
         // Where the disks have as many units as before, nothing is made anew, and it can't fail.
-        ensures same { (entries : Items Entry) → HasUnits self.old.shape entries self.old.tables self.old.units → HaveSameUnits entries next.now.entries → (result ≡ Ok tt) × (self.new.next_units ≡ None) }
+        ensures same { (entries : Items Entry) → HasUnits self.old.shape entries self.old.tables
+            self.old.units → HaveSameUnits entries next.now.entries
+            → (result ≡ Ok tt) × (self.new.next_units ≡ None) }
         ensures tables { self.new.tables ≡ self.old.tables }
         ensures shape { self.new.shape ≡ self.old.shape }
         ensures units { self.new.units ≡ self.old.units }
@@ -62,8 +65,10 @@ impl Catalog {
     /// Whether the units of these entries cover the homes that the tables name: all are user units of theirs. They do exactly
     /// where no unit is used that a disk lacks by its entry. Work goes by the units that the entries take away.
     pub fn covers(&self, entries: &[PstEntry]) -> bool
-        ensures covers { IsTrue result ↔ ((ms : Items UnitMap) × HasUnits self.now.shape entries.now self.now.tables ms) }
-        ensures same { (before : Items Entry) → HasUnits self.now.shape before self.now.tables self.now.units → HaveSameUnits before entries.now → result ≡ true }
+        ensures covers { IsTrue result ↔ ((ms : Items UnitMap)
+            × HasUnits self.now.shape entries.now self.now.tables ms) }
+        ensures same { (before : Items Entry) → HasUnits self.now.shape before self.now.tables
+            self.now.units → HaveSameUnits before entries.now → result ≡ true }
     {
         are_fit(&self.units, entries)
     }

@@ -36,7 +36,8 @@ impl Catalog {
 
     /// Copies of each extent of a file, where it has a head: one, two or three.
     pub fn copies_of(&self, file: u32) -> Option<u8>
-        ensures copies { result ≡ option_map (λ (h : FormatHead). h.copies) (head_at self.now.tables.files file) }
+        ensures copies { result ≡ option_map (λ (h : FormatHead). h.copies)
+            (head_at self.now.tables.files file) }
         ensures few { IfSome result (λ n. n ≤ 3) }
     {
         match self.parts.files.get(file) {
@@ -49,7 +50,8 @@ impl Catalog {
     /// number.
     pub fn children(&self, alloc: Global, node: u32) -> Result<Vec<u32>, NoMemory>
         // They are just the nodes of this parent.
-        ensures each { IfOk result (λ v. (n : ℕ) → list_any (λ m. m == n) v.items ≡ is_under_parent self.now.tables.nodes node n) }
+        ensures each { IfOk result (λ v. (n : ℕ)
+            → list_any (λ m. m == n) v.items ≡ is_under_parent self.now.tables.nodes node n) }
         // By name, and none is given twice.
         ensures order { IfOk result (λ v. AreByName self.now.tables.nodes v.items) }
     {
@@ -59,13 +61,18 @@ impl Catalog {
     /// The path of a node in a group of this name, as the nodes spell it. None where there is no such node, as for the
     /// root. Work and memory go by the number of parts.
     pub fn path_of(&self, alloc: Global, group: &Name, node: u32) -> Result<Option<Path>, NoMemory>
-        ensures spelt { IfOk result (λ path. IfSome path (λ p. p.parts ≡ names_to self.now.tables.nodes (length self.now.tables.nodes) node)) }
+        ensures spelt { IfOk result (λ path. IfSome path
+            (λ p. p.parts ≡ names_to self.now.tables.nodes (length self.now.tables.nodes) node)) }
         ensures group { IfOk result (λ path. IfSome path (λ p. p.group ≡ group.now)) }
         // `find` gives the node back.
-        ensures at { IfOk result (λ path. IfSome path (λ p. number_of self.now.tables.nodes p.parts ≡ Some node)) }
+        ensures at { IfOk result (λ path. IfSome path
+            (λ p. number_of self.now.tables.nodes p.parts ≡ Some node)) }
         // The tree of names has the node there.
-        ensures entry { IfOk result (λ path. IfSome path (λ p. entry_at (tree_of self.now.tables.nodes) p.parts ≡ option_map entry_of_node (node_at self.now.tables.nodes node))) }
-        ensures none { IfOk result (λ path. IfNone path (node_at self.now.tables.nodes node ≡ None)) }
+        ensures entry { IfOk result (λ path. IfSome path
+            (λ p. entry_at (tree_of self.now.tables.nodes) p.parts
+            ≡ option_map entry_of_node (node_at self.now.tables.nodes node))) }
+        ensures none { IfOk result (λ path. IfNone path
+            (node_at self.now.tables.nodes node ≡ None)) }
     {
         let Some(parts) = self.parts.tree.path_to(alloc, node)? else {
             return Ok(None);

@@ -15,8 +15,10 @@ impl Catalog {
     /// marks of the chunks up to there.
     #[tactic(auto, using(crate::proofs::MarkedExtents::in_first, crate::proofs::MarkedExtents::later_small, crate::proofs::MarkedExtents::in_none))]
     pub fn marked_from(&self, disk: u8, least: ExtentId) -> Option<ExtentId>
-        ensures found { IfSome result (λ x. IsFirstMarked self.now.tables disk (least.file, least.index) (x.file, x.index)) }
-        ensures none { IfNone result (HasNoneMarked self.now.tables disk (least.file, least.index)) }
+        ensures found { IfSome result (λ x. IsFirstMarked self.now.tables disk
+            (least.file, least.index) (x.file, x.index)) }
+        ensures none { IfNone result (HasNoneMarked self.now.tables disk
+            (least.file, least.index)) }
     {
         self.keeps_rules();
         let first = (least.file, least.index / 256);
@@ -33,7 +35,8 @@ impl Catalog {
     #[tactic(auto, using(crate::proofs::MarkedExtents::no_chunk, crate::proofs::MarkedExtents::no_marks))]
     fn marked_in(&self, disk: u8, at: (u32, u32), from: u32) -> Option<ExtentId>
         requires number { at.1 < 2 ^ 24 }
-        ensures found { IfSome result (λ x. IsFirstIn self.now.tables disk at from (x.file, x.index)) }
+        ensures found { IfSome result (λ x. IsFirstIn self.now.tables disk at from
+            (x.file, x.index)) }
         ensures none { IfNone result (HasNoneIn self.now.tables disk at from) }
     {
         self.keeps_rules();
@@ -68,7 +71,8 @@ impl Catalog {
 
     /// The first chunk from one on that has an extent with a stale copy on a disk.
     fn first_marked(&self, disk: u8, first: (u32, u32)) -> Option<(u32, u32)>
-        ensures { result ≡ first_marked self.now.tables disk (marks_from self.now.tables.stale first) }
+        ensures { result ≡ first_marked self.now.tables disk
+            (marks_from self.now.tables.stale first) }
     {
         self.parts.first_marked(disk, first)
     }

@@ -27,7 +27,8 @@ impl Catalog {
 /// Whether a file, where it has a head, has a copy of this number.
 fn is_copy(catalog: &Catalog, file: u32, copy: u8) -> bool
     ensures three { OnTrue result (copy < 3) }
-    ensures below { OnTrue result (IsTrue (is_copy_of (head_at catalog.now.tables.files file) copy)) }
+    ensures below { OnTrue result (IsTrue (is_copy_of (head_at catalog.now.tables.files file)
+        copy)) }
 {
     match catalog.file(file) {
         Some(head) => copy < 3 && copy < head.copies,
@@ -40,7 +41,8 @@ fn is_copy(catalog: &Catalog, file: u32, copy: u8) -> bool
 fn is_apart(catalog: &Catalog, x: ExtentId, copy: u8, to: Home) -> bool
     requires { copy < 3 }
     ensures there { OnTrue result (HasExtent catalog.now.tables.extents x.file x.index) }
-    ensures apart { OnTrue result (IsTrue (are_on_disks (homes_moved catalog.now.tables x.file x.index copy to))) }
+    ensures apart { OnTrue result (IsTrue (are_on_disks
+        (homes_moved catalog.now.tables x.file x.index copy to))) }
 {
     match catalog.homes(x) {
         Some(homes) => are_on_disks(&with_home(homes, copy, to)),
@@ -79,7 +81,8 @@ pub(crate) fn with_home(homes: Homes, copy: u8, home: Home) -> Homes
 
 /// Whether the disk's lowest run of free units for an extent of this index begins at the unit.
 fn is_free(catalog: &Catalog, index: u32, to: Home) -> bool
-    ensures { OnTrue result (IsTrue (is_some (home_taken catalog.now.units to (units_of catalog.now.shape.step index)))) }
+    ensures { OnTrue result (IsTrue (is_some
+        (home_taken catalog.now.units to (units_of catalog.now.shape.step index)))) }
 {
     has_run(catalog.units(), to, catalog.units_of(index))
 }

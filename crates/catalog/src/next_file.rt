@@ -25,7 +25,8 @@ impl Catalog {
     #[tactic(auto, using(crate::proofs::NextFile::first_is, crate::proofs::NextFile::second_is, crate::proofs::NextFile::none_behind, crate::proofs::NextFile::at_end, crate::proofs::NextFile::none_at_all))]
     fn untaken(&self) -> Option<u32>
         ensures found { IfSome result (IsUntaken self.now.tables) }
-        ensures none { IfNone result ((k : ℕ) → 256 ≤ k → k < 2 ^ 32 → is_taken self.now.tables k ≡ true) }
+        ensures none { IfNone result ((k : ℕ) → 256 ≤ k → k < 2 ^ 32
+            → is_taken self.now.tables k ≡ true) }
     {
         let first = self.parts.files.free_from(FIRST_FILE)?;
         if !is_pending(first, self.parts.operations.pending()) {

@@ -48,7 +48,8 @@ impl Catalog {
     /// The least file number that isn't below `least`.
     pub fn file_from(&self, least: u32) -> Option<u32>
         ensures found { IfSome result (IsLeastFrom self.now.tables.files least) }
-        ensures none { IfNone result ((k : ℕ) → least ≤ k → is_file_number self.now.tables.files k ≡ false) }
+        ensures none { IfNone result ((k : ℕ) → least ≤ k
+            → is_file_number self.now.tables.files k ≡ false) }
     {
         self.parts.files.least_from(least)
     }

@@ -16,7 +16,8 @@ ghost use Rattle.catalog_laws.specs.RegularHomes.{AppendingKeepsRegular, CopiesA
 
 /// Where a record is at fault, no value is a catalog of the records.
 pub fn a_fault_leaves_no_catalog()
-    ensures { (content : Items DirectoryRecord) (es : Items StatusEntry) (c : Catalogued) (k : Key) → IsAtFault content c.shape es k → ¬ IsCatalogOf content es c }
+    ensures { (content : Items DirectoryRecord) (es : Items StatusEntry) (c : Catalogued) (k : Key)
+        → IsAtFault content c.shape es k → ¬ IsCatalogOf content es c }
 {}
 
 /// All tables have items, and these are one list only.

@@ -43,5 +43,6 @@ impl Parts {
 
 /// A change of some tables leaves one set of tables and no other.
 pub fn a_change_leaves_one_set_of_tables()
-    ensures { (t u v : Tables) (put : Items DirectoryRecord) (gone : Items Key) → IsAfter t put gone u → IsAfter t put gone v → u ≡ v }
+    ensures { (t u v : Tables) (put : Items DirectoryRecord) (gone : Items Key)
+        → IsAfter t put gone u → IsAfter t put gone v → u ≡ v }
 {}

@@ -65,7 +65,8 @@ impl Parts {
     /// that isn't named back.
     #[tactic(auto, using(crate::proofs::FaultLaws::alone_is, crate::proofs::FaultLaws::mark_alone_is, crate::proofs::FaultLaws::node_is, crate::proofs::FaultLaws::file_is, crate::proofs::FaultLaws::names_are))]
     fn name_fault(&self) -> Option<Key>
-        ensures some { IfSome result (λ k. (s : GroupShape) (es : Items Entry) → BreaksRule s es self.now k) }
+        ensures some { IfSome result (λ k. (s : GroupShape) (es : Items Entry)
+            → BreaksRule s es self.now k) }
         ensures none { IfNone result (AreNamesRight self.now) }
     {
         if let Some(at) = self.marks_alone() {

@@ -20,7 +20,8 @@ impl Parts {
         requires shape { IsTrue (is_shape shape.now) }
         requires table { extent_map.IsExtentTable self.now.extents }
         ensures some { IfSome result (IsShortFile self.now shape.now) }
-        ensures none { IfNone result (AllByRecursion (HasExtents self.now shape.now) self.now.files) }
+        ensures none { IfNone result (AllByRecursion (HasExtents self.now shape.now)
+            self.now.files) }
     {
         for (file, head) in self.files.iter() {
             if self.lacks_extent(shape, *file, head) {
@@ -53,8 +54,10 @@ impl Parts {
     /// Whether one of the file's first extents hasn't all its copies.
     fn lacks_copy(&self, file: u32, copies: u8, due: u64) -> bool
         requires { due ≤ 1099511627776 }
-        ensures lacks { OnTrue result ((i : ℕ) × (i < due) × (has_copies copies (extent_at self.now.extents file i) ≡ false)) }
-        ensures has { OnFalse result ((i : ℕ) → i < due → has_copies copies (extent_at self.now.extents file i) ≡ true) }
+        ensures lacks { OnTrue result ((i : ℕ) × (i < due)
+            × (has_copies copies (extent_at self.now.extents file i) ≡ false)) }
+        ensures has { OnFalse result ((i : ℕ) → i < due
+            → has_copies copies (extent_at self.now.extents file i) ≡ true) }
     {
         for index in 0..due {
             if !has_copies(copies, self.extents.at(file, index)) {

@@ -88,7 +88,9 @@ impl OpenParts {
         gone: &[Key],
     ) -> Result<(), NoMemory>
         requires { ArePartsOpen self.old }
-        ensures after { OnOk result ((k : FormatKey) → records_of (tables_of self.new) k ≡ value_after put.now gone.now k (records_of (tables_of self.old) k)) }
+        ensures after { OnOk result ((k : FormatKey)
+            → records_of (tables_of self.new) k
+            ≡ value_after put.now gone.now k (records_of (tables_of self.old) k)) }
         ensures open { OnOk result (ArePartsOpen self.new) }
     {
         self.forget_nodes(put);
@@ -99,7 +101,8 @@ impl OpenParts {
     /// Takes the nodes away whose records are put: they may change places with one another.
     fn forget_nodes(&mut self, put: &[(Key, Value)])
         requires { ArePartsOpen self.old }
-        ensures others { (k : FormatKey) → is_put put.now k ≡ false → records_of (tables_of self.new) k ≡ records_of (tables_of self.old) k }
+        ensures others { (k : FormatKey) → is_put put.now k ≡ false
+            → records_of (tables_of self.new) k ≡ records_of (tables_of self.old) k }
         ensures open { ArePartsOpen self.new }
     {
         for (key, _) in put {
@@ -109,7 +112,8 @@ impl OpenParts {
 
     fn forget_node(&mut self, key: Key)
         requires { ArePartsOpen self.old }
-        ensures others { (k : FormatKey) → is_key key k ≡ false → records_of (tables_of self.new) k ≡ records_of (tables_of self.old) k }
+        ensures others { (k : FormatKey) → is_key key k ≡ false
+            → records_of (tables_of self.new) k ≡ records_of (tables_of self.old) k }
         ensures open { ArePartsOpen self.new }
     {
         if key.kind != 6 || !is_place(key) {
@@ -120,7 +124,9 @@ impl OpenParts {
 
     fn put_all(&mut self, alloc: Global, put: &[(Key, Value)]) -> Result<(), NoMemory>
         requires { ArePartsOpen self.old }
-        ensures put { OnOk result ((k : FormatKey) → records_of (tables_of self.new) k ≡ last_put put.now k (records_of (tables_of self.old) k)) }
+        ensures put { OnOk result ((k : FormatKey)
+            → records_of (tables_of self.new) k
+            ≡ last_put put.now k (records_of (tables_of self.old) k)) }
         ensures open { OnOk result (ArePartsOpen self.new) }
     {
         for (key, value) in put {
@@ -131,7 +137,9 @@ impl OpenParts {
 
     fn remove_all(&mut self, gone: &[Key]) -> Result<(), NoMemory>
         requires { ArePartsOpen self.old }
-        ensures gone { OnOk result ((k : FormatKey) → records_of (tables_of self.new) k ≡ (if is_gone gone.now k then None else records_of (tables_of self.old) k)) }
+        ensures gone { OnOk result ((k : FormatKey)
+            → records_of (tables_of self.new) k
+            ≡ (if is_gone gone.now k then None else records_of (tables_of self.old) k)) }
         ensures open { OnOk result (ArePartsOpen self.new) }
     {
         for key in gone {
@@ -149,7 +157,8 @@ impl OpenParts {
         value: &Value,
     ) -> Result<(), NoMemory>
         requires { ArePartsOpen self.old }
-        ensures put { OnOk result (Sets (tables_of self.old) (tables_of self.new) key (Some value.now)) }
+        ensures put { OnOk result (Sets (tables_of self.old) (tables_of self.new) key
+            (Some value.now)) }
         ensures open { OnOk result (ArePartsOpen self.new) }
     {
         match key.kind {
@@ -211,7 +220,8 @@ impl OpenParts {
 
     fn remove_chunk(&mut self, file: u32, chunk: u32)
         requires open { ArePartsOpen self.old }
-        ensures gone { Sets (tables_of self.old) (tables_of self.new) (record { kind = files_kind; a = file; b = chunk + 1 }) None }
+        ensures gone { Sets (tables_of self.old) (tables_of self.new)
+            (record { kind = files_kind; a = file; b = chunk + 1 }) None }
         ensures open { ArePartsOpen self.new }
     {
         self.extents.remove_record(file, chunk);
@@ -258,7 +268,8 @@ impl OpenParts {
     fn put_file(&mut self, alloc: Global, key: Key, value: &Value) -> Result<(), NoMemory>
         requires kind { key.kind ≡ files_kind }
         requires open { ArePartsOpen self.old }
-        ensures put { OnOk result (Sets (tables_of self.old) (tables_of self.new) key (Some value.now)) }
+        ensures put { OnOk result (Sets (tables_of self.old) (tables_of self.new) key
+            (Some value.now)) }
         ensures open { OnOk result (ArePartsOpen self.new) }
     {
         if key.b == 0 {
@@ -271,7 +282,8 @@ impl OpenParts {
         requires kind { key.kind ≡ files_kind }
         requires head { key.b ≡ 0 }
         requires open { ArePartsOpen self.old }
-        ensures put { OnOk result (Sets (tables_of self.old) (tables_of self.new) key (Some value.now)) }
+        ensures put { OnOk result (Sets (tables_of self.old) (tables_of self.new) key
+            (Some value.now)) }
         ensures open { OnOk result (ArePartsOpen self.new) }
     {
         taken(self.files.put_record(alloc, key, value)?)
@@ -286,7 +298,8 @@ impl OpenParts {
     ) -> Result<(), NoMemory>
         requires number { chunk + 1 < 2 ^ 32 }
         requires open { ArePartsOpen self.old }
-        ensures put { OnOk result (Sets (tables_of self.old) (tables_of self.new) (record { kind = files_kind; a = file; b = chunk + 1 }) (Some value.now)) }
+        ensures put { OnOk result (Sets (tables_of self.old) (tables_of self.new)
+            (record { kind = files_kind; a = file; b = chunk + 1 }) (Some value.now)) }
         ensures open { OnOk result (ArePartsOpen self.new) }
     {
         taken(self.extents.put_record(alloc, file, chunk, value)?)
@@ -294,7 +307,8 @@ impl OpenParts {
 
     fn put_disk(&mut self, alloc: Global, key: Key, value: &Value) -> Result<(), NoMemory>
         requires open { ArePartsOpen self.old }
-        ensures put { OnOk result (Sets (tables_of self.old) (tables_of self.new) key (Some value.now)) }
+        ensures put { OnOk result (Sets (tables_of self.old) (tables_of self.new) key
+            (Some value.now)) }
         ensures open { OnOk result (ArePartsOpen self.new) }
     {
         if !is_mine(key) {
@@ -306,7 +320,8 @@ impl OpenParts {
     fn put_operation(&mut self, key: Key, value: &Value) -> Result<(), NoMemory>
         requires kind { key.kind ≡ operations_kind }
         requires open { ArePartsOpen self.old }
-        ensures put { OnOk result (Sets (tables_of self.old) (tables_of self.new) key (Some value.now)) }
+        ensures put { OnOk result (Sets (tables_of self.old) (tables_of self.new) key
+            (Some value.now)) }
         ensures open { OnOk result (ArePartsOpen self.new) }
     {
         taken(self.operations.put_record(key, value))
@@ -315,7 +330,8 @@ impl OpenParts {
     fn put_templates(&mut self, alloc: Global, key: Key, value: &Value) -> Result<(), NoMemory>
         requires kind { (key.kind == templates_kind || key.kind == settings_kind) ≡ true }
         requires open { ArePartsOpen self.old }
-        ensures put { OnOk result (Sets (tables_of self.old) (tables_of self.new) key (Some value.now)) }
+        ensures put { OnOk result (Sets (tables_of self.old) (tables_of self.new) key
+            (Some value.now)) }
         ensures open { OnOk result (ArePartsOpen self.new) }
     {
         taken(self.templates.put_record(alloc, key, value)?)
@@ -325,7 +341,8 @@ impl OpenParts {
     fn put_node(&mut self, alloc: Global, key: Key, value: &Value) -> Result<(), NoMemory>
         requires kind { key.kind ≡ nodes_kind }
         requires open { ArePartsOpen self.old }
-        ensures put { OnOk result (Sets (tables_of self.old) (tables_of self.new) key (Some value.now)) }
+        ensures put { OnOk result (Sets (tables_of self.old) (tables_of self.new) key
+            (Some value.now)) }
         ensures open { OnOk result (ArePartsOpen self.new) }
     {
         if key.b != 0 {
@@ -338,7 +355,8 @@ impl OpenParts {
     fn put_marks(&mut self, alloc: Global, key: Key, value: &Value) -> Result<(), NoMemory>
         requires kind { key.kind ≡ marks_kind }
         requires open { ArePartsOpen self.old }
-        ensures put { OnOk result (Sets (tables_of self.old) (tables_of self.new) key (Some value.now)) }
+        ensures put { OnOk result (Sets (tables_of self.old) (tables_of self.new) key
+            (Some value.now)) }
         ensures open { OnOk result (ArePartsOpen self.new) }
     {
         taken(self.stale.put_record(alloc, key, value)?)

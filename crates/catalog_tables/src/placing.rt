@@ -33,7 +33,8 @@ fn place_all(units: &mut [Units], step: u32, extents: &ExtentMap) -> Option<(u32
 /// The same of a vector.
 pub(crate) fn place_in(units: &mut Vec<Units>, step: u32, extents: &ExtentMap) -> Option<(u32, u32)>
     ensures fault { result ≡ first_misplaced step units.old.items extents.now }
-    ensures after { IfNone result (after_chunks step units.old.items extents.now ≡ Some units.new.items) }
+    ensures after { IfNone result (after_chunks step units.old.items extents.now
+        ≡ Some units.new.items) }
 {
     place_all(units, step, extents)
 }
@@ -43,7 +44,8 @@ pub(crate) fn place_in(units: &mut Vec<Units>, step: u32, extents: &ExtentMap) -
 #[tactic(auto, using(crate::proofs::PlacingLaws::next_extent, crate::proofs::PlacingLaws::extent_refused, crate::proofs::PlacingLaws::no_extents))]
 pub fn place_chunk(units: &mut [Units], step: u32, file: u32, first: u64, extents: &[Homes]) -> bool
     requires { first + length extents.now < 2 ^ 63 }
-    ensures { after_homes units.old (placed_extents step file first extents.now) ≡ (if result then Some units.new else None) }
+    ensures { after_homes units.old (placed_extents step file first extents.now)
+        ≡ (if result then Some units.new else None) }
 {
     let mut index = first;
     for homes in extents {
@@ -58,7 +60,8 @@ pub fn place_chunk(units: &mut [Units], step: u32, file: u32, first: u64, extent
 /// The same for the homes of an extent of so many units.
 pub fn place_extent(units: &mut [Units], file: u32, index: u64, len: u32, homes: &Homes) -> bool
     requires { 0 < len }
-    ensures { after_homes units.old (placed_copies file index len homes.now) ≡ (if result then Some units.new else None) }
+    ensures { after_homes units.old (placed_copies file index len homes.now)
+        ≡ (if result then Some units.new else None) }
 {
     let homes = *homes;
     place_three(
@@ -83,7 +86,8 @@ fn place_three(
     third: Option<Home>,
 ) -> bool
     requires { 0 < len }
-    ensures { after_homes units.old (placed_copies file index len (first ∷ second ∷ third ∷ [])) ≡ (if result then Some units.new else None) }
+    ensures { after_homes units.old (placed_copies file index len (first ∷ second ∷ third ∷ []))
+        ≡ (if result then Some units.new else None) }
 {
     if !place(units, first, len) {
         return false;

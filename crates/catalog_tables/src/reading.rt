@@ -34,7 +34,8 @@ impl Parts {
     pub fn from_records(alloc: Global, content: &Records) -> Result<Parts, CatalogError>
         ensures records { IfOk result (HasRecords content.now) }
         ensures tables { IfOk result AreTables }
-        ensures fault { IfErr result (λ e. (s : Shape) (es : Items Entry) → NamesFault (IsAtFault content.now s es) e) }
+        ensures fault { IfErr result (λ e. (s : Shape) (es : Items Entry)
+            → NamesFault (IsAtFault content.now s es) e) }
     {
         if let Some(key) = unreadable(content) {
             return Err(CatalogError::Damaged { key });
@@ -60,7 +61,8 @@ fn read_others(
     requires readable { AreReadable content.now }
     requires needed { HasNeeded content.now }
     requires extents { extent_table.IsExtentTable extents }
-    requires chunks { of_kinds extent_table.is_chunk content.now ≡ map extent_table.record_of_chunk extents }
+    requires chunks { of_kinds extent_table.is_chunk content.now
+        ≡ map extent_table.record_of_chunk extents }
     requires nodes { of_kinds nodes.is_key_of_node content.now ≡ map nodes.record_of_node tree }
     ensures records { IfOk result (HasRecords content.now) }
     ensures tables { IfOk result AreTables }
@@ -135,7 +137,8 @@ ghost use Rattle.catalog_tables.specs.Faults.{IsNeeded};
 fn read_extents(alloc: Global, content: &Records) -> Result<ExtentMap, CatalogError>
     requires { AreReadable content.now }
     ensures table { IfOk result extent_table.IsExtentTable }
-    ensures records { IfOk result (λ t. of_kinds extent_table.is_chunk content.now ≡ map extent_table.record_of_chunk t) }
+    ensures records { IfOk result (λ t. of_kinds extent_table.is_chunk content.now
+        ≡ map extent_table.record_of_chunk t) }
     ensures fault { IfErr result (NamesFault (IsGap content.now)) }
 {
     if let Some(extents) = ExtentMap::from_records(alloc, content)? {
@@ -173,7 +176,8 @@ pub(crate) fn chunk_key(at: (u32, u32)) -> Key
 #[tactic(auto, using(crate::proofs::ReadableLaws::tree_read))]
 fn read_tree(alloc: Global, content: &Records) -> Result<AliasTree, CatalogError>
     requires { AreReadable content.now }
-    ensures records { IfOk result (λ t. of_kinds nodes.is_key_of_node content.now ≡ map nodes.record_of_node t) }
+    ensures records { IfOk result (λ t. of_kinds nodes.is_key_of_node content.now
+        ≡ map nodes.record_of_node t) }
     ensures fault { IfErr result (NamesFault (IsLoose content.now)) }
 {
     if let Some(tree) = AliasTree::from_records(alloc, content)? {

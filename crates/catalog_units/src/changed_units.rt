@@ -70,8 +70,12 @@ fn give_one(
 )
     requires table { AreChunks extents.now }
     requires place { place < length put.now + length gone.now }
-    requires units { (first : Items UnitMap) × AreUnitsOfKept step first (is_chunk_kept (take place (changed_keys put.now gone.now))) extents.now units.old }
-    ensures { (first : Items UnitMap) → AreUnitsOfKept step first (is_chunk_kept (take place (changed_keys put.now gone.now))) extents.now units.old → AreUnitsOfKept step first (is_chunk_kept (take (place + 1) (changed_keys put.now gone.now))) extents.now units.new }
+    requires units { (first : Items UnitMap) × AreUnitsOfKept step first
+        (is_chunk_kept (take place (changed_keys put.now gone.now))) extents.now units.old }
+    ensures { (first : Items UnitMap) → AreUnitsOfKept step first
+        (is_chunk_kept (take place (changed_keys put.now gone.now))) extents.now units.old
+        → AreUnitsOfKept step first (is_chunk_kept
+        (take (place + 1) (changed_keys put.now gone.now))) extents.now units.new }
 {
     let key = key_at(put, gone, place);
     if is_new(put, gone, place, key) {
@@ -91,7 +95,11 @@ fn mark_one(
 )
     requires table { AreChunks extents.now }
     requires place { place < length put.now + length gone.now }
-    ensures { (first after : Items UnitMap) → AreUnitsOfKept step first (is_chunk_kept (take (place + 1) (changed_keys put.now gone.now))) extents.now units.old → AreUnitsOfKept step first (is_chunk_kept (take place (changed_keys put.now gone.now))) extents.now after → after ≡ units.new }
+    ensures { (first after : Items UnitMap)
+        → AreUnitsOfKept step first (is_chunk_kept
+        (take (place + 1) (changed_keys put.now gone.now))) extents.now units.old
+        → AreUnitsOfKept step first (is_chunk_kept (take place (changed_keys put.now gone.now)))
+        extents.now after → after ≡ units.new }
 {
     let key = key_at(put, gone, place);
     if is_new(put, gone, place, key) {
@@ -103,8 +111,11 @@ fn mark_one(
 #[tactic(auto, using(crate::proofs::ChangeUnits::units_all))]
 fn give_all(units: &mut [Units], step: u32, extents: &ExtentMap, put: &[(Key, Value)], gone: &[Key])
     requires table { AreChunks extents.now }
-    requires units { (first : Items UnitMap) × after_chunks step first extents.now ≡ Some units.old }
-    ensures { (first : Items UnitMap) → after_chunks step first extents.now ≡ Some units.old → AreUnitsOfKept step first (is_chunk_kept (changed_keys put.now gone.now)) extents.now units.new }
+    requires units { (first : Items UnitMap) × after_chunks step first extents.now
+        ≡ Some units.old }
+    ensures { (first : Items UnitMap) → after_chunks step first extents.now ≡ Some units.old
+        → AreUnitsOfKept step first (is_chunk_kept (changed_keys put.now gone.now)) extents.now
+        units.new }
 {
     let count = put.len() + gone.len();
     for place in 0..count {
@@ -115,7 +126,9 @@ fn give_all(units: &mut [Units], step: u32, extents: &ExtentMap, put: &[(Key, Va
 /// Makes the units of all chunks used whose keys a change has.
 fn mark_all(units: &mut [Units], step: u32, extents: &ExtentMap, put: &[(Key, Value)], gone: &[Key])
     requires table { AreChunks extents.now }
-    ensures { (first after : Items UnitMap) → AreUnitsOfKept step first (is_chunk_kept (changed_keys put.now gone.now)) extents.now units.old → after_chunks step first extents.now ≡ Some after → after ≡ units.new }
+    ensures { (first after : Items UnitMap)
+        → AreUnitsOfKept step first (is_chunk_kept (changed_keys put.now gone.now)) extents.now
+        units.old → after_chunks step first extents.now ≡ Some after → after ≡ units.new }
 {
     let count = put.len() + gone.len();
     for done in 0..count {
@@ -137,9 +150,11 @@ fn change_units(
     requires new { AreChunks new.now }
     requires units { (first : Items UnitMap) × after_chunks step first old.now ≡ Some units.old }
     // The other chunks are the same.
-    requires others { (c : Chunk) → is_chunk_kept (changed_keys put.now gone.now) c ≡ true → chunk_at old.now c ≡ chunk_at new.now c }
+    requires others { (c : Chunk) → is_chunk_kept (changed_keys put.now gone.now) c ≡ true
+        → chunk_at old.now c ≡ chunk_at new.now c }
     // From whichever units of no homes: those of the old extents become those of the new ones.
-    ensures { (first after : Items UnitMap) → after_chunks step first old.now ≡ Some units.old → after_chunks step first new.now ≡ Some after → after ≡ units.new }
+    ensures { (first after : Items UnitMap) → after_chunks step first old.now ≡ Some units.old
+        → after_chunks step first new.now ≡ Some after → after ≡ units.new }
 {
     give_all(units, step, old, put, gone);
     mark_all(units, step, new, put, gone);
@@ -150,8 +165,11 @@ fn change_units(
 pub fn follow(units: &mut Vec<Units>, shape: &Shape, old: &Parts, new: &Parts, change: &Change)
     requires tables { AreTables old.now }
     requires after { IsAfter old.now change.now.put change.now.gone new.now }
-    requires units { (first : Items UnitMap) × after_chunks shape.now.step first old.now.extents ≡ Some units.old.items }
-    ensures { (first after : Items UnitMap) → after_chunks shape.now.step first old.now.extents ≡ Some units.old.items → after_chunks shape.now.step first new.now.extents ≡ Some after → after ≡ units.new.items }
+    requires units { (first : Items UnitMap) × after_chunks shape.now.step first old.now.extents
+        ≡ Some units.old.items }
+    ensures { (first after : Items UnitMap)
+        → after_chunks shape.now.step first old.now.extents ≡ Some units.old.items
+        → after_chunks shape.now.step first new.now.extents ≡ Some after → after ≡ units.new.items }
 {
     let put = change.put.as_slice();
     let gone = change.gone.as_slice();

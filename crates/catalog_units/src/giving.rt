@@ -15,8 +15,11 @@ use catalog_tables::{ExtentMap, Home, Homes, Units, place_chunk, units_of};
 #[tactic(auto, using(crate::proofs::ChunkUnits::out_not, crate::proofs::ChunkUnits::out_there, crate::proofs::ChunkUnits::out_given))]
 pub(crate) fn give_at(units: &mut [Units], step: u32, extents: &ExtentMap, file: u32, chunk: u32)
     requires table { AreChunks extents.now }
-    requires kept { (keep : Chunk → Bool) × (keep (file, chunk) ≡ true) × ((first : Items UnitMap) × AreUnitsOfKept step first keep extents.now units.old) }
-    ensures { (keep : Chunk → Bool) (first : Items UnitMap) → keep (file, chunk) ≡ true → AreUnitsOfKept step first keep extents.now units.old → AreUnitsOfKept step first (but keep (file, chunk)) extents.now units.new }
+    requires kept { (keep : Chunk → Bool) × (keep (file, chunk) ≡ true)
+        × ((first : Items UnitMap) × AreUnitsOfKept step first keep extents.now units.old) }
+    ensures { (keep : Chunk → Bool) (first : Items UnitMap) → keep (file, chunk) ≡ true
+        → AreUnitsOfKept step first keep extents.now units.old
+        → AreUnitsOfKept step first (but keep (file, chunk)) extents.now units.new }
 {
     if let Some(homes) = extents.chunk(file, chunk) {
         give_chunk(units, step, file, chunk as u64 * 256, homes);
@@ -28,7 +31,9 @@ pub(crate) fn give_at(units: &mut [Units], step: u32, extents: &ExtentMap, file:
 #[tactic(auto, using(crate::proofs::ChunkUnits::put_not, crate::proofs::ChunkUnits::put_is))]
 pub(crate) fn mark_at(units: &mut [Units], step: u32, extents: &ExtentMap, file: u32, chunk: u32)
     requires table { AreChunks extents.now }
-    ensures { (keep : Chunk → Bool) (first after : Items UnitMap) → keep (file, chunk) ≡ true → AreUnitsOfKept step first (but keep (file, chunk)) extents.now units.old → AreUnitsOfKept step first keep extents.now after → after ≡ units.new }
+    ensures { (keep : Chunk → Bool) (first after : Items UnitMap) → keep (file, chunk) ≡ true
+        → AreUnitsOfKept step first (but keep (file, chunk)) extents.now units.old
+        → AreUnitsOfKept step first keep extents.now after → after ≡ units.new }
 {
     if let Some(homes) = extents.chunk(file, chunk) {
         let _ = place_chunk(units, step, file, chunk as u64 * 256, homes);
@@ -39,8 +44,10 @@ pub(crate) fn mark_at(units: &mut [Units], step: u32, extents: &ExtentMap, file:
 #[tactic(auto, using(crate::proofs::GivingLaws::extent_first))]
 fn give_chunk(units: &mut [Units], step: u32, file: u32, first: u64, extents: &[Homes])
     requires few { first + length extents.now < 2 ^ 63 }
-    requires taken { (before : Items UnitMap) × after_homes before (placed_extents step file first extents.now) ≡ Some units.old }
-    ensures { (before : Items UnitMap) → after_homes before (placed_extents step file first extents.now) ≡ Some units.old → before ≡ units.new }
+    requires taken { (before : Items UnitMap)
+        × after_homes before (placed_extents step file first extents.now) ≡ Some units.old }
+    ensures { (before : Items UnitMap) → after_homes before
+        (placed_extents step file first extents.now) ≡ Some units.old → before ≡ units.new }
 {
     let mut index = first;
     for homes in extents {
@@ -52,8 +59,10 @@ fn give_chunk(units: &mut [Units], step: u32, file: u32, first: u64, extents: &[
 /// The same for the homes of an extent of so many units. The other homes may be those that are given back later.
 fn give_extent(units: &mut [Units], file: u32, index: u64, len: u32, homes: &Homes)
     requires some { 0 < len }
-    requires taken { (before : Items UnitMap) × after_homes before (placed_copies file index len homes.now) ≡ Some units.old }
-    ensures { (before : Items UnitMap) → after_homes before (placed_copies file index len homes.now) ≡ Some units.old → before ≡ units.new }
+    requires taken { (before : Items UnitMap)
+        × after_homes before (placed_copies file index len homes.now) ≡ Some units.old }
+    ensures { (before : Items UnitMap) → after_homes before (placed_copies file index len homes.now)
+        ≡ Some units.old → before ≡ units.new }
 {
     let homes = *homes;
     give_three(
@@ -78,8 +87,12 @@ fn give_three(
     third: Option<Home>,
 )
     requires some { 0 < len }
-    requires taken { (before : Items UnitMap) × after_homes before (placed_copies file index len (first ∷ second ∷ third ∷ [])) ≡ Some units.old }
-    ensures { (before : Items UnitMap) → after_homes before (placed_copies file index len (first ∷ second ∷ third ∷ [])) ≡ Some units.old → before ≡ units.new }
+    requires taken { (before : Items UnitMap)
+        × after_homes before (placed_copies file index len (first ∷ second ∷ third ∷ []))
+        ≡ Some units.old }
+    ensures { (before : Items UnitMap) → after_homes before
+        (placed_copies file index len (first ∷ second ∷ third ∷ [])) ≡ Some units.old
+        → before ≡ units.new }
 {
     give_any(units, third, len);
     give_any(units, second, len);
@@ -90,7 +103,8 @@ fn give_three(
 fn give_any(units: &mut [Units], home: Option<Home>, len: u32)
     requires some { 0 < len }
     requires taken { (before : Items UnitMap) × home_placed before home len ≡ Some units.old }
-    ensures { (before : Items UnitMap) → home_placed before home len ≡ Some units.old → before ≡ units.new }
+    ensures { (before : Items UnitMap) → home_placed before home len ≡ Some units.old
+        → before ≡ units.new }
 {
     if let Some(home) = home {
         give(units, home, len);
@@ -102,7 +116,8 @@ fn give_any(units: &mut [Units], home: Option<Home>, len: u32)
 fn give(units: &mut [Units], home: Home, len: u32)
     requires some { 0 < len }
     requires taken { (before : Items UnitMap) × home_taken before home len ≡ Some units.old }
-    ensures { (before : Items UnitMap) → home_taken before home len ≡ Some units.old → before ≡ units.new }
+    ensures { (before : Items UnitMap) → home_taken before home len ≡ Some units.old
+        → before ≡ units.new }
 {
     let disk = home.disk as usize;
     units[disk].give(home.unit, len);

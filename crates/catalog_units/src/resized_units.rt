@@ -33,7 +33,9 @@ fn push_changed(
     number: u8,
 ) -> Result<(), NoMemory>
     requires { IsTrue (list_all is_entry entries.now) }
-    ensures { OnOk result (changed.new.items ≡ changed.old.items ++ changed_map number (disk_units entries.now number) (slice_get units.now number)) }
+    ensures { OnOk result (changed.new.items
+        ≡ changed.old.items ++ changed_map number (disk_units entries.now number)
+        (slice_get units.now number)) }
 {
     match units.get(number as usize) {
         Some(map) => push_resized(changed, number, map, disk_units(entries, number)),
@@ -50,7 +52,8 @@ fn push_resized(
     count: u32,
 ) -> Result<(), NoMemory>
     requires { count ≤ 16777216 }
-    ensures { OnOk result (changed.new.items ≡ changed.old.items ++ changed_map number count (Some map.now)) }
+    ensures { OnOk result (changed.new.items
+        ≡ changed.old.items ++ changed_map number count (Some map.now)) }
 {
     if map.size() == count {
         return Ok(());

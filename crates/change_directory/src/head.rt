@@ -27,7 +27,8 @@ pub(crate) fn fill_body(number: u64, pages: &[(u32, Block)], to: &mut [u8])
 fn put_body(head: &[u8], pages: &[(u32, Block)], to: &mut [u8])
     requires head { length head.now ≡ 4096 }
     requires room { (length pages.now + 1) * 4096 ≤ length to.old }
-    ensures { take ((length pages.now + 1) * 4096) to.new ≡ head.now ++ flat_map bytes_of_page pages.now }
+    ensures { take ((length pages.now + 1) * 4096) to.new
+        ≡ head.now ++ flat_map bytes_of_page pages.now }
 {
     let (front, rest) = to.split_at_mut(4096);
     front.copy_from_slice(head);
@@ -51,7 +52,8 @@ fn encode_head(number: u64, pages: &[(u32, Block)], block: &mut Block)
 fn put_numbers(to: &mut Writer, pages: &[(u32, Block)])
     requires few { length pages.now ≤ 64 }
     requires room { to.old.at + 4 + 4 * length pages.now ≤ 4096 }
-    ensures puts { PutsField to.old to.new (number_bytes w32 (length pages.now) ++ flat_map number_field pages.now) }
+    ensures puts { PutsField to.old to.new (number_bytes w32 (length pages.now)
+        ++ flat_map number_field pages.now) }
     ensures at { to.new.at ≡ to.old.at + 4 + 4 * length pages.now }
 {
     put_u32(to, pages.len() as u32);

@@ -207,9 +207,13 @@ fn take_pages(
 ) -> Result<(), LoadFault>
     requires small { first + count ≤ 16384 }
     requires bytes { length bytes.now ≡ count * 4096 }
-    ensures taken { OnOk result (AreTaken (all_slots logs.now) first (blocks_of count bytes.now) pages.old pages.new) }
-    ensures up_to { OnOk result (GoesUpTo (all_slots logs.now) first (first + count) pages.old pages.new) }
-    ensures damage { IfErr result (λ e. IfSome (damaged_block e) (λ block. damaged_page (all_slots logs.now) first (blocks_of count bytes.now) ≡ Some block)) }
+    ensures taken { OnOk result (AreTaken (all_slots logs.now) first (blocks_of count bytes.now)
+        pages.old pages.new) }
+    ensures up_to { OnOk result (GoesUpTo (all_slots logs.now) first (first + count) pages.old
+        pages.new) }
+    ensures damage { IfErr result (λ e. IfSome (damaged_block e)
+        (λ block. damaged_page (all_slots logs.now) first (blocks_of count bytes.now)
+        ≡ Some block)) }
     ensures no_fault { IsErrOf result LoadFault.Fault → ⊥ }
 {
     for i in 0..count {
@@ -222,8 +226,10 @@ fn take_pages(
 /// Takes up a page by its home, or by its image where a log slot has one.
 fn take_page(page: u32, home: Block, logs: &OpenLogs, pages: &mut Pages) -> Result<(), LoadFault>
     requires { page < 16384 }
-    ensures taken { OnOk result (AreTaken (all_slots logs.now) page (home.bytes ∷ []) pages.old pages.new) }
-    ensures damage { IfErr result (λ e. IfSome (damaged_block e) (λ block. damaged_page (all_slots logs.now) page (home.bytes ∷ []) ≡ Some block)) }
+    ensures taken { OnOk result (AreTaken (all_slots logs.now) page (home.bytes ∷ []) pages.old
+        pages.new) }
+    ensures damage { IfErr result (λ e. IfSome (damaged_block e)
+        (λ block. damaged_page (all_slots logs.now) page (home.bytes ∷ []) ≡ Some block)) }
     ensures no_fault { IsErrOf result LoadFault.Fault → ⊥ }
 {
     match counted_image(logs, page) {
@@ -234,7 +240,8 @@ fn take_page(page: u32, home: Block, logs: &OpenLogs, pages: &mut Pages) -> Resu
 
 /// Takes up a page by its image.
 fn put_image(page: u32, block: u64, image: &Block, pages: &mut Pages) -> Result<(), LoadFault>
-    ensures put { OnOk result (TakesUpPages (page_unless_empty page image.now.bytes) ((page, block) ∷ []) pages.old pages.new) }
+    ensures put { OnOk result (TakesUpPages (page_unless_empty page image.now.bytes)
+        ((page, block) ∷ []) pages.old pages.new) }
     ensures no_damage { IfErr result (λ e. e ≡ LoadFault.NoMemory) }
 {
     pages.due.push((page, block)).map_err(|_| NoMemory)?;
@@ -245,9 +252,11 @@ fn put_image(page: u32, block: u64, image: &Block, pages: &mut Pages) -> Result<
 /// Takes up a page by its home.
 fn put_home(page: u32, home: Block, pages: &mut Pages) -> Result<(), LoadFault>
     requires { page < 16384 }
-    ensures put { OnOk result (TakesUpPages (page_unless_empty page home.bytes) [] pages.old pages.new) }
+    ensures put { OnOk result (TakesUpPages (page_unless_empty page home.bytes) [] pages.old
+        pages.new) }
     ensures page { OnOk result (is_page home.bytes ≡ true) }
-    ensures damage { IfErr result (λ e. IfSome (damaged_block e) (λ block. (block ≡ page_home page) × (is_page home.bytes ≡ false))) }
+    ensures damage { IfErr result (λ e. IfSome (damaged_block e)
+        (λ block. (block ≡ page_home page) × (is_page home.bytes ≡ false))) }
     ensures no_fault { IsErrOf result LoadFault.Fault → ⊥ }
 {
     if !is_page(&home) {
@@ -260,7 +269,8 @@ fn put_home(page: u32, home: Block, pages: &mut Pages) -> Result<(), LoadFault>
 
 /// Keeps a page that isn't zeros.
 fn put_filled(page: u32, block: Block, pages: &mut Pages) -> Result<(), LoadFault>
-    ensures put { OnOk result (TakesUpPages (page_unless_empty page block.bytes) [] pages.old pages.new) }
+    ensures put { OnOk result (TakesUpPages (page_unless_empty page block.bytes) [] pages.old
+        pages.new) }
     ensures no_damage { IfErr result (λ e. e ≡ LoadFault.NoMemory) }
 {
     if is_empty(&block) {

@@ -24,7 +24,8 @@ pub(crate) fn head_pages(
     head: &[u8],
 ) -> Result<Option<Vec<u32>>, NoMemory>
     requires { length head.now ≡ 4096 }
-    ensures pages { IfOk result (λ read. option_map (λ p. p.items) read ≡ option_map (λ h. h.pages) (decoded_log_head dir_blocks head.now)) }
+    ensures pages { IfOk result (λ read. option_map (λ p. p.items) read
+        ≡ option_map (λ h. h.pages) (decoded_log_head dir_blocks head.now)) }
     ensures few { IfOk result (λ read. IfSome read (λ p. vec_len p ≤ 64)) }
 {
     let count = head_count(head);
@@ -148,7 +149,8 @@ fn spell_head(number: u64, pages: &[u32], block: &mut Block)
 fn put_counted(to: &mut Writer, pages: &[u32])
     requires few { length pages.now ≤ 64 }
     requires room { to.old.at + 4 + 4 * length pages.now ≤ 4096 }
-    ensures puts { PutsField to.old to.new (number_bytes w32 (length pages.now) ++ flat_map (number_bytes w32) pages.now) }
+    ensures puts { PutsField to.old to.new (number_bytes w32 (length pages.now)
+        ++ flat_map (number_bytes w32) pages.now) }
     ensures at { to.new.at ≡ to.old.at + 4 + 4 * length pages.now }
 {
     put_u32(to, pages.len() as u32);

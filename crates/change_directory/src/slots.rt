@@ -138,7 +138,8 @@ fn fill_images<B: Bay>(
 /// Each page with its image, of images that stand one behind the other.
 fn images_of(alloc: Global, pages: &[u32], bytes: &[u8]) -> Result<Vec<(u32, Block)>, NoMemory>
     requires { length bytes.now ≡ length pages.now * 4096 }
-    ensures images { IfOk result (λ images. map image_of_page images.items ≡ zip pages.now (blocks_of (length pages.now) bytes.now)) }
+    ensures images { IfOk result (λ images. map image_of_page images.items
+        ≡ zip pages.now (blocks_of (length pages.now) bytes.now)) }
     ensures len { IfOk result (λ images. vec_len images ≡ length pages.now) }
 {
     let mut images = Vec::new(alloc);
@@ -150,7 +151,8 @@ fn images_of(alloc: Global, pages: &[u32], bytes: &[u8]) -> Result<Vec<(u32, Blo
 }
 
 fn push_image(images: &mut Vec<(u32, Block)>, page: u32, image: Block) -> Result<(), NoMemory>
-    ensures images { OnOk result (map image_of_page images.new.items ≡ map image_of_page images.old.items ++ (page, image.bytes) ∷ []) }
+    ensures images { OnOk result (map image_of_page images.new.items
+        ≡ map image_of_page images.old.items ++ (page, image.bytes) ∷ []) }
     ensures len { OnOk result (vec_len images.new ≡ vec_len images.old + 1) }
 {
     images.push((page, image)).map_err(|_| NoMemory)?;
@@ -190,7 +192,8 @@ fn first_bad(at: u64, images: &[(u32, Block)]) -> Option<u64>
 #[tactic(auto, using(crate::proofs::SlotLaws::block_is_place, crate::proofs::SlotLaws::image_is_only))]
 fn image_in_slot(log: &Option<OpenLog>, page: u32) -> Option<(u64, &Block)>
     ensures block { option_map (λ c. c.0) result ≡ counted_block (slots_of_log log.now) page }
-    ensures image { option_map (λ c. c.1.now.bytes) result ≡ image_in (logs_of (slots_of_log log.now)) page }
+    ensures image { option_map (λ c. c.1.now.bytes) result
+        ≡ image_in (logs_of (slots_of_log log.now)) page }
 {
     match log {
         None => None,
@@ -202,7 +205,8 @@ fn image_in_slot(log: &Option<OpenLog>, page: u32) -> Option<(u64, &Block)>
 fn image_from(at: u64, images: &[(u32, Block)], page: u32) -> Option<(u64, &Block)>
     requires { at + length images.now < 2 ^ 64 }
     ensures block { option_map (λ c. c.0) result ≡ place_in at (map image_of_page images.now) page }
-    ensures image { option_map (λ c. c.1.now.bytes) result ≡ logged_image (map image_of_page images.now) page }
+    ensures image { option_map (λ c. c.1.now.bytes) result
+        ≡ logged_image (map image_of_page images.now) page }
 {
     match images {
         [] => None,
@@ -219,7 +223,8 @@ fn image_from(at: u64, images: &[(u32, Block)], page: u32) -> Option<(u64, &Bloc
 /// The image that counts of a page, and its block.
 pub(crate) fn counted_image(logs: &OpenLogs, page: u32) -> Option<(u64, &Block)>
     ensures block { option_map (λ c. c.0) result ≡ counted_block (all_slots logs.now) page }
-    ensures image { option_map (λ c. c.1.now.bytes) result ≡ image_in (logs_of (all_slots logs.now)) page }
+    ensures image { option_map (λ c. c.1.now.bytes) result
+        ≡ image_in (logs_of (all_slots logs.now)) page }
 {
     match image_in_slot(&logs.newest, page) {
         Some(image) => Some(image),

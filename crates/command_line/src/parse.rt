@@ -30,8 +30,10 @@ fn command<'a>(alloc: Global) -> Result<Command<'a>, AllocError>
 // Parses the words. Usage comes where they aren't of the command's form.
 pub fn parse<'a>(alloc: Global, words: &'a [String]) -> Result<ArgMatches<'a>, WordsError>
     ensures form { IfOk result (λ matches. fault_of asm_command (map string_bytes words.now) ≡ []) }
-    ensures rows { IfOk result (λ matches. rows_of (found_of matches) ≡ matches_of asm_command (map string_bytes words.now)) }
-    ensures usage { IsErrOf result WordsError.Usage → fault_of asm_command (map string_bytes words.now) ≢ [] }
+    ensures rows { IfOk result (λ matches. rows_of (found_of matches)
+        ≡ matches_of asm_command (map string_bytes words.now)) }
+    ensures usage { IsErrOf result WordsError.Usage
+        → fault_of asm_command (map string_bytes words.now) ≢ [] }
 {
     let command = command(alloc)?;
     match command.try_get_matches_from(words) {

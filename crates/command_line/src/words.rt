@@ -55,8 +55,11 @@ impl<T: Drop> From<AllocFailed<T>> for WordsError {
 
 /// Reads the words that follow the program's own name: options anywhere before a `--`, and all others as images.
 pub fn read_words(alloc: Global, words: &[String]) -> Result<Words, WordsError>
-    ensures read { IfOk result (λ read. IsRead (map string_bytes words.now) read.generate (map string_bytes read.images.items)) }
-    ensures usage { IsErrOf result WordsError.Usage → (generate : Option ℕ) (images : List WordBytes) → IsRead (map string_bytes words.now) generate images → ⊥ }
+    ensures read { IfOk result (λ read. IsRead (map string_bytes words.now) read.generate
+        (map string_bytes read.images.items)) }
+    ensures usage { IsErrOf result WordsError.Usage
+        → (generate : Option ℕ) (images : List WordBytes)
+        → IsRead (map string_bytes words.now) generate images → ⊥ }
 {
     let matches = parse(alloc, words)?;
     let paths = matches.get_strs("IMAGE").unwrap_or(&[]);
@@ -65,7 +68,8 @@ pub fn read_words(alloc: Global, words: &[String]) -> Result<Words, WordsError>
 
 // Takes the number and the paths, where they meet what is asked of them.
 fn take(alloc: Global, number: Option<&str>, paths: &[&str]) -> Result<Words, WordsError>
-    ensures taken { IfOk result (λ read. IsTaken (option_map (λ s. s.now) number.entry) (texts paths.now) read.generate (map string_bytes read.images.items)) }
+    ensures taken { IfOk result (λ read. IsTaken (option_map (λ s. s.now) number.entry)
+        (texts paths.now) read.generate (map string_bytes read.images.items)) }
     ensures usage { IsErrOf result WordsError.Usage → (generate : Option ℕ) (images : List WordBytes)
         → IsTaken (option_map (λ s. s.now) number.entry) (texts paths.now) generate images → ⊥ }
 {
@@ -85,7 +89,8 @@ fn take(alloc: Global, number: Option<&str>, paths: &[&str]) -> Result<Words, Wo
 fn take_generator(alloc: Global, text: &str, paths: &[&str]) -> Result<Words, WordsError>
     requires few { length (texts paths.now) ≤ 512 }
     requires distinct { has_twice (texts paths.now) ≡ false }
-    ensures taken { IfOk result (λ read. IsTaken (Some text.now) (texts paths.now) read.generate (map string_bytes read.images.items)) }
+    ensures taken { IfOk result (λ read. IsTaken (Some text.now) (texts paths.now) read.generate
+        (map string_bytes read.images.items)) }
     ensures usage { IsErrOf result WordsError.Usage → (generate : Option ℕ) (images : List WordBytes)
         → IsTaken (Some text.now) (texts paths.now) generate images → ⊥ }
 {

@@ -23,7 +23,8 @@ fn settle<B: Bay>(
 ) -> Result<(), Fault>
     requires copy { IsCopy (B.state bay.old) copy }
     requires pages { IsTrue (are_pages copy.dir_blocks due.now) }
-    requires kept { (number : ℕ) × (page : ℕ → Bytes) × NowOnly (B.state bay.old) (IsKept copy due.now number page) }
+    requires kept { (number : ℕ) × (page : ℕ → Bytes)
+        × NowOnly (B.state bay.old) (IsKept copy due.now number page) }
     requires logs { is_settled ≡ true → AreLogsSettled copy (B.state bay.old) }
     ensures { SettlesCopy result copy due.now (B.state bay.old) (B.state bay.new) }
 {
@@ -46,7 +47,8 @@ fn log_and_home<B: Bay>(
     requires copy { IsCopy (B.state bay.old) copy }
     requires small { number < 2 ^ 64 - 1 }
     requires put { ArePut copy number pages.now }
-    requires settled { Earlier number (λ before page. NowOnly (B.state bay.old) (IsSettled copy before page)) }
+    requires settled { Earlier number (λ before page. NowOnly (B.state bay.old)
+        (IsSettled copy before page)) }
     requires logs { AreLogsSettled copy (B.state bay.old) }
     ensures { LogsAndHomes result copy number pages.now (B.state bay.old) (B.state bay.new) }
 {
@@ -67,7 +69,8 @@ fn commit_one<B: Bay>(
     requires due { IsTrue (are_pages copy.dir_blocks due.now) }
     requires small { number < 2 ^ 64 - 1 }
     requires put { ArePut copy number pages.now }
-    requires kept { Earlier number (λ before page. NowOnly (B.state bay.old) (IsKept copy due.now before page)) }
+    requires kept { Earlier number (λ before page. NowOnly (B.state bay.old)
+        (IsKept copy due.now before page)) }
     requires logs { is_settled ≡ true → AreLogsSettled copy (B.state bay.old) }
     ensures { CommitsOne result copy due.now number pages.now (B.state bay.old) (B.state bay.new) }
 {
@@ -89,7 +92,8 @@ pub(crate) fn commit_all<B: Bay>(
     requires apart { AreCopiesApart copies.now }
     requires small { number < 2 ^ 64 - 1 }
     requires put { MayPutOn copies.now number pages.now }
-    requires kept { Earlier number (λ before page. NowOnly (B.state bay.old) (AreKept copies.now dues.now before page)) }
+    requires kept { Earlier number (λ before page. NowOnly (B.state bay.old)
+        (AreKept copies.now dues.now before page)) }
     requires logs { is_settled ≡ true → AllLogsSettled copies.now (B.state bay.old) }
     ensures { CommitsPages copies.now dues.now number pages.now result
         (B.state bay.old) (B.state bay.new) }

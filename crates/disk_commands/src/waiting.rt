@@ -210,7 +210,8 @@ impl GroupWork for ResyncDisk {
 
 /// Puts the line of what waited behind others, and answers the refusal that it ended with.
 fn put_waited(lines: &mut List<Text>, waited: Waited) -> Result<(), Refusal>
-    ensures { IfErr result (λ refusal. (waited.refusal ≡ Some refusal) ⊎ (refusal ≡ cause.NoMemory)) }
+    ensures { IfErr result (λ refusal. (waited.refusal ≡ Some refusal)
+        ⊎ (refusal ≡ cause.NoMemory)) }
 {
     let Waited { line, refusal } = waited;
     match (lines.push(line), refusal) {
@@ -256,7 +257,8 @@ fn rebalance_all<B: Bay>(
 ) -> Result<(), Refusal>
     requires ready { AreReady session.old.groups (B.state bay.old) }
     ensures carries { CarriesOn session.old session.new (B.state bay.old) (B.state bay.new) }
-    ensures why { IfErr result (λ refusal. WaitCause session.new name.now (meaning_of (λ _. []) refusal)) }
+    ensures why { IfErr result (λ refusal. WaitCause session.new name.now
+        (meaning_of (λ _. []) refusal)) }
 {
     match session.work(alloc, bay, name, RebalanceAll { power }) {
         Ok(waited) => put_waited(lines, waited),

@@ -48,7 +48,8 @@ ghost use Rattle.asm_formats.specs.asm_group.Names.{is_name};
 ghost use Rattle.asm_formats.specs.Items.{disk_item, is_item};
 
 fn is_allowed(disk: u8, birth: u64, name: &Name, failgroup: &Name) -> bool
-    ensures { result ≡ is_item (disk_item disk (record { birth = birth; name = name.now; failgroup = failgroup.now })) }
+    ensures { result ≡ is_item (disk_item disk
+        (record { birth = birth; name = name.now; failgroup = failgroup.now })) }
 {
     // Reading a number shows that it is one of its type.
     let _birth = birth;

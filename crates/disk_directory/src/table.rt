@@ -61,7 +61,8 @@ pub fn is_mine(key: Key) -> bool
 /// What the value of a disk's record spells, or None where it is no disk's.
 fn info_in(alloc: Global, key: Key, value: &Value) -> Result<Option<DiskInfo>, NoMemory>
     requires { IsTrue (is_key_of_disk key) }
-    ensures { IfOk result (λ read. entry_of_record disk_of_item (key, value.now) ≡ option_map (λ d. (key.a, d)) read) }
+    ensures { IfOk result (λ read. entry_of_record disk_of_item (key, value.now)
+        ≡ option_map (λ d. (key.a, d)) read) }
 {
     let read = read_bytes(alloc, value.as_bytes())?;
     Ok(read)

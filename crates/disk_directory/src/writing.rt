@@ -40,7 +40,8 @@ fn disk_value(
 ) -> Result<Value, NoMemory>
     requires name { IsTrue (is_name name.now) }
     requires failgroup { IsTrue (is_name failgroup.now) }
-    ensures { IfOk result (λ v. v ≡ value (disk_item number (record { birth = birth; name = name.now; failgroup = failgroup.now }))) }
+    ensures { IfOk result (λ v. v ≡ value
+        (disk_item number (record { birth = birth; name = name.now; failgroup = failgroup.now }))) }
 {
     let mut block = Block::zeros();
     let mut to = Writer {

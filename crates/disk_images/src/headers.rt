@@ -36,7 +36,8 @@ pub fn write_header<B: Bay>(bay: &mut B, slot: u32, header: &Header) -> Result<(
     ensures call { Call result slot (MayPut (gated_slot_at 0 1 header.now.shape.sector) slot (header_spelling header.now))
         (ChangesEachImage (HasPut (gated_slot_at 0 1 header.now.shape.sector) slot (header_spelling header.now)))
         (cost 8 (2 * header.now.shape.sector + 4096)) (B.state bay.old) (B.state bay.new) }
-    ensures there { OnOk result (NowOnly (B.state bay.new) (λ image. header_in image slot ≡ Some header.now)) }
+    ensures there { OnOk result (NowOnly (B.state bay.new)
+        (λ image. header_in image slot ≡ Some header.now)) }
 {
     let mut block = Block::zeros();
     encode(header, &mut block);

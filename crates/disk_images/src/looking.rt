@@ -29,9 +29,11 @@ pub fn look_at_images<B: Bay>(
     paths: &[String],
 ) -> Result<Vec<Looked>, NoMemory>
     requires few { length paths.now ≤ 512 }
-    ensures looks { Looks (λ slot. slot < length paths.now) (4 * length paths.now) (B.state bay.old) (B.state bay.new) }
+    ensures looks { Looks (λ slot. slot < length paths.now) (4 * length paths.now) (B.state bay.old)
+        (B.state bay.new) }
     ensures count { IfOk result (λ found. length found.items ≡ length paths.now) }
-    ensures each { IfOk result (λ found. AreLooked found.items (B.state bay.old) (B.state bay.new)) }
+    ensures each { IfOk result (λ found. AreLooked found.items (B.state bay.old)
+        (B.state bay.new)) }
 {
     let mut found = Vec::new(alloc);
     for (slot, path) in paths.iter().enumerate() {
@@ -56,7 +58,8 @@ pub fn look_at<B: Bay>(
     path: &str,
 ) -> Result<Looked, NoMemory>
     ensures looks { Looks (IsSlot slot) 4 (B.state bay.old) (B.state bay.new) }
-    ensures looked { IfOk result (λ looked. IsLooked slot looked (B.state bay.old) (B.state bay.new)) }
+    ensures looked { IfOk result (λ looked. IsLooked slot looked (B.state bay.old)
+        (B.state bay.new)) }
 {
     let size = match bay.attach(slot, path) {
         Ok(size) => size,
@@ -78,7 +81,8 @@ fn settled_header<B: Bay>(
     size: u64,
 ) -> Result<Option<Header>, BayError>
     requires attached { (B.state bay.old).attached slot ≡ Some size }
-    ensures { ReadsHeader slot 3 (IsAllowed size) (IsHeaderLeft slot) result (B.state bay.old) (B.state bay.new) }
+    ensures { ReadsHeader slot 3 (IsAllowed size) (IsHeaderLeft slot) result (B.state bay.old)
+        (B.state bay.new) }
 {
     match bay.sync(slot) {
         Ok(()) => read_header(alloc, bay, slot, size),
@@ -94,7 +98,8 @@ pub fn read_header<B: Bay>(
     size: u64,
 ) -> Result<Option<Header>, BayError>
     requires attached { (B.state bay.old).attached slot ≡ Some size }
-    ensures { ReadsHeader slot 2 (IsAllowed size) (IsHeaderHeld slot) result (B.state bay.old) (B.state bay.new) }
+    ensures { ReadsHeader slot 2 (IsAllowed size) (IsHeaderHeld slot) result (B.state bay.old)
+        (B.state bay.new) }
 {
     if size < LEAST_SIZE {
         return Ok(None);
@@ -110,7 +115,8 @@ pub fn read_header<B: Bay>(
 fn read_body<B: Bay>(alloc: Global, bay: &mut B, slot: u32) -> Result<Option<Header>, BayError>
     requires attached { IsSome ((B.state bay.old).attached slot) }
     requires long { 8192 ≤ size_of (B.state bay.old) slot }
-    ensures { ReadsHeader slot 1 (λ header. IsTrue (is_header header)) (IsDecoded slot) result (B.state bay.old) (B.state bay.new) }
+    ensures { ReadsHeader slot 1 (λ header. IsTrue (is_header header)) (IsDecoded slot) result
+        (B.state bay.old) (B.state bay.new) }
 {
     let mut block = Block::zeros();
     if bay.read(slot, BLOCK, &mut block.bytes[..]).is_err() {

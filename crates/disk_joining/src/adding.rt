@@ -323,8 +323,10 @@ pub fn add_disks<B: Bay>(
     ensures taken { TakesIn known.now.held.items m.old m.new (B.state bay.old) (B.state bay.new) }
     ensures mounted { OnOk result (IsMounted m.new) }
     // Each disk that is named shows its header then, with the least free number, and has an entry of that number and its birth.
-    ensures joined { OnOk result (HaveJoined (asked_disks m.old groups.now) (given_numbers m.old groups.now) m.new (B.state bay.new)) }
-    ensures cause { IfErr result (AddCause (map string_bytes paths.now) groups.now known.now m.old m.new (B.state bay.old) (B.state bay.new)) }
+    ensures joined { OnOk result (HaveJoined (asked_disks m.old groups.now)
+        (given_numbers m.old groups.now) m.new (B.state bay.new)) }
+    ensures cause { IfErr result (AddCause (map string_bytes paths.now) groups.now known.now m.old
+        m.new (B.state bay.old) (B.state bay.new)) }
 {
     match m.takes_calls() {
         Ok(()) => {}

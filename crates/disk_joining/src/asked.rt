@@ -54,7 +54,8 @@ fn put_disk(new: PlannedDisk, terms: Terms, number: u8, asked: &mut Asked) -> Re
     requires most { number ≤ 64 }
     ensures disks { OnOk result (asked.new.disks.items ≡ asked.old.disks.items ++ new ∷ []) }
     ensures terms { OnOk result (asked.new.terms.items ≡ asked.old.terms.items ++ terms ∷ []) }
-    ensures numbers { OnOk result (asked.new.numbers.items ≡ asked.old.numbers.items ++ number ∷ []) }
+    ensures numbers { OnOk result (asked.new.numbers.items
+        ≡ asked.old.numbers.items ++ number ∷ []) }
     ensures next { OnOk result (asked.new.next ≡ number + 1) }
 {
     asked.disks.push(new).map_err(|_| NoMemory)?;
@@ -72,10 +73,16 @@ fn put_disks(
     disks: &[NewDisk],
     asked: &mut Asked,
 ) -> Result<(), NoMemory>
-    ensures disks { OnOk result (asked.new.disks.items ≡ asked.old.disks.items ++ asked_in m.now.name m.now.register.value.entries asked.old.next failgroup.now disks.now) }
-    ensures terms { OnOk result (asked.new.terms.items ≡ asked.old.terms.items ++ terms_in disks.now) }
-    ensures numbers { OnOk result (asked.new.numbers.items ≡ asked.old.numbers.items ++ given_in m.now.register.value.entries asked.old.next disks.now) }
-    ensures next { OnOk result (asked.new.next ≡ number_after m.now.register.value.entries asked.old.next disks.now) }
+    ensures disks { OnOk result (asked.new.disks.items
+        ≡ asked.old.disks.items ++ asked_in m.now.name m.now.register.value.entries asked.old.next
+        failgroup.now disks.now) }
+    ensures terms { OnOk result (asked.new.terms.items
+        ≡ asked.old.terms.items ++ terms_in disks.now) }
+    ensures numbers { OnOk result (asked.new.numbers.items
+        ≡ asked.old.numbers.items ++ given_in m.now.register.value.entries asked.old.next
+        disks.now) }
+    ensures next { OnOk result (asked.new.next
+        ≡ number_after m.now.register.value.entries asked.old.next disks.now) }
 {
     let [first, rest @ ..] = disks else {
         return Ok(());
@@ -97,9 +104,14 @@ fn put_groups(
     groups: &[NewFailgroup],
     asked: &mut Asked,
 ) -> Result<(), NoMemory>
-    ensures disks { OnOk result (asked.new.disks.items ≡ asked.old.disks.items ++ asked_from m.now.name m.now.register.value.entries asked.old.next groups.now) }
-    ensures terms { OnOk result (asked.new.terms.items ≡ asked.old.terms.items ++ terms_of groups.now) }
-    ensures numbers { OnOk result (asked.new.numbers.items ≡ asked.old.numbers.items ++ given_from m.now.register.value.entries asked.old.next groups.now) }
+    ensures disks { OnOk result (asked.new.disks.items
+        ≡ asked.old.disks.items ++ asked_from m.now.name m.now.register.value.entries asked.old.next
+        groups.now) }
+    ensures terms { OnOk result (asked.new.terms.items
+        ≡ asked.old.terms.items ++ terms_of groups.now) }
+    ensures numbers { OnOk result (asked.new.numbers.items
+        ≡ asked.old.numbers.items ++ given_from m.now.register.value.entries asked.old.next
+        groups.now) }
 {
     let [first, rest @ ..] = groups else {
         return Ok(());
@@ -137,7 +149,8 @@ pub fn asked_disks(alloc: Global, m: &Mounted, groups: &[NewFailgroup]) -> Resul
     ensures disks { IfOk result (λ asked. asked.disks.items ≡ asked_disks m.now groups.now) }
     ensures terms { IfOk result (λ asked. asked.terms.items ≡ terms_of groups.now) }
     ensures numbers { IfOk result (λ asked. asked.numbers.items ≡ given_numbers m.now groups.now) }
-    ensures refused { IfErr result (λ refusal. IsTooManyMore m.now.register.value.entries groups.now (meaning_of (λ _. []) refusal)) }
+    ensures refused { IfErr result (λ refusal. IsTooManyMore m.now.register.value.entries groups.now
+        (meaning_of (λ _. []) refusal)) }
 {
     if !has_room(m, groups) {
         return Err(Refusal::TooMany {

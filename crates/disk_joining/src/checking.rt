@@ -33,7 +33,8 @@ fn has_shape(m: &Mounted, disk: &Headed) -> bool
 
 /// Whether the disk may be written: its image was read and is long enough, and neither this group nor another has it.
 fn is_free(m: &Mounted, looked: &[Looked], held: &[u32], disk: &Headed) -> bool
-    ensures { result ≡ (is_image_there looked.now held.now disk.now && not (has_disk_in_slot m.now.disks disk.now.slot)) }
+    ensures { result ≡ (is_image_there looked.now held.now disk.now
+        && not (has_disk_in_slot m.now.disks disk.now.slot)) }
 {
     is_there(looked, held, disk) && !is_own(m, disk.slot)
 }

@@ -15,7 +15,8 @@ use new_groups::Headed;
 /// Closes the gates of a disk, and gives it its header.
 fn give_header<B: Bay>(bay: &mut B, disk: &Headed, shape: Shape) -> Result<(), Fault>
     requires shape { IsTrue (is_shape shape) }
-    requires region { HasAttachedRegion (B.state bay.old) disk.now.slot shape.sector shape.dir_blocks }
+    requires region { HasAttachedRegion (B.state bay.old) disk.now.slot shape.sector
+        shape.dir_blocks }
     requires header { IsHeadable disk.now (B.state bay.old) }
     ensures works { Works (disk.now ∷ []) (B.state bay.old) (B.state bay.new) }
     ensures shows { OnOk result (ShowsHeader disk.now (B.state bay.new)) }

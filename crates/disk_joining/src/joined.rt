@@ -14,7 +14,8 @@ use new_groups::Headed;
 pub fn attach_all<B: Bay>(m: &mut Mounted, bay: &B, held: &[u32], disks: &[Headed])
     requires takes { Takes m.old (B.state bay.now) }
     requires apart { IsApart held.now m.old }
-    requires attached { (h : Disk) → IsAmong disks.now h → (B.state bay.now).attached h.slot ≡ Some h.size }
+    requires attached { (h : Disk) → IsAmong disks.now h
+        → (B.state bay.now).attached h.slot ≡ Some h.size }
     ensures taken { TakesIn held.now m.old m.new (B.state bay.now) (B.state bay.now) }
     ensures same { m.new.access ≡ m.old.access }
     ensures value { m.new.register.value ≡ m.old.register.value }

@@ -133,7 +133,8 @@ fn checked(
     looked: &[Looked],
 ) -> Result<Joining, Refusal>
     ensures may { IfOk result (λ joining. may_join m.now looked.now held.now joining ≡ true) }
-    ensures asked { IfOk result (λ joining. are_asked joining.disks.items asked.now.disks.items asked.now.numbers.items ≡ true) }
+    ensures asked { IfOk result (λ joining. are_asked joining.disks.items asked.now.disks.items
+        asked.now.numbers.items ≡ true) }
     ensures refused { IfErr result (λ refusal. meaning_of (λ _. []) refusal ≡ NoMemoryLeft) }
 {
     let joining = match joining_of(alloc, m, asked, fitting) {
@@ -160,9 +161,12 @@ fn planned(
 ) -> Result<Joining, Refusal>
     requires few { length paths.now ≤ 512 }
     requires shape { IsTrue (is_shape m.now.catalog.shape) }
-    ensures may { IfOk result (λ joining. may_join m.now looked.now known.now.held.items joining ≡ true) }
-    ensures asked { IfOk result (λ joining. are_asked joining.disks.items asked.now.disks.items asked.now.numbers.items ≡ true) }
-    ensures refused { IfErr result (λ refusal. IsUnfit known.now m.now (map string_bytes paths.now) looked.now asked.now (meaning_of (λ _. []) refusal)) }
+    ensures may { IfOk result (λ joining. may_join m.now looked.now known.now.held.items joining
+        ≡ true) }
+    ensures asked { IfOk result (λ joining. are_asked joining.disks.items asked.now.disks.items
+        asked.now.numbers.items ≡ true) }
+    ensures refused { IfErr result (λ refusal. IsUnfit known.now m.now (map string_bytes paths.now)
+        looked.now asked.now (meaning_of (λ _. []) refusal)) }
 {
     let all = match known_with(alloc, m, known) {
         Ok(all) => all,
@@ -186,10 +190,14 @@ pub fn prepare<B: Bay>(
 ) -> Result<Joining, Refusal>
     requires few { length paths.now ≤ 512 }
     requires whole { IsWhole m.now }
-    ensures looks { Looks (λ slot. slot < length paths.now) (4 * length paths.now) (B.state bay.old) (B.state bay.new) }
-    ensures may { IfOk result (λ joining. CanJoin known.now.held.items m.now joining (B.state bay.new)) }
-    ensures asked { IfOk result (λ joining. are_asked joining.disks.items (asked_disks m.now groups.now) (given_numbers m.now groups.now) ≡ true) }
-    ensures refused { IfErr result (λ refusal. IsNotPrepared (map string_bytes paths.now) groups.now known.now m.now (meaning_of (λ _. []) refusal) (B.state bay.old) (B.state bay.new)) }
+    ensures looks { Looks (λ slot. slot < length paths.now) (4 * length paths.now) (B.state bay.old)
+        (B.state bay.new) }
+    ensures may { IfOk result (λ joining. CanJoin known.now.held.items m.now joining
+        (B.state bay.new)) }
+    ensures asked { IfOk result (λ joining. are_asked joining.disks.items
+        (asked_disks m.now groups.now) (given_numbers m.now groups.now) ≡ true) }
+    ensures refused { IfErr result (λ refusal. IsNotPrepared (map string_bytes paths.now) groups.now
+        known.now m.now (meaning_of (λ _. []) refusal) (B.state bay.old) (B.state bay.new)) }
 {
     let asked = match asked_disks(alloc, m, groups) {
         Ok(asked) => asked,

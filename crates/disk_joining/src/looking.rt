@@ -79,8 +79,12 @@ fn units_of(
     places: &[Place],
 ) -> Result<Vec<u32>, Refusal>
     requires shape { IsTrue (is_shape m.now.catalog.shape) }
-    ensures fit { OnOk result (first_refused (small_refusal m.now.catalog.shape) (creation_disks asked.now.disks.items asked.now.terms.items places.now) ≡ None) }
-    ensures refused { IfErr result (λ refusal. IsThisRefusal (first_refused (small_refusal m.now.catalog.shape) (creation_disks asked.now.disks.items asked.now.terms.items places.now)) (meaning_of (λ _. []) refusal)) }
+    ensures fit { OnOk result (first_refused (small_refusal m.now.catalog.shape)
+        (creation_disks asked.now.disks.items asked.now.terms.items places.now) ≡ None) }
+    ensures refused { IfErr result (λ refusal. IsThisRefusal
+        (first_refused (small_refusal m.now.catalog.shape)
+        (creation_disks asked.now.disks.items asked.now.terms.items places.now))
+        (meaning_of (λ _. []) refusal)) }
 {
     let shape = m.catalog().shape();
     let mut units = Vec::new(alloc);
@@ -99,8 +103,11 @@ fn units_of(
 
 /// Whether the directories have a block for each new disk. Refused as DirectoryFull.
 fn check_blocks(m: &Mounted, disks: &[PlannedDisk]) -> Result<(), Refusal>
-    ensures none { OnOk result (full_refusal (length disks.now) (free_blocks m.now.catalog) ≡ None) }
-    ensures refused { IfErr result (λ refusal. IsThisRefusal (full_refusal (length disks.now) (free_blocks m.now.catalog)) (meaning_of (λ _. []) refusal)) }
+    ensures none { OnOk result (full_refusal (length disks.now) (free_blocks m.now.catalog)
+        ≡ None) }
+    ensures refused { IfErr result (λ refusal. IsThisRefusal
+        (full_refusal (length disks.now) (free_blocks m.now.catalog))
+        (meaning_of (λ _. []) refusal)) }
 {
     let need = disks.len() as u64;
     let free = m.catalog().free_blocks();
@@ -121,9 +128,14 @@ fn free_places(
     looked: &[Looked],
 ) -> Result<Vec<Place>, Refusal>
     requires few { length paths.now ≤ 512 }
-    ensures places { IfOk result (λ places. places.items ≡ places_at (map string_bytes paths.now) looked.now asked.now.disks.items) }
-    ensures none { OnOk result (first_refusal (image_refusals all.now (map string_bytes paths.now) looked.now asked.now.disks.items asked.now.terms.items) ≡ None) }
-    ensures refused { IfErr result (λ refusal. IsThisRefusal (first_refusal (image_refusals all.now (map string_bytes paths.now) looked.now asked.now.disks.items asked.now.terms.items)) (meaning_of (λ _. []) refusal)) }
+    ensures places { IfOk result (λ places. places.items
+        ≡ places_at (map string_bytes paths.now) looked.now asked.now.disks.items) }
+    ensures none { OnOk result (first_refusal
+        (image_refusals all.now (map string_bytes paths.now) looked.now asked.now.disks.items
+        asked.now.terms.items) ≡ None) }
+    ensures refused { IfErr result (λ refusal. IsThisRefusal
+        (first_refusal (image_refusals all.now (map string_bytes paths.now) looked.now
+        asked.now.disks.items asked.now.terms.items)) (meaning_of (λ _. []) refusal)) }
 {
     let places = match find_places(alloc, paths, looked, &asked.disks) {
         Ok(places) => places,
@@ -144,7 +156,9 @@ fn right_units(
     places: &[Place],
 ) -> Result<Vec<u32>, Refusal>
     requires shape { IsTrue (is_shape m.now.catalog.shape) }
-    ensures refused { IfErr result (λ refusal. IsThisRefusal (first_refusal (group_refusals m.now asked.now.disks.items asked.now.terms.items places.now)) (meaning_of (λ _. []) refusal)) }
+    ensures refused { IfErr result (λ refusal. IsThisRefusal
+        (first_refusal (group_refusals m.now asked.now.disks.items asked.now.terms.items
+        places.now)) (meaning_of (λ _. []) refusal)) }
 {
     match check_names(alloc, m, &asked.disks) {
         Ok(()) => {}
@@ -172,7 +186,9 @@ pub fn fit_disks(
 ) -> Result<Fitting, Refusal>
     requires few { length paths.now ≤ 512 }
     requires shape { IsTrue (is_shape m.now.catalog.shape) }
-    ensures refused { IfErr result (λ refusal. IsThisRefusal (add_refusal all.now m.now (map string_bytes paths.now) looked.now asked.now) (meaning_of (λ _. []) refusal)) }
+    ensures refused { IfErr result (λ refusal. IsThisRefusal
+        (add_refusal all.now m.now (map string_bytes paths.now) looked.now asked.now)
+        (meaning_of (λ _. []) refusal)) }
 {
     let places = match free_places(alloc, paths, all, asked, looked) {
         Ok(places) => places,

@@ -15,7 +15,15 @@ use std::alloc::Global;
 
 /// A disk of the group by its entry and its record. What it holds is asked of none here.
 fn told_row(entry: &PstEntry, info: &DiskInfo) -> Result<DiskRow, NoMemory>
-    ensures { IfOk result (λ row. row ≡ record { number = entry.now.number; mode = entry.now.mode; failgroup = info.now.failgroup; quorum = entry.now.quorum; total = 0; free = 0; name = info.now.name }) }
+    ensures { IfOk result (λ row. row ≡ record {
+      number = entry.now.number;
+      mode = entry.now.mode;
+      failgroup = info.now.failgroup;
+      quorum = entry.now.quorum;
+      total = 0;
+      free = 0;
+      name = info.now.name;
+    }) }
 {
     Ok(DiskRow {
         number: entry.number,
@@ -44,7 +52,8 @@ fn put_rows(
     entries: &[PstEntry],
     rows: &mut Vec<DiskRow>,
 ) -> Result<(), NoMemory>
-    ensures { OnOk result (rows.new.items ≡ rows.old.items ++ filter_map (row_of catalog.now.tables.disks) entries.now) }
+    ensures { OnOk result (rows.new.items
+        ≡ rows.old.items ++ filter_map (row_of catalog.now.tables.disks) entries.now) }
 {
     let [entry, rest @ ..] = entries else {
         return Ok(());
@@ -70,7 +79,8 @@ fn group_rows(alloc: Global, m: &Mounted) -> Result<Vec<DiskRow>, NoMemory>
 /// Whether names, paths and failure groups don't clash.
 fn check_clash(rows: &[DiskRow], disks: &[PlannedDisk]) -> Result<(), Refusal>
     ensures none { OnOk result (names_refusal rows.now disks.now ≡ None) }
-    ensures refused { IfErr result (λ refusal. IsThisRefusal (names_refusal rows.now disks.now) (meaning_of (λ _. []) refusal)) }
+    ensures refused { IfErr result (λ refusal. IsThisRefusal (names_refusal rows.now disks.now)
+        (meaning_of (λ _. []) refusal)) }
 {
     if is_name_taken(rows, disks) {
         Err(Refusal::NameTaken)
@@ -83,7 +93,8 @@ fn check_clash(rows: &[DiskRow], disks: &[PlannedDisk]) -> Result<(), Refusal>
 /// NameTaken.
 pub fn check_names(alloc: Global, m: &Mounted, disks: &[PlannedDisk]) -> Result<(), Refusal>
     ensures none { OnOk result (names_refusal (group_rows m.now) disks.now ≡ None) }
-    ensures refused { IfErr result (λ refusal. IsThisRefusal (names_refusal (group_rows m.now) disks.now) (meaning_of (λ _. []) refusal)) }
+    ensures refused { IfErr result (λ refusal. IsThisRefusal
+        (names_refusal (group_rows m.now) disks.now) (meaning_of (λ _. []) refusal)) }
 {
     match group_rows(alloc, m) {
         Ok(rows) => check_clash(&rows, disks),

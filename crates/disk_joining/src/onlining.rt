@@ -22,7 +22,8 @@ use std::alloc::Global;
 fn check_state(m: &Mounted, disks: DiskSet, number: u8) -> Result<(), Refusal>
     requires lesser { PassBelow m.now.register.value.entries disks is_offline_entry number }
     ensures cause { IfErr result (JoinStateCause m.now disks) }
-    ensures passes { OnOk result (PassBelow m.now.register.value.entries disks is_offline_entry (number + 1)) }
+    ensures passes { OnOk result (PassBelow m.now.register.value.entries disks is_offline_entry
+        (number + 1)) }
 {
     if !disks.has(number) {
         return Ok(());
@@ -110,7 +111,8 @@ fn image_in(
 ) -> Option<DiskImage>
     ensures slot { IfSome result (λ image. image.slot ≡ slot) }
     ensures size { IfSome result (λ image. IsSize looked.now image.size) }
-    ensures shows { is_some result ≡ (shows_disk m.now.register.value.id entry looked.now && is_slot_free held.now m.now slot) }
+    ensures shows { is_some result ≡ (shows_disk m.now.register.value.id entry looked.now
+        && is_slot_free held.now m.now slot) }
 {
     match size_of(m.status().id, entry, looked) {
         Some(size) => {
@@ -183,9 +185,11 @@ fn check_image(
 ) -> Result<(), Refusal>
     requires few { length looked.now ≤ 512 }
     requires small { number < 64 }
-    requires lesser { PassBelow m.now.register.value.entries disks (is_present looked.now held.now m.now) number }
+    requires lesser { PassBelow m.now.register.value.entries disks
+        (is_present looked.now held.now m.now) number }
     ensures cause { IfErr result (ImageCause looked.now held.now m.now disks) }
-    ensures passes { OnOk result (PassBelow m.now.register.value.entries disks (is_present looked.now held.now m.now) (number + 1)) }
+    ensures passes { OnOk result (PassBelow m.now.register.value.entries disks
+        (is_present looked.now held.now m.now) (number + 1)) }
 {
     if !disks.has(number) {
         return Ok(());
@@ -322,7 +326,8 @@ pub fn online_disks<B: Bay>(
     // The group's parts agree, it takes the next call, and the disks of others stay.
     ensures taken { TakesIn held.now m.old m.new (B.state bay.old) (B.state bay.new) }
     ensures mounted { OnOk result (IsMounted m.new) }
-    ensures cause { IfErr result (OnlineCause (length paths.now) held.now m.old disks m.new (B.state bay.old) (B.state bay.new)) }
+    ensures cause { IfErr result (OnlineCause (length paths.now) held.now m.old disks m.new
+        (B.state bay.old) (B.state bay.new)) }
 {
     match m.takes_calls() {
         Ok(()) => {}

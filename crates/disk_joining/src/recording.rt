@@ -42,7 +42,8 @@ pub fn write_next<B: Bay>(
     requires takes { Takes m.old (B.state bay.old) }
     ensures goes { GoesOn m.old result m.new (B.state bay.old) (B.state bay.new) }
     ensures tables { m.new.catalog.tables ≡ m.old.catalog.tables }
-    ensures recorded { OnOk result (m.new.register.value ≡ with_next_number m.old.register next.now) }
+    ensures recorded { OnOk result (m.new.register.value
+        ≡ with_next_number m.old.register next.now) }
 {
     if !m.may_get(next) {
         return Err(Refusal::NoMemory);

@@ -80,7 +80,8 @@ pub fn give_back<B: Bay>(
     requires joiners { AreJoiners held.now m.old disks.now (B.state bay.old) }
     requires inside { failed < length disks.now }
     ensures taken { TakesIn held.now m.old m.new (B.state bay.old) (B.state bay.new) }
-    ensures cause { IsWriteFault result ⊎ StepCause m.old m.new (B.state bay.old) (B.state bay.new) result }
+    ensures cause { IsWriteFault result ⊎ StepCause m.old m.new (B.state bay.old) (B.state bay.new)
+        result }
 {
     let _held = held;
     let shape = m.catalog().shape();

@@ -37,7 +37,8 @@ pub(crate) fn change_disks<B: Bay>(
     requires takes { Takes m.old (B.state bay.old) }
     ensures goes { GoesOn m.old result m.new (B.state bay.old) (B.state bay.new) }
     ensures done { OnOk result (MakesChanges changes.now new.now m.old m.new) }
-    ensures held { MayMakeChanges changes.now new.now m.old → StaysHeld m.old m.new (B.state bay.old) (B.state bay.new) }
+    ensures held { MayMakeChanges changes.now new.now m.old
+        → StaysHeld m.old m.new (B.state bay.old) (B.state bay.new) }
 {
     m.set_flight(None);
     make_changes(m, alloc, bay, new, changes)
@@ -54,7 +55,8 @@ fn make_changes<B: Bay>(
     requires takes { Takes m.old (B.state bay.old) }
     ensures goes { GoesOn m.old result m.new (B.state bay.old) (B.state bay.new) }
     ensures done { OnOk result (MakesChanges changes.now new.now m.old m.new) }
-    ensures held { MayMakeChanges changes.now new.now m.old → StaysHeld m.old m.new (B.state bay.old) (B.state bay.new) }
+    ensures held { MayMakeChanges changes.now new.now m.old
+        → StaysHeld m.old m.new (B.state bay.old) (B.state bay.new) }
 {
     match *changes {
         Changes::Modes => put_modes(m, alloc, bay, new),
@@ -75,7 +77,8 @@ fn rebalance_first<B: Bay>(
     requires takes { Takes m.old (B.state bay.old) }
     ensures goes { GoesOn m.old result m.new (B.state bay.old) (B.state bay.new) }
     ensures done { OnOk result (PutsBoth power new.now m.old m.new) }
-    ensures held { MayMakeChanges (changes.RebalanceThenModes power) new.now m.old → StaysHeld m.old m.new (B.state bay.old) (B.state bay.new) }
+    ensures held { MayMakeChanges (changes.RebalanceThenModes power) new.now m.old
+        → StaysHeld m.old m.new (B.state bay.old) (B.state bay.new) }
 {
     match put_rebalance(m, alloc, bay, Some(power)) {
         Ok(()) => modes_or_shut(m, alloc, bay, new),
@@ -94,7 +97,8 @@ fn modes_first<B: Bay>(
     requires takes { Takes m.old (B.state bay.old) }
     ensures goes { GoesOn m.old result m.new (B.state bay.old) (B.state bay.new) }
     ensures done { OnOk result (PutsBoth power new.now m.old m.new) }
-    ensures held { MayMakeChanges (changes.ModesThenRebalance power) new.now m.old → StaysHeld m.old m.new (B.state bay.old) (B.state bay.new) }
+    ensures held { MayMakeChanges (changes.ModesThenRebalance power) new.now m.old
+        → StaysHeld m.old m.new (B.state bay.old) (B.state bay.new) }
 {
     match put_modes(m, alloc, bay, new) {
         Ok(()) => rebalance_or_shut(m, alloc, bay, power),
@@ -113,7 +117,8 @@ fn modes_or_shut<B: Bay>(
     requires takes { Takes m.old (B.state bay.old) }
     ensures goes { GoesOn m.old result m.new (B.state bay.old) (B.state bay.new) }
     ensures done { OnOk result (PutsModes new.now m.old m.new) }
-    ensures held { MayPutModes new.now m.old.register.value → StaysHeld m.old m.new (B.state bay.old) (B.state bay.new) }
+    ensures held { MayPutModes new.now m.old.register.value
+        → StaysHeld m.old m.new (B.state bay.old) (B.state bay.new) }
 {
     match put_modes(m, alloc, bay, new) {
         Ok(()) => Ok(()),
@@ -159,7 +164,8 @@ fn put_modes<B: Bay>(
     requires takes { Takes m.old (B.state bay.old) }
     ensures goes { GoesOn m.old result m.new (B.state bay.old) (B.state bay.new) }
     ensures done { OnOk result (PutsModes new.now m.old m.new) }
-    ensures held { MayPutModes new.now m.old.register.value → StaysHeld m.old m.new (B.state bay.old) (B.state bay.new) }
+    ensures held { MayPutModes new.now m.old.register.value
+        → StaysHeld m.old m.new (B.state bay.old) (B.state bay.new) }
 {
     match next_record(alloc, m.status(), new) {
         Ok(next) => m.set_status(alloc, bay, &next),

@@ -59,7 +59,8 @@ pub fn drop_disks<B: Bay>(
     ensures mounted { OnOk result (IsMounted m.new) }
     // Each disk that the statement names has the mode of its last option, and those with FORCE no directory copy.
     ensures done { OnOk result (DropsDisks disks.now power m.old m.new) }
-    ensures cause { IfErr result (λ refusal. DropRefused m.old disks.now refusal ⊎ StatusCause m.old m.new (B.state bay.old) (B.state bay.new) refusal) }
+    ensures cause { IfErr result (λ refusal. DropRefused m.old disks.now refusal
+        ⊎ StatusCause m.old m.new (B.state bay.old) (B.state bay.new) refusal) }
     // The group stays the one that it is, where turns don't run out: at each moment each image is held for it alone, whatever the
     // answer, and while it takes calls it is mounted. The record takes a turn; that of the commit costs a copy.
     ensures held { HasTwoTurns m.old → StaysHeld m.old m.new (B.state bay.old) (B.state bay.new) }
@@ -88,8 +89,10 @@ fn named_by(disks: &[DropDisk]) -> Named
 
 /// One disk more.
 fn and_named(named: Named, disk: u8, force: bool) -> Named
-    ensures dropping { (d : ℕ) → d < 64 → has_bit result.dropping d ≡ (if d == disk then not force else has_bit named.dropping d) }
-    ensures forced { (d : ℕ) → d < 64 → has_bit result.forced d ≡ (if d == disk then force else has_bit named.forced d) }
+    ensures dropping { (d : ℕ) → d < 64 → has_bit result.dropping d
+        ≡ (if d == disk then not force else has_bit named.dropping d) }
+    ensures forced { (d : ℕ) → d < 64 → has_bit result.forced d
+        ≡ (if d == disk then force else has_bit named.forced d) }
 {
     if disk >= 64 {
         return named;
@@ -110,8 +113,11 @@ fn and_named(named: Named, disk: u8, force: bool) -> Named
 /// Tries the refusals of a DROP.
 fn check_drop(m: &Mounted, disks: &[DropDisk], named: &Named) -> Result<(), Refusal>
     requires { IsWhole m.now }
-    ensures cause { IfErr result (DropDisksCause m.now disks.now named.now.dropping named.now.forced) }
-    ensures may { AreNamedToDrop disks.now named.now.dropping named.now.forced → OnOk result (MayPutModes (modes.Dropped named.now.dropping named.now.forced) m.now.register.value) }
+    ensures cause { IfErr result (DropDisksCause m.now disks.now named.now.dropping
+        named.now.forced) }
+    ensures may { AreNamedToDrop disks.now named.now.dropping named.now.forced
+        → OnOk result (MayPutModes (modes.Dropped named.now.dropping named.now.forced)
+        m.now.register.value) }
 {
     match check_named(m, disks, named) {
         Ok(()) => check_copies(m, named),
@@ -222,8 +228,11 @@ fn drop_named<B: Bay>(
     requires mounted { IsMounted m.old }
     requires takes { Takes m.old (B.state bay.old) }
     ensures goes { GoesOn m.old result m.new (B.state bay.old) (B.state bay.new) }
-    ensures done { OnOk result (PutsBoth power (modes.Dropped named.now.dropping named.now.forced) m.old m.new) }
-    ensures held { MayPutModes (modes.Dropped named.now.dropping named.now.forced) m.old.register.value → HasTwoTurns m.old → StaysHeld m.old m.new (B.state bay.old) (B.state bay.new) }
+    ensures done { OnOk result (PutsBoth power (modes.Dropped named.now.dropping named.now.forced)
+        m.old m.new) }
+    ensures held { MayPutModes (modes.Dropped named.now.dropping named.now.forced)
+        m.old.register.value → HasTwoTurns m.old
+        → StaysHeld m.old m.new (B.state bay.old) (B.state bay.new) }
 {
     let changes = changes_for(named, power);
     change_disks(m, alloc, bay, &modes_of(named), &changes)

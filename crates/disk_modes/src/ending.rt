@@ -53,7 +53,8 @@ fn expire_disk<B: Bay>(m: &mut Mounted, alloc: Global, bay: &mut B, disk: u8) ->
     requires takes { Takes m.old (B.state bay.old) }
     ensures goes { GoesOn m.old result m.new (B.state bay.old) (B.state bay.new) }
     ensures done { OnOk result (DropsByForce disk m.old m.new) }
-    ensures held { may_go m.old.catalog m.old.register.value disk ≡ true → HasTwoTurns m.old → StaysHeld m.old m.new (B.state bay.old) (B.state bay.new) }
+    ensures held { may_go m.old.catalog m.old.register.value disk ≡ true → HasTwoTurns m.old
+        → StaysHeld m.old m.new (B.state bay.old) (B.state bay.new) }
 {
     let new = NewModes::Dropped {
         dropping: DiskSet::empty(),

@@ -33,14 +33,16 @@ impl GroupSort {
 
 /// The number of the disk of a name, in any case of letters.
 pub fn disk_named(m: &Mounted, name: &Name) -> Option<u8>
-    ensures { result ≡ number_of_entry_if_any (find (has_disk_name m.now.catalog name.now) m.now.register.value.entries) }
+    ensures { result ≡ number_of_entry_if_any
+        (find (has_disk_name m.now.catalog name.now) m.now.register.value.entries) }
 {
     first_named(m, m.status().entries(), name)
 }
 
 /// The number of the first of the disks that has the name.
 fn first_named(m: &Mounted, entries: &[PstEntry], name: &Name) -> Option<u8>
-    ensures { result ≡ number_of_entry_if_any (find (has_disk_name m.now.catalog name.now) entries.now) }
+    ensures { result ≡ number_of_entry_if_any
+        (find (has_disk_name m.now.catalog name.now) entries.now) }
 {
     for entry in entries {
         if has_name(m, entry, name) {
@@ -62,8 +64,11 @@ fn has_name(m: &Mounted, entry: &PstEntry, name: &Name) -> bool
 
 /// The disks of the failure group of a name, in any case of letters. None where there is none of that name and sort.
 pub fn disks_in_group(m: &Mounted, sort: GroupSort, name: &Name) -> Option<DiskSet>
-    ensures some { IfSome result (λ disks. (disks ≢ 0) × IsSetOf (is_in_failgroup_of_sort m.now.catalog sort name.now) m.now.register.value.entries disks) }
-    ensures none { IfNone result (IsSetOf (is_in_failgroup_of_sort m.now.catalog sort name.now) m.now.register.value.entries 0) }
+    ensures some { IfSome result (λ disks. (disks ≢ 0)
+        × IsSetOf (is_in_failgroup_of_sort m.now.catalog sort name.now) m.now.register.value.entries
+        disks) }
+    ensures none { IfNone result (IsSetOf (is_in_failgroup_of_sort m.now.catalog sort name.now)
+        m.now.register.value.entries 0) }
 {
     let disks = all_in_group(m, m.status().entries(), sort, name);
     if disks.bits() == 0 {

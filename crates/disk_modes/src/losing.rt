@@ -44,7 +44,8 @@ fn losing_in_chunk(
     extents: &[Homes],
 ) -> Option<Extent>
     requires { length extents.now ≤ 256 }
-    ensures { result ≡ find (is_losing counted.now disks.now named) (chunk_extents catalog.now (at, extents.now)) }
+    ensures { result ≡ find (is_losing counted.now disks.now named)
+        (chunk_extents catalog.now (at, extents.now)) }
 {
     let Some(copies) = catalog.copies_of(at.0) else {
         return None;
@@ -66,7 +67,8 @@ fn losing_in_row(
     requires copies { copies ≤ 3 }
     requires few { length extents.now ≤ 256 }
     requires numbers { first + 256 < 2 ^ 63 }
-    ensures { result ≡ find (is_losing counted.now disks.now named) (extents_from catalog.now file copies first extents.now) }
+    ensures { result ≡ find (is_losing counted.now disks.now named)
+        (extents_from catalog.now file copies first extents.now) }
 {
     let mut index = first;
     for homes in extents {
@@ -90,7 +92,8 @@ fn losing_there(
     homes: &Homes,
 ) -> Option<Extent>
     requires { copies ≤ 3 }
-    ensures { result ≡ find (is_losing counted.now disks.now named) (with_extent_if_any (extent_there catalog.now file copies index homes.now) []) }
+    ensures { result ≡ find (is_losing counted.now disks.now named)
+        (with_extent_if_any (extent_there catalog.now file copies index homes.now) []) }
 {
     let Some(extent) = extent_there(catalog, file, copies, index, homes) else {
         return None;

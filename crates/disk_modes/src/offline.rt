@@ -36,7 +36,8 @@ pub fn offline_disks<B: Bay>(
     ensures mounted { OnOk result (IsMounted m.new) }
     // The disks are Offline, and have no directory copy; all else of the record stays, and so do the tables.
     ensures done { OnOk result (TakesOffline disks repair now m.old m.new) }
-    ensures cause { IfErr result (λ refusal. OfflineRefused m.old disks refusal ⊎ StatusCause m.old m.new (B.state bay.old) (B.state bay.new) refusal) }
+    ensures cause { IfErr result (λ refusal. OfflineRefused m.old disks refusal
+        ⊎ StatusCause m.old m.new (B.state bay.old) (B.state bay.new) refusal) }
     // The group stays the one that it is: at each moment each image is held for it alone, whatever the answer, and while it takes
     // calls it is mounted. The record takes a turn.
     ensures held { StaysHeld m.old m.new (B.state bay.old) (B.state bay.new) }
@@ -61,7 +62,8 @@ fn put_offline<B: Bay>(
     requires takes { Takes m.old (B.state bay.old) }
     ensures goes { GoesOn m.old result m.new (B.state bay.old) (B.state bay.new) }
     ensures done { OnOk result (TakesOffline disks repair now m.old m.new) }
-    ensures held { MayGoOffline m.old disks → StaysHeld m.old m.new (B.state bay.old) (B.state bay.new) }
+    ensures held { MayGoOffline m.old disks → StaysHeld m.old m.new (B.state bay.old)
+        (B.state bay.new) }
 {
     let new = NewModes::Offline {
         disks,

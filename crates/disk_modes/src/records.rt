@@ -61,7 +61,8 @@ pub(crate) fn with_modes(status: &PstRecord, new: &NewModes) -> PstRecord
     requires { IsTrue (is_status status.now) }
     ensures status { IsTrue (is_status result) }
     ensures disks { KeepsDisks status.now result }
-    ensures modes { result ≡ record status.now { entries = map (entry_after new.now) status.now.entries } }
+    ensures modes { result ≡ record status.now
+        { entries = map (entry_after new.now) status.now.entries } }
 {
     let mut next = status.copy();
     for entry in status.entries() {
@@ -137,7 +138,8 @@ fn with_partners_for(
     ensures status { IfOk result (λ next. IsTrue (is_status next)) }
     ensures disks { IfOk result (KeepsDisks status.now) }
     ensures births { IfOk result (λ next. next.births ≡ status.now.births) }
-    ensures partners { IfOk result (λ next. next.entries ≡ with_partners_for new.now status.now.entries) }
+    ensures partners { IfOk result (λ next. next.entries
+        ≡ with_partners_for new.now status.now.entries) }
 {
     match *new {
         NewModes::Offline { .. } => Ok(status.copy()),

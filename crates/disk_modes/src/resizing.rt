@@ -40,7 +40,9 @@ pub fn resize_disks<B: Bay>(
     // The disks have the units of the size, or of their images, and a rebalance is active.
     ensures done { OnOk result (ResizesDisks disks size power m.old m.new) }
     ensures large { OnOk result (AreLargeEnough m.old (record { disks = disks; size = size })) }
-    ensures cause { IfErr result (λ refusal. ResizeRefused m.old (record { disks = disks; size = size }) refusal ⊎ StatusCause m.old m.new (B.state bay.old) (B.state bay.new) refusal) }
+    ensures cause { IfErr result (λ refusal. ResizeRefused m.old
+        (record { disks = disks; size = size }) refusal
+        ⊎ StatusCause m.old m.new (B.state bay.old) (B.state bay.new) refusal) }
     // The group stays the one that it is: at each moment each image is held for it alone, whatever the answer, and while it takes
     // calls it is mounted. The record takes a turn; that of the commit costs a copy.
     ensures held { StaysHeld m.old m.new (B.state bay.old) (B.state bay.new) }
@@ -77,7 +79,8 @@ fn resize<B: Bay>(
     requires takes { Takes m.old (B.state bay.old) }
     ensures goes { GoesOn m.old result m.new (B.state bay.old) (B.state bay.new) }
     ensures done { OnOk result (ResizesDisks asked.now.disks asked.now.size power m.old m.new) }
-    ensures held { FitImages asked.now m.old → StaysHeld m.old m.new (B.state bay.old) (B.state bay.new) }
+    ensures held { FitImages asked.now m.old
+        → StaysHeld m.old m.new (B.state bay.old) (B.state bay.new) }
 {
     m.set_flight(None);
     rebalance_first(m, alloc, bay, asked, power)
@@ -95,7 +98,8 @@ fn rebalance_first<B: Bay>(
     requires takes { Takes m.old (B.state bay.old) }
     ensures goes { GoesOn m.old result m.new (B.state bay.old) (B.state bay.new) }
     ensures done { OnOk result (ResizesDisks asked.now.disks asked.now.size power m.old m.new) }
-    ensures held { FitImages asked.now m.old → StaysHeld m.old m.new (B.state bay.old) (B.state bay.new) }
+    ensures held { FitImages asked.now m.old
+        → StaysHeld m.old m.new (B.state bay.old) (B.state bay.new) }
 {
     match put_rebalance(m, alloc, bay, Some(power)) {
         Ok(()) => units_or_shut(m, alloc, bay, asked),
@@ -114,7 +118,8 @@ fn units_or_shut<B: Bay>(
     requires takes { Takes m.old (B.state bay.old) }
     ensures goes { GoesOn m.old result m.new (B.state bay.old) (B.state bay.new) }
     ensures done { OnOk result (PutsUnits asked.now m.old m.new) }
-    ensures held { FitImages asked.now m.old → KeepsRules m.old.catalog.shape m.old.catalog.tables → StaysHeld m.old m.new (B.state bay.old) (B.state bay.new) }
+    ensures held { FitImages asked.now m.old → KeepsRules m.old.catalog.shape m.old.catalog.tables
+        → StaysHeld m.old m.new (B.state bay.old) (B.state bay.new) }
 {
     match put_units(m, alloc, bay, asked) {
         Ok(()) => Ok(()),
@@ -137,7 +142,8 @@ fn put_units<B: Bay>(
     requires takes { Takes m.old (B.state bay.old) }
     ensures goes { GoesOn m.old result m.new (B.state bay.old) (B.state bay.new) }
     ensures done { OnOk result (PutsUnits asked.now m.old m.new) }
-    ensures held { FitImages asked.now m.old → KeepsRules m.old.catalog.shape m.old.catalog.tables → StaysHeld m.old m.new (B.state bay.old) (B.state bay.new) }
+    ensures held { FitImages asked.now m.old → KeepsRules m.old.catalog.shape m.old.catalog.tables
+        → StaysHeld m.old m.new (B.state bay.old) (B.state bay.new) }
 {
     if !has_others(m, m.status().entries(), asked) {
         return Ok(());
@@ -159,7 +165,8 @@ fn put_next<B: Bay>(
     requires asked { HasAsked asked.now m.old next.now }
     ensures goes { GoesOn m.old result m.new (B.state bay.old) (B.state bay.new) }
     ensures done { OnOk result (PutsUnits asked.now m.old m.new) }
-    ensures held { FitImages asked.now m.old → KeepsRules m.old.catalog.shape m.old.catalog.tables → StaysHeld m.old m.new (B.state bay.old) (B.state bay.new) }
+    ensures held { FitImages asked.now m.old → KeepsRules m.old.catalog.shape m.old.catalog.tables
+        → StaysHeld m.old m.new (B.state bay.old) (B.state bay.new) }
 {
     let _asked = asked.disks;
     if !m.may_get(next) {
@@ -190,7 +197,9 @@ fn is_other(m: &Mounted, entry: &PstEntry, asked: &Asked) -> bool
 /// The record with the units that the disks are to have.
 fn with_asked(m: &Mounted, status: &PstRecord, asked: &Asked) -> PstRecord
     requires { IsTrue (is_status status.now) }
-    ensures { result ≡ record status.now { entries = map (entry_capped m.now.catalog.shape m.now.disks asked.now) status.now.entries } }
+    ensures { result ≡ record status.now {
+      entries = map (entry_capped m.now.catalog.shape m.now.disks asked.now) status.now.entries;
+    } }
 {
     let mut next = status.copy();
     for disk in 0..64u8 {

@@ -80,7 +80,8 @@ fn check_size(m: &Mounted, asked: &Asked, disk: u8, used: u64) -> Result<(), Ref
     requires { IsUsedTo m.now.catalog disk used }
     ensures named { IfErr result (λ refusal. has_bit asked.now.disks disk ≡ true) }
     ensures cause { IfErr result (SizeCause m.now asked.now disk) }
-    ensures large { OnOk result (has_bit asked.now.disks disk ≡ true → IsLargeEnough m.now asked.now disk) }
+    ensures large { OnOk result (has_bit asked.now.disks disk ≡ true
+        → IsLargeEnough m.now asked.now disk) }
 {
     if !asked.disks.has(disk) {
         return Ok(());
@@ -134,7 +135,8 @@ fn end_behind(ends: &mut [u64], catalog: &Catalog, at: (u32, u32), extents: &[Ho
 
 /// The same with those of an extent's copies.
 fn end_behind_homes(ends: &mut [u64], catalog: &Catalog, index: u64, homes: &Homes)
-    ensures { HasEnds (IsCopyEnd (units_of catalog.now.shape.step index) homes.now) ends.old ends.new }
+    ensures { HasEnds (IsCopyEnd (units_of catalog.now.shape.step index) homes.now) ends.old
+        ends.new }
 {
     let units = units_of(catalog.shape().step, index) as u64;
     let homes = *homes;

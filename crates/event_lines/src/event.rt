@@ -81,7 +81,8 @@ fn put_name(buffer: &mut LineBuffer, name: &Name)
 /// Puts the file and the index of an extent, each behind a space: at most 42 bytes.
 fn put_extent(buffer: &mut LineBuffer, extent: ExtentId)
     requires { length buffer.old + 42 ≤ 800 }
-    ensures text { buffer.new ≡ buffer.old ++ 32 ∷ decimal extent.file ++ 32 ∷ decimal extent.index }
+    ensures text { buffer.new ≡ buffer.old ++ 32 ∷ decimal extent.file
+        ++ 32 ∷ decimal extent.index }
     ensures len { length buffer.new ≤ length buffer.old + 42 }
 {
     buffer.put_count(extent.file as u64);
@@ -92,7 +93,8 @@ impl Rebalanced<'_> {
     /// Puts its words, each behind a space: at most 283 bytes, which `fault`, a number and a name have.
     fn put(&self, buffer: &mut LineBuffer)
         requires { length buffer.old + 283 ≤ 800 }
-        ensures text { buffer.new ≡ buffer.old ++ 32 ∷ spaced (rebalanced_words (rebalanced_said self.now)) }
+        ensures text { buffer.new ≡ buffer.old ++ 32
+            ∷ spaced (rebalanced_words (rebalanced_said self.now)) }
         ensures len { length buffer.new ≤ length buffer.old + 283 }
     {
         match self {
@@ -131,7 +133,8 @@ impl Resynced<'_> {
     /// Puts its words, each behind a space: at most 283 bytes, which `fault`, a number and a name have.
     fn put(&self, buffer: &mut LineBuffer)
         requires { length buffer.old + 283 ≤ 800 }
-        ensures text { buffer.new ≡ buffer.old ++ 32 ∷ spaced (resynced_words (resynced_said self.now)) }
+        ensures text { buffer.new ≡ buffer.old ++ 32
+            ∷ spaced (resynced_words (resynced_said self.now)) }
         ensures len { length buffer.new ≤ length buffer.old + 283 }
     {
         match self {

@@ -16,7 +16,8 @@ pub enum Outcome {
 impl Outcome {
     /// The form under `--generate` of each reply but the last: `.` for ok, `!` for a refusal.
     pub fn mark(self) -> u8
-        ensures { (lines : List Bytes) (cause : Refusal) → short_text (reply_said lines cause self) ≡ result ∷ [] }
+        ensures { (lines : List Bytes) (cause : Refusal)
+            → short_text (reply_said lines cause self) ≡ result ∷ [] }
     {
         match self {
             Outcome::Done => b'.',

@@ -20,7 +20,9 @@ impl Extent {
         requires { self.now.copies ≤ 3 }
         ensures value { result ≡ is_full_at disks.now self.now }
         // Where the extent is that of a group's records, it is so by these.
-        ensures records { (s : Shape) (items : List Item) (all : List Copy) → IsExtentOf s items all self.now → result ≡ has_full_redundancy disks.now items (siblings all (copy_of self.now 0)) }
+        ensures records { (s : Shape) (items : List Item) (all : List Copy)
+            → IsExtentOf s items all self.now
+            → result ≡ has_full_redundancy disks.now items (siblings all (copy_of self.now 0)) }
     {
         is_full_at(disks, self)
     }
@@ -80,7 +82,8 @@ fn groups_after(disks: &[PstEntry], extent: &Extent, copy: u8) -> u8
 #[tactic(auto, using(crate::proofs::FullExtents::any_end, crate::proofs::FullExtents::any_step))]
 fn has_group(disks: &[PstEntry], extent: &Extent, copy: u8, failgroup: u8) -> bool
     requires { extent.now.copies ≤ 3 }
-    ensures { result ≡ list_any (is_of_group failgroup) (disks_of_copies disks.now (copies_after extent.now copy)) }
+    ensures { result ≡ list_any (is_of_group failgroup)
+        (disks_of_copies disks.now (copies_after extent.now copy)) }
 {
     if copy >= extent.copies {
         return false;
@@ -89,7 +92,8 @@ fn has_group(disks: &[PstEntry], extent: &Extent, copy: u8, failgroup: u8) -> bo
 }
 
 fn lies_in_group(disks: &[PstEntry], extent: &Extent, copy: u8, failgroup: u8) -> bool
-    ensures { result ≡ list_any (is_of_group failgroup) (disks_of_copies disks.now (copy_of extent.now copy ∷ [])) }
+    ensures { result ≡ list_any (is_of_group failgroup)
+        (disks_of_copies disks.now (copy_of extent.now copy ∷ [])) }
 {
     match entry_at(disks, extent.home(copy)) {
         Some(disk) => disk.failgroup == failgroup,

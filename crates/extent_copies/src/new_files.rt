@@ -54,7 +54,8 @@ fn groups_in(disks: &[PstEntry]) -> usize
 
 /// Whether the disk is regular and stays, and none of the others that is so lies in its failure group.
 fn adds_group(disk: &PstEntry, others: &[PstEntry]) -> bool
-    ensures { result ≡ (is_table_disk disk.now && not (list_any (is_of_group disk.now.failgroup) (table_disks others.now))) }
+    ensures { result ≡ (is_table_disk disk.now
+        && not (list_any (is_of_group disk.now.failgroup) (table_disks others.now))) }
 {
     is_table_disk(disk) && !has_group(others, disk.failgroup)
 }
@@ -85,9 +86,12 @@ pub fn template_for<'a>(
     type_name: &Name,
     template: Option<&Name>,
 ) -> Option<&'a Template>
-    ensures value { option_copied result ≡ template_by templates.now type_name.now (option_copied template.entry) }
+    ensures value { option_copied result ≡ template_by templates.now type_name.now
+        (option_copied template.entry) }
     // It is the world's, in a group with these templates.
-    ensures world { (g : Group) (db tag : Bytes) → g.templates ≡ templates_by_name templates.now → option_copied result ≡ template_for g (record { db = db; type_name = type_name.now; tag = tag }) (option_copied template.entry) }
+    ensures world { (g : Group) (db tag : Bytes) → g.templates ≡ templates_by_name templates.now
+        → option_copied result ≡ template_for g
+        (record { db = db; type_name = type_name.now; tag = tag }) (option_copied template.entry) }
 {
     template_in(templates, type_name, template)
 }
@@ -97,7 +101,8 @@ fn template_in<'a>(
     type_name: &Name,
     template: Option<&Name>,
 ) -> Option<&'a Template>
-    ensures { option_copied result ≡ template_by templates.now type_name.now (option_copied template.entry) }
+    ensures { option_copied result ≡ template_by templates.now type_name.now
+        (option_copied template.entry) }
 {
     match template {
         Some(name) => named(templates, name),

@@ -19,7 +19,9 @@ impl Extent {
         requires { copy < 3 }
         ensures value { result ≡ is_fresh_at self.now copy }
         // Where the extent is that of a group's records, it is so by these.
-        ensures records { (s : Shape) (items : List Item) (all : List Copy) → IsExtentOf s items all self.now → copy < self.now.copies → result ≡ is_fresh items (copy_of self.now copy) }
+        ensures records { (s : Shape) (items : List Item) (all : List Copy)
+            → IsExtentOf s items all self.now → copy < self.now.copies
+            → result ≡ is_fresh items (copy_of self.now copy) }
     {
         is_fresh_at(self, copy)
     }
@@ -29,7 +31,9 @@ impl Extent {
     pub fn is_current(&self, disks: &[PstEntry], copy: u8) -> bool
         requires { copy < 3 }
         ensures value { result ≡ is_current_at disks.now self.now copy }
-        ensures records { (s : Shape) (items : List Item) (all : List Copy) → IsExtentOf s items all self.now → copy < self.now.copies → result ≡ is_current disks.now items (copy_of self.now copy) }
+        ensures records { (s : Shape) (items : List Item) (all : List Copy)
+            → IsExtentOf s items all self.now → copy < self.now.copies
+            → result ≡ is_current disks.now items (copy_of self.now copy) }
     {
         is_current_at(disks, self, copy)
     }
@@ -39,7 +43,9 @@ impl Extent {
     pub fn is_usable(&self, disks: &[PstEntry], attached: DiskSet, copy: u8) -> bool
         requires { copy < 3 }
         ensures value { result ≡ is_usable_at attached disks.now self.now copy }
-        ensures records { (s : Shape) (items : List Item) (all : List Copy) → IsExtentOf s items all self.now → copy < self.now.copies → result ≡ is_usable attached disks.now items (copy_of self.now copy) }
+        ensures records { (s : Shape) (items : List Item) (all : List Copy)
+            → IsExtentOf s items all self.now → copy < self.now.copies
+            → result ≡ is_usable attached disks.now items (copy_of self.now copy) }
     {
         is_usable_at(disks, attached, self, copy)
     }
@@ -48,8 +54,11 @@ impl Extent {
     #[tactic(auto, using(crate::proofs::Counting::first_usable_is))]
     pub fn first_usable(&self, disks: &[PstEntry], attached: DiskSet, from: u8) -> Option<u8>
         requires { self.now.copies ≤ 3 }
-        ensures value { result ≡ first_passing (is_usable_at attached disks.now self.now) from (self.now.copies - from) }
-        ensures records { (s : Shape) (items : List Item) (all : List Copy) → IsExtentOf s items all self.now → result ≡ first_usable attached disks.now items (copies_after self.now from) }
+        ensures value { result ≡ first_passing (is_usable_at attached disks.now self.now) from
+            (self.now.copies - from) }
+        ensures records { (s : Shape) (items : List Item) (all : List Copy)
+            → IsExtentOf s items all self.now
+            → result ≡ first_usable attached disks.now items (copies_after self.now from) }
     {
         first_usable_at(disks, attached, self, from)
     }
@@ -98,7 +107,8 @@ fn lies_in(disks: DiskSet, home: Option<Home>) -> bool
 #[tactic(auto, using(crate::proofs::Counting::first_more, crate::proofs::Counting::first_found, crate::proofs::Counting::first_end))]
 fn first_usable_at(disks: &[PstEntry], attached: DiskSet, extent: &Extent, from: u8) -> Option<u8>
     requires { extent.now.copies ≤ 3 }
-    ensures { result ≡ first_passing (is_usable_at attached disks.now extent.now) from (extent.now.copies - from) }
+    ensures { result ≡ first_passing (is_usable_at attached disks.now extent.now) from
+        (extent.now.copies - from) }
 {
     for copy in from..extent.copies {
         if is_usable_at(disks, attached, extent, copy) {

@@ -26,8 +26,12 @@ impl ExtentMap {
         value: &Value,
     ) -> Result<bool, NoMemory>
         requires { chunk + 1 < 2 ^ 32 }
-        ensures put { IfOk result (λ put. OnTrue put ((c : Chunk) → chunk_value_at self.new c ≡ (if is_at (chunk_cmp (file, chunk)) c then Some value.now else chunk_value_at self.old c))) }
-        ensures refused { IfOk result (λ put. OnFalse put (decoded_item (chunk_key file chunk) value.now ≡ None)) }
+        ensures put { IfOk result (λ put. OnTrue put
+            ((c : Chunk) → chunk_value_at self.new c
+            ≡ (if is_at (chunk_cmp (file, chunk)) c then Some value.now
+            else chunk_value_at self.old c))) }
+        ensures refused { IfOk result (λ put. OnFalse put
+            (decoded_item (chunk_key file chunk) value.now ≡ None)) }
         ensures stays { IfOk result (λ put. OnFalse put (self.new ≡ self.old)) }
         ensures err { OnErr result (self.new ≡ self.old) }
         ensures chunks { AreChunks self.old → AreChunks self.new }
@@ -43,7 +47,8 @@ impl ExtentMap {
     /// Takes a chunk away, where it is there. In the midst of a change the extents of a file may have a gap.
     #[tactic(auto, using(crate::proofs::ChangeLaws::removed_keeps_chunks))]
     pub fn remove_record(&mut self, file: u32, chunk: u32)
-        ensures gone { (c : Chunk) → chunk_value_at self.new c ≡ (if is_at (chunk_cmp (file, chunk)) c then None else chunk_value_at self.old c) }
+        ensures gone { (c : Chunk) → chunk_value_at self.new c
+            ≡ (if is_at (chunk_cmp (file, chunk)) c then None else chunk_value_at self.old c) }
         ensures chunks { AreChunks self.old → AreChunks self.new }
     {
         let _ = self.take_away((file, chunk));

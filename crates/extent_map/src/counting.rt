@@ -19,7 +19,8 @@ impl ExtentMap {
         // The file has the extents below this number, and no others.
         ensures count { HasCount self.now file result }
         // It stays a table with an extent more at the end.
-        ensures more { (homes : FormatHomes) → IsTrue (may_stand result homes) → IsExtentTable (with_extent self.now file result homes) }
+        ensures more { (homes : FormatHomes) → IsTrue (may_stand result homes)
+            → IsExtentTable (with_extent self.now file result homes) }
         // It stays a table without the last one.
         ensures less { (n : ℕ) → n + 1 ≡ result → IsExtentTable (without_extent self.now file n) }
         ensures few { result ≤ 1099511627520 }

@@ -24,7 +24,8 @@ pub fn chunk_in(
 ) -> Result<Option<Chunk>, NoMemory>
     requires number { chunk + 1 < 2 ^ 32 }
     requires few { length bytes.now < 2 ^ 32 }
-    ensures { IfOk result (λ read. option_map (chunk_item file chunk) read ≡ decoded_item (chunk_key file chunk) bytes.now) }
+    ensures { IfOk result (λ read. option_map (chunk_item file chunk) read
+        ≡ decoded_item (chunk_key file chunk) bytes.now) }
 {
     let read = read_chunk(alloc, bytes)?;
     Ok(read)

@@ -148,7 +148,8 @@ impl ExtentMap {
 
     /// Puts an extent in a chunk that isn't there yet.
     fn put_new(&mut self, at: (u32, u32), place: u8, homes: Homes) -> Result<(), NoMemory>
-        ensures ok { OnOk result (self.new ≡ with_chunk self.old at (slice_set (replicate 256 absent_homes) place homes)) }
+        ensures ok { OnOk result (self.new ≡ with_chunk self.old at
+            (slice_set (replicate 256 absent_homes) place homes)) }
         ensures err { OnErr result (self.new ≡ self.old) }
     {
         let mut chunk = Chunk::blank(self.alloc)?;
@@ -195,7 +196,9 @@ impl ExtentMap {
     pub(crate) fn insert(&mut self, at: (u32, u32), chunk: Chunk) -> Result<(), NoMemory>
         ensures ok { OnOk result (self.new ≡ with_chunk self.old at chunk) }
         // Other chunks keep their extents.
-        ensures at { OnOk result ((c : Place) → chunk_at self.new c ≡ (if is_at (chunk_cmp at) c then Some chunk else chunk_at self.old c)) }
+        ensures at { OnOk result ((c : Place)
+            → chunk_at self.new c ≡ (if is_at (chunk_cmp at) c then Some chunk
+            else chunk_at self.old c)) }
         ensures err { OnErr result (self.new ≡ self.old) }
     {
         match self.map.insert(at, chunk) {
@@ -208,7 +211,8 @@ impl ExtentMap {
     pub(crate) fn take_away(&mut self, at: (u32, u32)) -> bool
         ensures there { result ≡ is_some (chunk_at self.old at) }
         ensures after { self.new ≡ without_chunk self.old at }
-        ensures gone { (c : Place) → chunk_value_at self.new c ≡ (if is_at (chunk_cmp at) c then None else chunk_value_at self.old c) }
+        ensures gone { (c : Place) → chunk_value_at self.new c
+            ≡ (if is_at (chunk_cmp at) c then None else chunk_value_at self.old c) }
     {
         self.map.remove(&at).is_some()
     }
@@ -234,7 +238,9 @@ impl ExtentMap {
         chunk: u32,
     ) -> Result<Option<(Key, Value)>, NoMemory>
         requires { chunk + 1 < 2 ^ 32 }
-        ensures { IfOk result (λ made. made ≡ option_map (λ homes. record_of_chunk ((file, chunk), homes)) (chunk_at self.now (file, chunk))) }
+        ensures { IfOk result (λ made. made
+            ≡ option_map (λ homes. record_of_chunk ((file, chunk), homes))
+            (chunk_at self.now (file, chunk))) }
     {
         let at = (file, chunk);
         match self.map.get(&at) {
@@ -247,7 +253,8 @@ impl ExtentMap {
     #[tactic(auto, using(crate::proofs::Laws::table_numbered))]
     pub fn to_records(&self, alloc: Global, change: &mut Change) -> Result<(), NoMemory>
         requires { IsExtentTable self.now }
-        ensures put { OnOk result (change.new.put ≡ change.old.put ++ map record_of_chunk self.now) }
+        ensures put { OnOk result (change.new.put
+            ≡ change.old.put ++ map record_of_chunk self.now) }
         ensures gone { change.new.gone ≡ change.old.gone }
     {
         self.put_records(alloc, change)
@@ -255,7 +262,8 @@ impl ExtentMap {
 
     fn put_records(&self, alloc: Global, change: &mut Change) -> Result<(), NoMemory>
         requires { AllByRecursion IsNumbered self.now }
-        ensures put { OnOk result (change.new.put ≡ change.old.put ++ map record_of_chunk self.now) }
+        ensures put { OnOk result (change.new.put
+            ≡ change.old.put ++ map record_of_chunk self.now) }
         ensures gone { change.new.gone ≡ change.old.gone }
     {
         for (at, chunk) in self.map.iter() {
@@ -269,16 +277,19 @@ impl ExtentMap {
     #[tactic(auto, using(crate::proofs::Laws::table_found, crate::proofs::Laws::table_again))]
     pub fn from_records(alloc: Global, records: &Records) -> Result<Option<ExtentMap>, NoMemory>
         // What is read is a table that has these records.
-        ensures found { IfOk result (λ read. IfSome read (λ t. IsExtentTable t × (of_kinds is_chunk records.now ≡ map record_of_chunk t))) }
+        ensures found { IfOk result (λ read. IfSome read
+            (λ t. IsExtentTable t × (of_kinds is_chunk records.now ≡ map record_of_chunk t))) }
         // A table that has these records is read.
-        ensures only { IfOk result (λ read. (t : Items Chunked) → IsExtentTable t → of_kinds is_chunk records.now ≡ map record_of_chunk t → read ≡ Some t) }
+        ensures only { IfOk result (λ read. (t : Items Chunked) → IsExtentTable t
+            → of_kinds is_chunk records.now ≡ map record_of_chunk t → read ≡ Some t) }
     {
         let read = ExtentMap::read_right(alloc, records)?;
         Ok(read)
     }
 
     fn read_right(alloc: Global, records: &Records) -> Result<Option<ExtentMap>, NoMemory>
-        ensures { IfOk result (λ read. read ≡ without_gap (read_from is_chunk add_chunk_record [] records.now)) }
+        ensures { IfOk result (λ read. read
+            ≡ without_gap (read_from is_chunk add_chunk_record [] records.now)) }
     {
         let Some(table) = ExtentMap::read(alloc, records)? else {
             return Ok(None);
@@ -306,7 +317,9 @@ impl ExtentMap {
     /// Takes up one record more, or passes over one of another kind. `false` where it doesn't follow.
     fn take_up(&mut self, alloc: Global, key: Key, value: &Value) -> Result<bool, NoMemory>
         requires { Ascend is_chunk_before self.old }
-        ensures step { IfOk result (λ taken. (if is_chunk key then add_chunk_record self.old (key, value.now) else Some self.old) ≡ (if taken then Some self.new else None)) }
+        ensures step { IfOk result (λ taken. (if is_chunk key
+            then add_chunk_record self.old (key, value.now) else Some self.old)
+            ≡ (if taken then Some self.new else None)) }
         ensures ascending { IfOk result (λ taken. OnTrue taken (Ascend is_chunk_before self.new)) }
     {
         if key.kind != record_kind::FILES || key.b == 0 {

@@ -39,7 +39,8 @@ fn host_path<'a>(alloc: Global, path: &'a [u8]) -> Result<&'a str, Refusal>
 }
 
 fn host_fault(alloc: Global, path: &[u8]) -> Refusal
-    ensures cause { (s t : Faults) → FailsAt s t path.now → HostFaultCause (IsAt path.now) s t result }
+    ensures cause { (s t : Faults) → FailsAt s t path.now
+        → HostFaultCause (IsAt path.now) s t result }
 {
     match Text::from_slice(alloc, path) {
         Ok(path) => Refusal::HostFault { path },
@@ -49,7 +50,8 @@ fn host_fault(alloc: Global, path: &[u8]) -> Refusal
 
 /// A refusal by the host.
 fn host_refusal(alloc: Global, path: &str, error: HostError) -> Refusal
-    ensures cause { (s t : Faults) → (error ≡ Fault → Rose (s path.now) (t path.now)) → HostFaultCause (IsAt path.now) s t result }
+    ensures cause { (s t : Faults) → (error ≡ Fault → Rose (s path.now) (t path.now))
+        → HostFaultCause (IsAt path.now) s t result }
 {
     match error {
         HostError::Fault => host_fault(alloc, path.as_bytes()),
@@ -75,7 +77,8 @@ fn open_host<'a, H: Host>(
     ensures size { IfOk result (λ opened. HasSize (H.file host.new) opened.0 opened.1) }
     ensures counts { NoneFalls (H.faults host.old) (H.faults host.new) }
     ensures source { IfOk result (λ opened. WhereOfHost (IsAt path.now) opened.0) }
-    ensures cause { IfErr result (HostFaultCause (IsAt path.now) (H.faults host.old) (H.faults host.new)) }
+    ensures cause { IfErr result (HostFaultCause (IsAt path.now) (H.faults host.old)
+        (H.faults host.new)) }
 {
     let path = host_path(alloc, path)?;
     match host.size(path) {
@@ -102,7 +105,8 @@ fn open_source<'a, H: Host>(
     ensures size { IfOk result (λ opened. HasSize (H.file host.new) opened.0 opened.1) }
     ensures counts { NoneFalls (H.faults host.old) (H.faults host.new) }
     ensures source { IfOk result (λ opened. WhereOfHost (IsHostAt path.now) opened.0) }
-    ensures cause { IfErr result (HostFaultCause (IsHostAt path.now) (H.faults host.old) (H.faults host.new)) }
+    ensures cause { IfErr result (HostFaultCause (IsHostAt path.now) (H.faults host.old)
+        (H.faults host.new)) }
 {
     if is_host_path(path) {
         return open_host(alloc, host, path);
@@ -137,7 +141,8 @@ fn read_source<B: Bay, H: Host>(
     ensures carries { CarriesOn session.now session.now (B.state bay.old) (B.state bay.new) }
     ensures files { AllStay (H.file host.old) (H.file host.new) }
     ensures counts { NoneFalls (H.faults host.old) (H.faults host.new) }
-    ensures cause { IfErr result (HostFaultCause (IsOfSource source.now) (H.faults host.old) (H.faults host.new)) }
+    ensures cause { IfErr result (HostFaultCause (IsOfSource source.now) (H.faults host.old)
+        (H.faults host.new)) }
 {
     match source {
         Source::Host(path) => match host.read(path, at, buf) {
@@ -185,7 +190,8 @@ fn put_piece<B: Bay, H: Host>(
     ensures files { AllStay (H.file host.old) (H.file host.new) }
     ensures end { IfOk result (λ more. more.end ≡ filling.end) }
     ensures counts { NoneFalls (H.faults host.old) (H.faults host.new) }
-    ensures cause { IfErr result (HostFaultCause (IsOfSource source.now) (H.faults host.old) (H.faults host.new)) }
+    ensures cause { IfErr result (HostFaultCause (IsOfSource source.now) (H.faults host.old)
+        (H.faults host.new)) }
 {
     match read_source(alloc, session, bay, host, source, filling.at, buf) {
         Ok(()) => {
@@ -216,7 +222,8 @@ fn put_all<B: Bay, H: Host>(
     requires ready { AreReady session.old.groups (B.state bay.old) }
     requires inside { HasBytes (H.file host.old) source.now filling.end }
     ensures carries { CarriesOn session.old session.new (B.state bay.old) (B.state bay.new) }
-    ensures cause { IfErr result (HostFaultCause (IsOfSource source.now) (H.faults host.old) (H.faults host.new)) }
+    ensures cause { IfErr result (HostFaultCause (IsOfSource source.now) (H.faults host.old)
+        (H.faults host.new)) }
 {
     let mut filling = filling;
     for _ in 0..u64::MAX {
@@ -264,7 +271,8 @@ fn copy_to_new<B: Bay, H: Host>(
     requires inside { HasBytes (H.file host.old) source.now new.now.size }
     ensures carries { CarriesOn session.old session.new (B.state bay.old) (B.state bay.new) }
     ensures line { IfOk result (IsNewLine new.now session.new) }
-    ensures cause { IfErr result (HostFaultCause (IsOfSource source.now) (H.faults host.old) (H.faults host.new)) }
+    ensures cause { IfErr result (HostFaultCause (IsOfSource source.now) (H.faults host.old)
+        (H.faults host.new)) }
 {
     let group = &new.path.group;
     let begun = session.work(alloc, bay, group, Begin { new })?;
@@ -293,7 +301,8 @@ fn copy_to_group<B: Bay, H: Host>(
     requires ready { AreReady session.old.groups (B.state bay.old) }
     requires inside { HasBytes (H.file host.old) source.now size }
     ensures carries { CarriesOn session.old session.new (B.state bay.old) (B.state bay.new) }
-    ensures cause { IfErr result (HostFaultCause (IsOfSource source.now) (H.faults host.old) (H.faults host.new)) }
+    ensures cause { IfErr result (HostFaultCause (IsOfSource source.now) (H.faults host.old)
+        (H.faults host.new)) }
 {
     let path = path_of_verb(alloc, session.place(), path)?;
     let by = FileBy::System;
@@ -330,7 +339,8 @@ fn append_piece<B: Bay, H: Host>(
     requires ready { AreReady session.now.groups (B.state bay.old) }
     ensures carries { CarriesOn session.now session.now (B.state bay.old) (B.state bay.new) }
     ensures counts { NoneFalls (H.faults host.old) (H.faults host.new) }
-    ensures cause { IfErr result (HostFaultCause (IsAt to.now) (H.faults host.old) (H.faults host.new)) }
+    ensures cause { IfErr result (HostFaultCause (IsAt to.now) (H.faults host.old)
+        (H.faults host.new)) }
 {
     read_from(session, alloc, bay, group, file, at, buf)?;
     match host.append(to, buf) {
@@ -352,7 +362,8 @@ fn append_all<B: Bay, H: Host>(
 ) -> Result<(), Refusal>
     requires ready { AreReady session.now.groups (B.state bay.old) }
     ensures carries { CarriesOn session.now session.now (B.state bay.old) (B.state bay.new) }
-    ensures cause { IfErr result (HostFaultCause (IsAt to.now) (H.faults host.old) (H.faults host.new)) }
+    ensures cause { IfErr result (HostFaultCause (IsAt to.now) (H.faults host.old)
+        (H.faults host.new)) }
 {
     let size = file.size();
     let mut left = size;
@@ -383,7 +394,8 @@ fn write_host<B: Bay, H: Host>(
 ) -> Result<(), Refusal>
     requires ready { AreReady session.now.groups (B.state bay.old) }
     ensures carries { CarriesOn session.now session.now (B.state bay.old) (B.state bay.new) }
-    ensures cause { IfErr result (HostFaultCause (IsAt to.now) (H.faults host.old) (H.faults host.new)) }
+    ensures cause { IfErr result (HostFaultCause (IsAt to.now) (H.faults host.old)
+        (H.faults host.new)) }
 {
     match host.create(to) {
         Ok(()) => append_all(alloc, session, bay, host, group, file, to, buf),
@@ -403,7 +415,8 @@ fn copy_to_host<B: Bay, H: Host>(
 ) -> Result<List<Text>, Refusal>
     requires ready { AreReady session.now.groups (B.state bay.old) }
     ensures carries { CarriesOn session.now session.now (B.state bay.old) (B.state bay.new) }
-    ensures cause { IfErr result (HostFaultCause (IsAt path.now) (H.faults host.old) (H.faults host.new)) }
+    ensures cause { IfErr result (HostFaultCause (IsAt path.now) (H.faults host.old)
+        (H.faults host.new)) }
 {
     let to = host_path(alloc, path)?;
     let Source::File { group, file } = source else {
@@ -435,7 +448,8 @@ fn copy_to<B: Bay, H: Host>(
     requires ready { AreReady session.old.groups (B.state bay.old) }
     requires inside { HasBytes (H.file host.old) source.now size }
     ensures carries { CarriesOn session.old session.new (B.state bay.old) (B.state bay.new) }
-    ensures cause { IfErr result (HostFaultCause (IsCopied source.now to.now) (H.faults host.old) (H.faults host.new)) }
+    ensures cause { IfErr result (HostFaultCause (IsCopied source.now to.now) (H.faults host.old)
+        (H.faults host.new)) }
 {
     if is_host_path(to) {
         copy_to_host(alloc, session, bay, host, source, to)
@@ -456,7 +470,8 @@ fn copy<B: Bay, H: Host>(
 ) -> Result<List<Text>, Refusal>
     requires ready { AreReady session.old.groups (B.state bay.old) }
     ensures carries { CarriesOn session.old session.new (B.state bay.old) (B.state bay.new) }
-    ensures cause { IfErr result (HostCause from.now to.now (H.faults host.old) (H.faults host.new)) }
+    ensures cause { IfErr result (HostCause from.now to.now (H.faults host.old)
+        (H.faults host.new)) }
 {
     match open_source(alloc, session, host, from) {
         Ok((source, size)) => {
@@ -478,7 +493,8 @@ pub fn copy_file<B: Bay, H: Host>(
     requires asked { command_of text.now ≡ Asked (CopyFile source target) }
     requires ready { AreReady desk.old.session.groups (B.state desk.old.bay) }
     ensures answers { IsAnswered text.now result desk.old desk.new }
-    ensures cause { HostReply source target (H.faults desk.old.host) (H.faults desk.new.host) result.reply }
+    ensures cause { HostReply source target (H.faults desk.old.host) (H.faults desk.new.host)
+        result.reply }
 {
     let done = copy(
         desk.alloc,

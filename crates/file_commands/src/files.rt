@@ -253,7 +253,8 @@ pub fn system_line(
     name: &Name,
     file: u32,
 ) -> Result<List<Text>, Refusal>
-    ensures lines { IfOk result (λ lines. IsInGroup session.now name.now (λ m. lines ≡ system_lines m file)) }
+    ensures lines { IfOk result (λ lines. IsInGroup session.now name.now
+        (λ m. lines ≡ system_lines m file)) }
     ensures cause { IfErr result (IsOutCause session.now.entries name.now) }
 {
     let m = session.mounted(alloc, name)?;
@@ -325,7 +326,8 @@ fn open_span(
     len: u64,
 ) -> Result<OpenFile, Refusal>
     ensures within { OnOk result (at + len < 2 ^ 64) }
-    ensures opened { IfOk result (λ file. IsInGroup session.now path.now.group (λ m. OpensSpan m path.now.parts at len file)) }
+    ensures opened { IfOk result (λ file. IsInGroup session.now path.now.group
+        (λ m. OpensSpan m path.now.parts at len file)) }
     ensures cause { IfErr result (IsLinesCause session.now path.now.group path.now.parts at len) }
 {
     let m = match session.mounted(alloc, &path.group) {
@@ -369,7 +371,8 @@ pub fn read_from<B: Bay>(
     requires ready { AreReady session.now.groups (B.state bay.old) }
     ensures carries { CarriesOn session.now session.now (B.state bay.old) (B.state bay.new) }
     ensures reads { ReadsOnly (B.state bay.old) (B.state bay.new) }
-    ensures shows { OnOk result (ShowsBytes session.now name.now file.now at (B.state bay.old) (B.state bay.new) buf.new) }
+    ensures shows { OnOk result (ShowsBytes session.now name.now file.now at (B.state bay.old)
+        (B.state bay.new) buf.new) }
     ensures cause { IfErr result (IsFileReadCause session.now name.now) }
 {
     let m = match session.mounted(alloc, name) {
@@ -397,7 +400,8 @@ fn read_piece<B: Bay>(
     requires room { runs.old.end + length buf.old < 2 ^ 64 }
     ensures carries { CarriesOn session.now session.now (B.state bay.old) (B.state bay.new) }
     ensures reads { ReadsOnly (B.state bay.old) (B.state bay.new) }
-    ensures runs { OnOk result (PutsRead session.now group.now file.now at (length buf.old) (B.state bay.old) (B.state bay.new) runs.old runs.new) }
+    ensures runs { OnOk result (PutsRead session.now group.now file.now at (length buf.old)
+        (B.state bay.old) (B.state bay.new) runs.old runs.new) }
     ensures end { OnOk result (runs.new.end ≡ runs.old.end + length buf.old) }
     ensures cause { IfErr result (IsFileReadCause session.now group.now) }
 {
@@ -428,7 +432,8 @@ fn read_span<B: Bay>(
     requires end { runs.old.end ≡ at }
     ensures carries { CarriesOn session.now session.now (B.state bay.old) (B.state bay.new) }
     ensures reads { ReadsOnly (B.state bay.old) (B.state bay.new) }
-    ensures runs { OnOk result (PutsRead session.now group.now file.now at len (B.state bay.old) (B.state bay.new) runs.old runs.new) }
+    ensures runs { OnOk result (PutsRead session.now group.now file.now at len (B.state bay.old)
+        (B.state bay.new) runs.old runs.new) }
     ensures cause { IfErr result (IsFileReadCause session.now group.now) }
 {
     let mut left = len;
@@ -462,7 +467,8 @@ fn read_runs<B: Bay>(
     requires within { at + len < 2 ^ 64 }
     ensures carries { CarriesOn session.now session.now (B.state bay.old) (B.state bay.new) }
     ensures reads { ReadsOnly (B.state bay.old) (B.state bay.new) }
-    ensures runs { IfOk result (HasRead session.now group.now file.now at len (B.state bay.old) (B.state bay.new)) }
+    ensures runs { IfOk result (HasRead session.now group.now file.now at len (B.state bay.old)
+        (B.state bay.new)) }
     ensures cause { IfErr result (IsFileReadCause session.now group.now) }
 {
     let Ok(mut buf) = buffer(alloc, len, 0) else {
@@ -497,7 +503,8 @@ fn read_lines<B: Bay>(
     requires ready { AreReady session.now.groups (B.state bay.old) }
     ensures carries { CarriesOn session.now session.now (B.state bay.old) (B.state bay.new) }
     ensures reads { ReadsOnly (B.state bay.old) (B.state bay.new) }
-    ensures lines { IfOk result (ReadsLines session.now path.now.group path.now.parts at len (B.state bay.old) (B.state bay.new)) }
+    ensures lines { IfOk result (ReadsLines session.now path.now.group path.now.parts at len
+        (B.state bay.old) (B.state bay.new)) }
     ensures cause { IfErr result (IsLinesCause session.now path.now.group path.now.parts at len) }
 {
     let file = match open_span(session, alloc, path, at, len) {

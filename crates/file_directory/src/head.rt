@@ -69,7 +69,8 @@ impl FileHead {
 
 /// Whether a head passes the tests that are left where its numbers are those of their types.
 fn is_right(head: &FileHead) -> bool
-    ensures test { result ≡ (is_redundancy head.now.copies && (nat_le (length head.now.type_name) 30 && nat_lt 0 head.now.system)) }
+    ensures test { result ≡ (is_redundancy head.now.copies
+        && (nat_le (length head.now.type_name) 30 && nat_lt 0 head.now.system)) }
     ensures part { is_part 255 head.now.type_name ≡ true }
 {
     let len = head.kind.as_bytes().len();

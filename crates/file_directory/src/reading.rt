@@ -17,7 +17,8 @@ use std::alloc::Global;
 /// The head that the value of a file's record is the spelling of, or None where it isn't that of any.
 pub(crate) fn head_in(alloc: Global, key: Key, value: &Value) -> Result<Option<FileHead>, NoMemory>
     requires { IsTrue (is_key_of_file key) }
-    ensures { IfOk result (λ read. entry_of_record file_of_item (key, value.now) ≡ option_map (λ h. (key.a, h)) read) }
+    ensures { IfOk result (λ read. entry_of_record file_of_item (key, value.now)
+        ≡ option_map (λ h. (key.a, h)) read) }
 {
     let read = read_bytes(alloc, value.as_bytes())?;
     Ok(read)

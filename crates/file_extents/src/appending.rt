@@ -113,7 +113,8 @@ pub fn has_all(catalog: &Catalog, file: u32, copies: u8, count: u64) -> bool
 }
 
 fn has_one(catalog: &Catalog, file: u32, copies: u8, index: u64) -> bool
-    ensures { OnTrue result (has_copies copies (extent_at catalog.now.tables.extents file index) ≡ true) }
+    ensures { OnTrue result (has_copies copies (extent_at catalog.now.tables.extents file index)
+        ≡ true) }
 {
     if index > u32::MAX as u64 {
         return false;
@@ -131,7 +132,8 @@ fn has_one(catalog: &Catalog, file: u32, copies: u8, index: u64) -> bool
 /// Whether no extent of a file has a home at a number that isn't that of a copy.
 #[tactic(auto, using(crate::proofs::Within::at_start, crate::proofs::Within::one_more, crate::proofs::Within::stopped, crate::proofs::Within::ended))]
 pub fn is_within_file(catalog: &Catalog, file: u32, copies: u8) -> bool
-    ensures { OnTrue result (first_wrong (is_within_file file copies) catalog.now.tables.extents ≡ None) }
+    ensures { OnTrue result (first_wrong (is_within_file file copies) catalog.now.tables.extents
+        ≡ None) }
 {
     // Its clause shows that the chunks are in order.
     let _shape = catalog.shape();
@@ -157,7 +159,8 @@ fn are_all_within(extents: &[Homes], copies: u8) -> bool
 fn has_so_many(catalog: &Catalog, file: u32, chunk: u32, count: u64) -> bool
     requires chunk { chunk < 2 ^ 23 }
     requires few { count < 256 }
-    ensures { OnTrue result (count_in (chunk_or_blank catalog.now.tables.extents (file, chunk)) ≡ count) }
+    ensures { OnTrue result (count_in (chunk_or_blank catalog.now.tables.extents (file, chunk))
+        ≡ count) }
 {
     let first = chunk as u64 * CHUNK;
     for place in 0..count {
@@ -218,7 +221,9 @@ fn may_stand(catalog: &Catalog, part: Part, row: &[Homes], marks: &[u8]) -> bool
 /// Whether the homes of the extents are free user units.
 fn are_free(catalog: &Catalog, alloc: Global, part: Part, row: &[Homes]) -> Result<bool, NoMemory>
     requires few { part.first + length row.now < 2 ^ 63 }
-    ensures { IfOk result (λ free. free ≡ is_some (after_homes catalog.now.units (placed_extents catalog.now.shape.step part.file part.first row.now))) }
+    ensures { IfOk result (λ free. free ≡ is_some
+        (after_homes catalog.now.units
+        (placed_extents catalog.now.shape.step part.file part.first row.now))) }
 {
     let mut units = copy_units(alloc, catalog.units())?;
     let step = catalog.shape().step;
@@ -228,7 +233,8 @@ fn are_free(catalog: &Catalog, alloc: Global, part: Part, row: &[Homes]) -> Resu
 /// Whether the extents may be put behind those of their file.
 #[tactic(auto, using(crate::proofs::Extents::appends))]
 fn may_append(catalog: &Catalog, alloc: Global, part: Part, row: &[Homes], marks: &[u8]) -> bool
-    ensures append { OnTrue result (MayAppend catalog.now part.file (part.first / 256) row.now marks.now) }
+    ensures append { OnTrue result (MayAppend catalog.now part.file (part.first / 256) row.now
+        marks.now) }
     ensures number { OnTrue result (part.first < 2147483648) }
 {
     if !may_stand(catalog, part, row, marks) {

@@ -59,7 +59,8 @@ pub fn give_homes<B: Bay>(
     requires takes { Takes m.old (B.state bay.old) }
     ensures keeps { KeepsGroup m.old m.new (B.state bay.old) (B.state bay.new) }
     ensures mounted { OnOk result (IsMounted m.new) }
-    ensures cause { IfErr result (HomesCause m.old filling.old.extents m.new (B.state bay.old) (B.state bay.new)) }
+    ensures cause { IfErr result (HomesCause m.old filling.old.extents m.new (B.state bay.old)
+        (B.state bay.new)) }
     ensures extents { filling.new.extents ≡ filling.old.extents }
     ensures end { filling.new.end ≡ filling.old.end }
     ensures failed { filling.new.failed ≡ filling.old.failed }

@@ -143,7 +143,8 @@ pub(crate) fn open_part(m: &Mounted, filling: &mut Filling)
 
 /// The places in the row of the part at hand: the first, and the one behind its last.
 fn part_of(filling: &Filling) -> Option<(usize, usize)>
-    ensures { IfSome result (λ part. (part.0 ≤ part.1) × ((part.1 ≤ vec_len filling.now.row) × (part.1 ≤ vec_len filling.now.marks))) }
+    ensures { IfSome result (λ part. (part.0 ≤ part.1)
+        × ((part.1 ≤ vec_len filling.now.row) × (part.1 ≤ vec_len filling.now.marks))) }
 {
     let from = filling.first.checked_sub(filling.extents.first)? as usize;
     let to = from.checked_add(filling.len)?;
@@ -235,7 +236,8 @@ fn all_failed(homes: &Homes, failed: DiskSet) -> Refusal
 
 /// The place in the row of an extent of the part at hand.
 fn place_of(filling: &Filling, index: u32) -> Option<usize>
-    ensures { IfSome result (λ place. (place < vec_len filling.now.row) × (place < vec_len filling.now.marks)) }
+    ensures { IfSome result (λ place. (place < vec_len filling.now.row)
+        × (place < vec_len filling.now.marks)) }
 {
     let (from, to) = part_of(filling)?;
     let place = (index as u64).checked_sub(filling.extents.first)? as usize;
@@ -258,7 +260,8 @@ fn write_new<B: Bay>(
     requires takes { Takes m.now (B.state bay.old) }
     ensures keeps { KeepsGroup m.now m.now (B.state bay.old) (B.state bay.new) }
     ensures end { filling.new.end ≡ filling.old.end }
-    ensures failed { FailsMore m.now filling.old.failed filling.new.failed (B.state bay.old) (B.state bay.new) }
+    ensures failed { FailsMore m.now filling.old.failed filling.new.failed (B.state bay.old)
+        (B.state bay.new) }
     ensures cause { IfErr result (FillCause filling.new.failed) }
 {
     let Some(place) = place_of(filling, piece.x.index) else {
@@ -291,7 +294,8 @@ fn write_pieces<B: Bay>(
     requires layout { IsAllowedLayout layout }
     ensures keeps { KeepsGroup m.now m.now (B.state bay.old) (B.state bay.new) }
     ensures end { filling.new.end ≡ filling.old.end }
-    ensures failed { FailsMore m.now filling.old.failed filling.new.failed (B.state bay.old) (B.state bay.new) }
+    ensures failed { FailsMore m.now filling.old.failed filling.new.failed (B.state bay.old)
+        (B.state bay.new) }
     ensures cause { IfErr result (FillCause filling.new.failed) }
 {
     let shape = m.catalog().shape();
@@ -319,7 +323,8 @@ fn write_part<B: Bay>(
     requires takes { Takes m.now (B.state bay.old) }
     ensures keeps { KeepsGroup m.now m.now (B.state bay.old) (B.state bay.new) }
     ensures end { filling.new.end ≡ filling.old.end }
-    ensures failed { FailsMore m.now filling.old.failed filling.new.failed (B.state bay.old) (B.state bay.new) }
+    ensures failed { FailsMore m.now filling.old.failed filling.new.failed (B.state bay.old)
+        (B.state bay.new) }
     ensures cause { IfErr result (FillCause filling.new.failed) }
 {
     match layout_of(m.catalog().shape(), filling.stripe) {
@@ -362,8 +367,10 @@ pub fn put_next<B: Bay>(
     requires takes { Takes m.old (B.state bay.old) }
     ensures keeps { KeepsGroup m.old m.new (B.state bay.old) (B.state bay.new) }
     ensures mounted { OnOk result (IsMounted m.new) }
-    ensures cause { IfErr result (PutCause m.old filling.old.failed m.new (B.state bay.old) (B.state bay.new)) }
-    ensures failed { FailsMore m.old filling.old.failed filling.new.failed (B.state bay.old) (B.state bay.new) }
+    ensures cause { IfErr result (PutCause m.old filling.old.failed m.new (B.state bay.old)
+        (B.state bay.new)) }
+    ensures failed { FailsMore m.old filling.old.failed filling.new.failed (B.state bay.old)
+        (B.state bay.new) }
     ensures end { filling.new.end ≡ filling.old.end }
 {
     m.takes_calls()?;
@@ -385,7 +392,8 @@ pub fn put_zeros<B: Bay>(
     requires takes { Takes m.old (B.state bay.old) }
     ensures keeps { KeepsGroup m.old m.new (B.state bay.old) (B.state bay.new) }
     ensures mounted { OnOk result (IsMounted m.new) }
-    ensures cause { IfErr result (PutCause m.old filling.old.failed m.new (B.state bay.old) (B.state bay.new)) }
+    ensures cause { IfErr result (PutCause m.old filling.old.failed m.new (B.state bay.old)
+        (B.state bay.new)) }
 {
     for _ in 0..u64::MAX {
         let n = filling.wanted().min(zeros.len() as u64) as usize;

@@ -46,7 +46,8 @@ pub fn first_piece(shape: Shape, layout: Layout, file: u32, at: u64, len: u64) -
     ensures within { IfSome result (λ p. p.len ≤ len) }
     ensures end { IfSome result (λ p. at + len < 2 ^ 64) }
     // The file's bytes from that one on lie there, where the layout is one of the group's.
-    ensures first { IsOfShape layout shape → IfSome result (IsFirstPiece shape layout.stripe file at len) }
+    ensures first { IsOfShape layout shape → IfSome result
+        (IsFirstPiece shape layout.stripe file at len) }
 {
     if len > u64::MAX - at {
         return None;

@@ -29,7 +29,8 @@ pub(crate) fn place_row(
     row: &[Homes],
 ) -> bool
     requires { first + length row.now < 2 ^ 63 }
-    ensures { after_homes units.old (placed_extents step file first row.now) ≡ (if result then Some units.new else None) }
+    ensures { after_homes units.old (placed_extents step file first row.now)
+        ≡ (if result then Some units.new else None) }
 {
     let mut index = first;
     for homes in row {

@@ -96,7 +96,8 @@ fn fill_copy<B: Bay>(
     requires mounted { IsMounted m.now }
     requires takes { Takes m.now (B.state bay.old) }
     ensures keeps { KeepsGroup m.now m.now (B.state bay.old) (B.state bay.new) }
-    ensures failed { FailsMore m.now filled.failed result.failed (B.state bay.old) (B.state bay.new) }
+    ensures failed { FailsMore m.now filled.failed result.failed (B.state bay.old)
+        (B.state bay.new) }
 {
     let Some(home) = home else {
         return filled;
@@ -129,7 +130,8 @@ pub(crate) fn fill_copies<B: Bay>(
     requires mounted { IsMounted m.now }
     requires takes { Takes m.now (B.state bay.old) }
     ensures keeps { KeepsGroup m.now m.now (B.state bay.old) (B.state bay.new) }
-    ensures failed { FailsMore m.now filled.failed result.failed (B.state bay.old) (B.state bay.new) }
+    ensures failed { FailsMore m.now filled.failed result.failed (B.state bay.old)
+        (B.state bay.new) }
 {
     let homes = *homes;
     let filled = fill_copy(m, bay, homes.first, 1, piece, bytes, filled);

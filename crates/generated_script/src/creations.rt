@@ -45,7 +45,8 @@ fn with_later_path(text: Vec<u8>, path: &[u8]) -> Result<Vec<u8>, NoMemory>
 }
 
 fn with_later_paths(mut text: Vec<u8>, paths: &[Text]) -> Result<Vec<u8>, NoMemory>
-    ensures { IfOk result (λ longer. longer.items ≡ text.items ++ flat_map (λ path. 44 ∷ 32 ∷ quoted path) paths.now) }
+    ensures { IfOk result (λ longer. longer.items
+        ≡ text.items ++ flat_map (λ path. 44 ∷ 32 ∷ quoted path) paths.now) }
 {
     for path in paths {
         text = with_later_path(text, path.as_slice())?;
@@ -55,7 +56,8 @@ fn with_later_paths(mut text: Vec<u8>, paths: &[Text]) -> Result<Vec<u8>, NoMemo
 
 /// The paths in quotes, with commas between.
 fn with_paths(text: Vec<u8>, paths: &[Text]) -> Result<Vec<u8>, NoMemory>
-    ensures { IfOk result (λ longer. longer.items ≡ text.items ++ with_commas (map quoted paths.now)) }
+    ensures { IfOk result (λ longer. longer.items
+        ≡ text.items ++ with_commas (map quoted paths.now)) }
 {
     match paths {
         [] => Ok(text),
@@ -73,7 +75,8 @@ fn with_group(text: Vec<u8>, paths: &[Text]) -> Result<Vec<u8>, NoMemory>
 /// A statement for each path that creates its image, and one that creates the group of all of them.
 #[tactic(auto, using(crate::proofs::Statements::creations_are))]
 pub fn creations(alloc: Global, paths: &[Text]) -> Result<Vec<u8>, NoMemory>
-    ensures { IfOk result (λ text. text.items ≡ ended (map create_image paths.now ++ create_group paths.now ∷ [])) }
+    ensures { IfOk result (λ text. text.items
+        ≡ ended (map create_image paths.now ++ create_group paths.now ∷ [])) }
 {
     with_group(with_images(Vec::new(alloc), paths)?, paths)
 }

@@ -42,7 +42,8 @@ fn spelt(alloc: Global, name: &Name) -> Result<DiskRef, NoMemory>
 
 /// Why a group isn't mounted, as a command is refused: images by their paths, disks by their names.
 fn refusal_of(alloc: Global, paths: &[String], error: MountError) -> Result<Refusal, NoMemory>
-    ensures { IfOk result (λ refusal. meaning_of (λ _. []) refusal ≡ mount_said (map string_bytes paths.now) error) }
+    ensures { IfOk result (λ refusal. meaning_of (λ _. []) refusal
+        ≡ mount_said (map string_bytes paths.now) error) }
 {
     match error {
         MountError::NoGroup => Ok(Refusal::NoGroup),

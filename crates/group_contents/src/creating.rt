@@ -41,8 +41,11 @@ fn chosen_by(m: &Mounted, new: &NewFile) -> Result<(u8, Stripe), Refusal>
 
 /// The same by the template of a name, or else by the system template of the file's type.
 fn by_template(m: &Mounted, path: &Path, name: Option<&Name>) -> Result<(u8, Stripe), Refusal>
-    ensures cause { IfErr result (λ e. (e ≡ NoTemplate) × (template_in m.now.catalog.tables (option_copied name.entry) path.now.parts ≡ None)) }
-    ensures chosen { IfOk result (λ chosen. IsBy m.now (template_in m.now.catalog.tables (option_copied name.entry) path.now.parts) chosen.0 chosen.1) }
+    ensures cause { IfErr result (λ e. (e ≡ NoTemplate)
+        × (template_in m.now.catalog.tables (option_copied name.entry) path.now.parts ≡ None)) }
+    ensures chosen { IfOk result (λ chosen. IsBy m.now
+        (template_in m.now.catalog.tables (option_copied name.entry) path.now.parts) chosen.0
+        chosen.1) }
 {
     let kind = m.catalog().shape().kind;
     let [_, type_name, _] = path.parts.as_slice() else {
@@ -123,7 +126,8 @@ fn begin_prepared<B: Bay>(
     requires takes { Takes m.old (B.state bay.old) }
     ensures keeps { KeepsGroup m.old m.new (B.state bay.old) (B.state bay.new) }
     ensures mounted { OnOk result (IsMounted m.new) }
-    ensures cause { IfErr result (BegunCause m.old filling.old.extents m.new (B.state bay.old) (B.state bay.new)) }
+    ensures cause { IfErr result (BegunCause m.old filling.old.extents m.new (B.state bay.old)
+        (B.state bay.new)) }
     ensures end { filling.new.end ≡ filling.old.end }
     ensures failed { filling.new.failed ≡ filling.old.failed }
 {
@@ -147,7 +151,8 @@ pub fn begin_new<B: Bay>(
     requires takes { Takes m.old (B.state bay.old) }
     ensures keeps { KeepsGroup m.old m.new (B.state bay.old) (B.state bay.new) }
     ensures mounted { OnOk result (IsMounted m.new) }
-    ensures cause { IfErr result (BeginCause m.old new.now m.new (B.state bay.old) (B.state bay.new)) }
+    ensures cause { IfErr result (BeginCause m.old new.now m.new (B.state bay.old)
+        (B.state bay.new)) }
     ensures end { IfOk result (λ filling. end_by contents new.now.size filling.end) }
     ensures failed { IfOk result (λ filling. filling.failed ≡ 0) }
 {
@@ -270,7 +275,8 @@ pub fn finish_new<B: Bay>(
 pub fn give_up<B: Bay>(m: &mut Mounted, alloc: Global, bay: &mut B, refusal: Refusal) -> Refusal
     requires takes { Takes m.old (B.state bay.old) }
     ensures keeps { KeepsGroup m.old m.new (B.state bay.old) (B.state bay.new) }
-    ensures cause { (result ≡ refusal) ⊎ StatusCause m.old m.new (B.state bay.old) (B.state bay.new) result }
+    ensures cause { (result ≡ refusal) ⊎ StatusCause m.old m.new (B.state bay.old) (B.state bay.new)
+        result }
 {
     give_back(m, alloc, bay, refusal)
 }
@@ -291,7 +297,8 @@ fn fill_new<B: Bay>(
     requires fresh { filling.old.failed ≡ 0 }
     ensures keeps { KeepsGroup m.old m.new (B.state bay.old) (B.state bay.new) }
     ensures cause { IfErr result (WriteCause m.old m.new (B.state bay.old) (B.state bay.new)) }
-    ensures named { IfOk result (λ file. (before : MountedGroup) × NamesFile before new.now file m.new) }
+    ensures named { IfOk result (λ file. (before : MountedGroup)
+        × NamesFile before new.now file m.new) }
 {
     match put_zeros(m, alloc, bay, filling, zeros) {
         Ok(()) => finish_new(m, alloc, bay, filling, new),
@@ -309,8 +316,10 @@ fn create_by<B: Bay>(
 ) -> Result<u32, Refusal>
     requires takes { Takes m.old (B.state bay.old) }
     ensures keeps { KeepsGroup m.old m.new (B.state bay.old) (B.state bay.new) }
-    ensures cause { IfErr result (CreateCause m.old new.now m.new (B.state bay.old) (B.state bay.new)) }
-    ensures named { IfOk result (λ file. (before : MountedGroup) × NamesFile before new.now file m.new) }
+    ensures cause { IfErr result (CreateCause m.old new.now m.new (B.state bay.old)
+        (B.state bay.new)) }
+    ensures named { IfOk result (λ file. (before : MountedGroup)
+        × NamesFile before new.now file m.new) }
 {
     match begin_new(m, alloc, bay, new, Contents::Zeros) {
         Ok(mut filling) => {
@@ -333,8 +342,10 @@ pub fn create<B: Bay>(
 ) -> Result<u32, Refusal>
     requires takes { Takes m.old (B.state bay.old) }
     ensures keeps { KeepsGroup m.old m.new (B.state bay.old) (B.state bay.new) }
-    ensures cause { IfErr result (CreateCause m.old new.now m.new (B.state bay.old) (B.state bay.new)) }
-    ensures named { IfOk result (λ file. (before : MountedGroup) × NamesFile before new.now file m.new) }
+    ensures cause { IfErr result (CreateCause m.old new.now m.new (B.state bay.old)
+        (B.state bay.new)) }
+    ensures named { IfOk result (λ file. (before : MountedGroup)
+        × NamesFile before new.now file m.new) }
 {
     let Ok(zeros) = buffer(alloc, LONGEST_PIECE, 0) else {
         return Err(Refusal::NoMemory);

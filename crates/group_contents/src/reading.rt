@@ -35,7 +35,8 @@ fn read_one<B: Bay>(
     ensures cause { IfErr result (ReadCause m.now (B.state bay.old) (B.state bay.new) file.now) }
     ensures reads { ReadsGroup m.now (B.state bay.old) (B.state bay.new) }
     ensures mounted { KeepsMounted m.now (B.state bay.old) (B.state bay.new) }
-    ensures agrees { OnOk result (WhereMounted m.now (B.state bay.old) (B.state bay.new) (λ g. AgreesIn g (piece_of piece.x piece.inner (length buf.old)) buf.new)) }
+    ensures agrees { OnOk result (WhereMounted m.now (B.state bay.old) (B.state bay.new)
+        (λ g. AgreesIn g (piece_of piece.x piece.inner (length buf.old)) buf.new)) }
 {
     match read_piece(m, bay, piece.x, piece.inner, buf) {
         Ok(()) => Ok(()),
@@ -64,7 +65,8 @@ fn read_pieces<B: Bay>(
     ensures cause { IfErr result (ReadCause m.now (B.state bay.old) (B.state bay.new) file.now) }
     ensures reads { ReadsGroup m.now (B.state bay.old) (B.state bay.new) }
     ensures mounted { KeepsMounted m.now (B.state bay.old) (B.state bay.new) }
-    ensures agrees { OnOk result (WhereMounted m.now (B.state bay.old) (B.state bay.new) (λ g. ShowsFile g file.now at buf.new)) }
+    ensures agrees { OnOk result (WhereMounted m.now (B.state bay.old) (B.state bay.new)
+        (λ g. ShowsFile g file.now at buf.new)) }
 {
     let shape = m.catalog().shape();
     let mut from = at;
@@ -98,7 +100,8 @@ pub fn read_next<B: Bay>(
     ensures cause { IfErr result (ReadCause m.now (B.state bay.old) (B.state bay.new) file.now) }
     ensures reads { Runs (IsOwn m.now) Same (B.state bay.old) (B.state bay.new) }
     ensures mounted { KeepsMounted m.now (B.state bay.old) (B.state bay.new) }
-    ensures agrees { OnOk result (WhereMounted m.now (B.state bay.old) (B.state bay.new) (λ g. ShowsFile g file.now at buf.new)) }
+    ensures agrees { OnOk result (WhereMounted m.now (B.state bay.old) (B.state bay.new)
+        (λ g. ShowsFile g file.now at buf.new)) }
 {
     match m.takes_calls() {
         Ok(()) => {}
@@ -121,7 +124,10 @@ pub fn read<B: Bay>(
 ) -> Result<(), Refusal>
     requires takes { Takes m.now (B.state bay.old) }
     ensures keeps { KeepsGroup m.now m.now (B.state bay.old) (B.state bay.new) }
-    ensures cause { IfErr result (λ refusal. AtFile m.now path.now.parts (SpanCause m.now span.at span.len) refusal ⊎ AtFile m.now path.now.parts (ReadCause m.now (B.state bay.old) (B.state bay.new)) refusal) }
+    ensures cause { IfErr result (λ refusal. AtFile m.now path.now.parts
+        (SpanCause m.now span.at span.len) refusal
+        ⊎ AtFile m.now path.now.parts (ReadCause m.now (B.state bay.old) (B.state bay.new))
+        refusal) }
     ensures reads { Runs (IsOwn m.now) Same (B.state bay.old) (B.state bay.new) }
     ensures mounted { KeepsMounted m.now (B.state bay.old) (B.state bay.new) }
 {

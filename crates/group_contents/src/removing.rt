@@ -74,7 +74,8 @@ pub fn remove_file<B: Bay>(
 ) -> Result<(), Refusal>
     requires takes { Takes m.old (B.state bay.old) }
     ensures keeps { KeepsGroup m.old m.new (B.state bay.old) (B.state bay.new) }
-    ensures cause { IfErr result (λ refusal. OpenCause m.old path.now.parts refusal ⊎ StatusCause m.old m.new (B.state bay.old) (B.state bay.new) refusal) }
+    ensures cause { IfErr result (λ refusal. OpenCause m.old path.now.parts refusal
+        ⊎ StatusCause m.old m.new (B.state bay.old) (B.state bay.new) refusal) }
     // The head and the names of the file at the path were taken away, and then its extents, and nothing is pending.
     ensures removed { OnOk result (IsRemoved m.old path.now.parts m.new) }
 {
@@ -100,7 +101,8 @@ fn is_directory(m: &Mounted, path: &Path) -> bool
 
 /// The change that takes away an empty directory.
 fn plan_drop(catalog: &Catalog, alloc: Global, path: &Path) -> Result<Change, Refusal>
-    ensures planned { IfOk result (λ change. IsTreePlan catalog.now (e.DropDir path.now.parts) change.put change.gone) }
+    ensures planned { IfOk result (λ change. IsTreePlan catalog.now (e.DropDir path.now.parts)
+        change.put change.gone) }
     ensures refused { IfErr result (IsTreeRefusal catalog.now (e.DropDir path.now.parts)) }
 {
     match path.copy() {
@@ -124,7 +126,8 @@ fn remove_directory<B: Bay>(
     requires mounted { IsMounted m.old }
     requires takes { Takes m.old (B.state bay.old) }
     ensures keeps { KeepsGroup m.old m.new (B.state bay.old) (B.state bay.new) }
-    ensures cause { IfErr result (λ refusal. IsTreeRefusal m.old.catalog (e.DropDir path.now.parts) refusal ⊎ StatusCause m.old m.new (B.state bay.old) (B.state bay.new) refusal) }
+    ensures cause { IfErr result (λ refusal. IsTreeRefusal m.old.catalog (e.DropDir path.now.parts)
+        refusal ⊎ StatusCause m.old m.new (B.state bay.old) (B.state bay.new) refusal) }
     ensures dropped { OnOk result (DropsDirectory m.old path.now.parts m.new) }
 {
     match plan_drop(m.catalog(), alloc, path) {
@@ -143,7 +146,8 @@ pub fn remove<B: Bay>(
 ) -> Result<(), Refusal>
     requires takes { Takes m.old (B.state bay.old) }
     ensures keeps { KeepsGroup m.old m.new (B.state bay.old) (B.state bay.new) }
-    ensures cause { IfErr result (RemoveCause m.old path.now.parts m.new (B.state bay.old) (B.state bay.new)) }
+    ensures cause { IfErr result (RemoveCause m.old path.now.parts m.new (B.state bay.old)
+        (B.state bay.new)) }
     ensures removed { OnOk result (RemovesPath m.old path.now.parts m.new) }
 {
     m.takes_calls()?;

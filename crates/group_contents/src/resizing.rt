@@ -59,7 +59,8 @@ fn may_grow(catalog: &Catalog, file: u32, size: u64) -> bool
 fn may_size(catalog: &Catalog, file: u32, size: u64) -> bool
     ensures file { OnTrue result (IsTrue (is_file_number catalog.now.tables.files file)) }
     ensures grow { OnTrue result (MayGrow catalog.now.shape catalog.now.tables file size) }
-    ensures on { OnTrue result (IsTrue (is_on_file catalog.now.tables.files catalog.now.tables.operations.pending)) }
+    ensures on { OnTrue result (IsTrue (is_on_file catalog.now.tables.files
+        catalog.now.tables.operations.pending)) }
 {
     may_grow(catalog, file, size) && is_on_file(catalog)
 }
@@ -202,7 +203,8 @@ fn give_back_more<B: Bay>(
     requires mounted { IsMounted m.old }
     requires takes { Takes m.old (B.state bay.old) }
     ensures keeps { KeepsGroup m.old m.new (B.state bay.old) (B.state bay.new) }
-    ensures cause { IsFaultBack m.old filling.old.extents disk m.new (B.state bay.old) (B.state bay.new) result }
+    ensures cause { IsFaultBack m.old filling.old.extents disk m.new (B.state bay.old)
+        (B.state bay.new) result }
 {
     match give_homes(m, alloc, bay, filling) {
         Ok(()) => give_back(m, alloc, bay, Refusal::WriteFault { disk }),
@@ -220,7 +222,8 @@ fn give_back_fault<B: Bay>(
 ) -> Refusal
     requires takes { Takes m.old (B.state bay.old) }
     ensures keeps { KeepsGroup m.old m.new (B.state bay.old) (B.state bay.new) }
-    ensures cause { IsFaultBack m.old filling.old.extents disk m.new (B.state bay.old) (B.state bay.new) result }
+    ensures cause { IsFaultBack m.old filling.old.extents disk m.new (B.state bay.old)
+        (B.state bay.new) result }
 {
     match m.takes_calls() {
         Ok(()) => give_back_more(m, alloc, bay, filling, disk),
@@ -283,7 +286,8 @@ fn place_more<B: Bay>(
     requires takes { Takes m.old (B.state bay.old) }
     requires fresh { filling.old.failed ≡ 0 }
     ensures keeps { KeepsGroup m.old m.new (B.state bay.old) (B.state bay.new) }
-    ensures cause { IfErr result (LaterCause m.old filling.old.extents m.new (B.state bay.old) (B.state bay.new)) }
+    ensures cause { IfErr result (LaterCause m.old filling.old.extents m.new (B.state bay.old)
+        (B.state bay.new)) }
     ensures sized { OnOk result (IsSized growth.now.file.file growth.now.size m.new) }
 {
     match give_homes(m, alloc, bay, filling) {
@@ -306,7 +310,8 @@ fn extend_begun<B: Bay>(
     requires takes { Takes m.old (B.state bay.old) }
     requires fresh { filling.old.failed ≡ 0 }
     ensures keeps { KeepsGroup m.old m.new (B.state bay.old) (B.state bay.new) }
-    ensures cause { IfErr result (LaterCause m.old filling.old.extents m.new (B.state bay.old) (B.state bay.new)) }
+    ensures cause { IfErr result (LaterCause m.old filling.old.extents m.new (B.state bay.old)
+        (B.state bay.new)) }
     ensures sized { OnOk result (IsSized growth.now.file.file growth.now.size m.new) }
 {
     match clear_behind(m, alloc, bay, growth, zeros) {
@@ -329,7 +334,8 @@ fn extend<B: Bay>(
     requires takes { Takes m.old (B.state bay.old) }
     requires fresh { filling.old.failed ≡ 0 }
     ensures keeps { KeepsGroup m.old m.new (B.state bay.old) (B.state bay.new) }
-    ensures cause { IfErr result (MoreCause m.old filling.old.extents m.new (B.state bay.old) (B.state bay.new)) }
+    ensures cause { IfErr result (MoreCause m.old filling.old.extents m.new (B.state bay.old)
+        (B.state bay.new)) }
     ensures sized { OnOk result (IsSized growth.now.file.file growth.now.size m.new) }
 {
     match begin_operation(m, alloc, bay, PendingKind::Grow, filling.extents) {
@@ -372,7 +378,8 @@ fn grow_by<B: Bay>(
     requires takes { Takes m.old (B.state bay.old) }
     requires fresh { filling.old.failed ≡ 0 }
     ensures keeps { KeepsGroup m.old m.new (B.state bay.old) (B.state bay.new) }
-    ensures cause { IfErr result (MoreCause m.old filling.old.extents m.new (B.state bay.old) (B.state bay.new)) }
+    ensures cause { IfErr result (MoreCause m.old filling.old.extents m.new (B.state bay.old)
+        (B.state bay.new)) }
     ensures sized { OnOk result (IsSized growth.now.file.file growth.now.size m.new) }
 {
     if filling.extents.count > 0 {
@@ -393,7 +400,8 @@ fn grow_with<B: Bay>(
     requires mounted { IsMounted m.old }
     requires takes { Takes m.old (B.state bay.old) }
     ensures keeps { KeepsGroup m.old m.new (B.state bay.old) (B.state bay.new) }
-    ensures cause { IfErr result (GrowthCause m.old growth.now.file m.new (B.state bay.old) (B.state bay.new)) }
+    ensures cause { IfErr result (GrowthCause m.old growth.now.file m.new (B.state bay.old)
+        (B.state bay.new)) }
     ensures sized { OnOk result (IsSized growth.now.file.file growth.now.size m.new) }
 {
     match prepare_more(m, alloc, &growth.file, growth.size) {
@@ -412,7 +420,8 @@ fn grow<B: Bay>(m: &mut Mounted, alloc: Global, bay: &mut B, growth: &Growth) ->
     requires mounted { IsMounted m.old }
     requires takes { Takes m.old (B.state bay.old) }
     ensures keeps { KeepsGroup m.old m.new (B.state bay.old) (B.state bay.new) }
-    ensures cause { IfErr result (GrowthCause m.old growth.now.file m.new (B.state bay.old) (B.state bay.new)) }
+    ensures cause { IfErr result (GrowthCause m.old growth.now.file m.new (B.state bay.old)
+        (B.state bay.new)) }
     ensures sized { OnOk result (IsSized growth.now.file.file growth.now.size m.new) }
 {
     if !is_at_rest(m) {
@@ -440,7 +449,8 @@ pub fn resize<B: Bay>(
 ) -> Result<(), Refusal>
     requires takes { Takes m.old (B.state bay.old) }
     ensures keeps { KeepsGroup m.old m.new (B.state bay.old) (B.state bay.new) }
-    ensures cause { IfErr result (ResizeCause m.old path.now.parts size m.new (B.state bay.old) (B.state bay.new)) }
+    ensures cause { IfErr result (ResizeCause m.old path.now.parts size m.new (B.state bay.old)
+        (B.state bay.new)) }
     // The file at the path had the size and the group stays, or a commit gave it.
     ensures sized { OnOk result (ResizesFile m.old path.now.parts size m.new) }
 {

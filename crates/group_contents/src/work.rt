@@ -55,10 +55,12 @@ pub fn work_on_file<B: Bay>(
     requires takes { Takes m.old (B.state bay.old) }
     // The group's parts agree, it takes the next call, and the disks of others stay.
     ensures keeps { KeepsGroup m.old m.new (B.state bay.old) (B.state bay.new) }
-    ensures cause { IfErr result (WorkCause m.old work.now m.new (B.state bay.old) (B.state bay.new)) }
+    ensures cause { IfErr result (WorkCause m.old work.now m.new (B.state bay.old)
+        (B.state bay.new)) }
     ensures done { OnOk result (WorkDone m.old work.now m.new) }
     // Of bytes that are written on a group that takes calls: what the disks hold at each moment.
-    ensures does { IsMounted m.old → WorkDoes m.old work.now result m.new (B.state bay.old) (B.state bay.new) }
+    ensures does { IsMounted m.old → WorkDoes m.old work.now result m.new (B.state bay.old)
+        (B.state bay.new) }
 {
     match work {
         FileWork::Resize { path, size } => resize(m, alloc, bay, path, *size, now),

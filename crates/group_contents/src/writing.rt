@@ -65,7 +65,8 @@ fn failed_on_the_way(first: Option<u8>, failed: DiskSet, disk: DiskRef) -> Refus
 /// The disks of two sets.
 #[tactic(auto, using(crate::proofs::Failed::joined_bits))]
 fn joined(one: DiskSet, other: DiskSet) -> DiskSet
-    ensures { (k : ℕ) → k < 64 → has_bit result k ≡ true → (has_bit one k ≡ true) ⊎ (has_bit other k ≡ true) }
+    ensures { (k : ℕ) → k < 64 → has_bit result k ≡ true
+        → (has_bit one k ≡ true) ⊎ (has_bit other k ≡ true) }
 {
     DiskSet::from_bits(one.bits() | other.bits())
 }
@@ -87,8 +88,10 @@ fn write_one<B: Bay>(
     ensures keeps { KeepsGroup m.old m.new (B.state bay.old) (B.state bay.new) }
     ensures mounted { OnOk result (IsMounted m.new) }
     ensures cause { IfErr result (PutCause m.old failed m.new (B.state bay.old) (B.state bay.new)) }
-    ensures failed { IfOk result (λ more. FailsMore m.old failed more (B.state bay.old) (B.state bay.new)) }
-    ensures held { PieceHeld m.old piece.x piece.inner bytes.now result m.new (B.state bay.old) (B.state bay.new) }
+    ensures failed { IfOk result (λ more. FailsMore m.old failed more (B.state bay.old)
+        (B.state bay.new)) }
+    ensures held { PieceHeld m.old piece.x piece.inner bytes.now result m.new (B.state bay.old)
+        (B.state bay.new) }
 {
     match write_piece(m, alloc, bay, piece.x, piece.inner, bytes, now) {
         Ok(more) => Ok(joined(failed, more)),
@@ -124,7 +127,8 @@ fn write_bytes<B: Bay>(
     ensures keeps { KeepsGroup m.old m.new (B.state bay.old) (B.state bay.new) }
     ensures mounted { OnOk result (IsMounted m.new) }
     ensures cause { IfErr result (PutCause m.old failed m.new (B.state bay.old) (B.state bay.new)) }
-    ensures failed { IfOk result (λ more. FailsMore m.old failed more (B.state bay.old) (B.state bay.new)) }
+    ensures failed { IfOk result (λ more. FailsMore m.old failed more (B.state bay.old)
+        (B.state bay.new)) }
     ensures end { OnOk result (at + length bytes.now < 2 ^ 64) }
     ensures held { IsLayoutOf writing.layout writing.file m.old.catalog.shape
         → WritesSpan m.old writing.file at bytes.now (done_of result) m.new (B.state bay.old) (B.state bay.new) }
@@ -235,7 +239,8 @@ fn write_span<B: Bay>(
     requires takes { Takes m.old (B.state bay.old) }
     ensures keeps { KeepsGroup m.old m.new (B.state bay.old) (B.state bay.new) }
     ensures cause { IfErr result (WriteCause m.old m.new (B.state bay.old) (B.state bay.new)) }
-    ensures held { WritesSpan m.old file.now at bytes.now result m.new (B.state bay.old) (B.state bay.new) }
+    ensures held { WritesSpan m.old file.now at bytes.now result m.new (B.state bay.old)
+        (B.state bay.new) }
 {
     let Some(layout) = layout_of(m.catalog().shape(), file.stripe) else {
         return Err(Refusal::NoMemory);
@@ -275,7 +280,8 @@ pub fn write<B: Bay>(
 ) -> Result<(), Refusal>
     requires takes { Takes m.old (B.state bay.old) }
     ensures keeps { KeepsGroup m.old m.new (B.state bay.old) (B.state bay.new) }
-    ensures cause { IfErr result (WriteFileCause m.old path.now.parts at (length bytes.now) m.new (B.state bay.old) (B.state bay.new)) }
+    ensures cause { IfErr result (WriteFileCause m.old path.now.parts at (length bytes.now) m.new
+        (B.state bay.old) (B.state bay.new)) }
     // Of a group that takes calls: what the disks hold at each moment, and what is mounted in the end.
     ensures does { IsMounted m.old
         → WritesFile m.old path.now.parts at bytes.now result m.new (B.state bay.old) (B.state bay.new) }
@@ -303,7 +309,8 @@ pub fn fill<B: Bay>(
 ) -> Result<(), Refusal>
     requires takes { Takes m.old (B.state bay.old) }
     ensures keeps { KeepsGroup m.old m.new (B.state bay.old) (B.state bay.new) }
-    ensures cause { IfErr result (WriteFileCause m.old path.now.parts at len m.new (B.state bay.old) (B.state bay.new)) }
+    ensures cause { IfErr result (WriteFileCause m.old path.now.parts at len m.new (B.state bay.old)
+        (B.state bay.new)) }
     ensures does { IsMounted m.old
         → WritesFile m.old path.now.parts at (replicate len byte) result m.new (B.state bay.old) (B.state bay.new) }
 {

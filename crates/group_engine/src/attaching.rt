@@ -28,7 +28,8 @@ impl Mounted {
     /// Whether no disk is attached at the number of a disk or on its slot.
     fn has_room(&self, member: Member) -> bool
         requires { member.number < 64 }
-        ensures absent { OnTrue result (get_or self.now.register.members member.number None ≡ None) }
+        ensures absent { OnTrue result (get_or self.now.register.members member.number None
+            ≡ None) }
         ensures apart { OnTrue result (IsOwn self.now member.slot → ⊥) }
     {
         if self.register.member(member.number).is_some() {
@@ -45,7 +46,8 @@ impl Mounted {
     /// Whether the attached disk of a number has the slot.
     fn is_on(&self, disk: u8, slot: u32) -> bool
         requires { disk < 64 }
-        ensures no { OnFalse result ((x : AttachedMember) → get_or self.now.register.members disk None ≡ Some x → slot ≡ x.slot → ⊥) }
+        ensures no { OnFalse result ((x : AttachedMember)
+            → get_or self.now.register.members disk None ≡ Some x → slot ≡ x.slot → ⊥) }
     {
         match self.register.member(disk) {
             Some(other) => other.slot == slot,

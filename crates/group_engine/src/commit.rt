@@ -42,7 +42,8 @@ impl Mounted {
         requires ready { IsMounted self.old → IsReady self.old (B.state bay.old) }
         requires few { length change.now.put + length change.now.gone ≤ 64 }
         requires items { ArePutItems change.now.put }
-        requires leaves { IsMounted self.old → (u : Tables) × Leaves self.old.catalog change.now.put change.now.gone u }
+        requires leaves { IsMounted self.old → (u : Tables)
+            × Leaves self.old.catalog change.now.put change.now.gone u }
         // The group's parts agree, it takes the next call, and the disks of others stay.
         ensures keeps { KeepsGroup self.old self.new (B.state bay.old) (B.state bay.new) }
         ensures flight { self.new.flight ≡ self.old.flight }
@@ -50,8 +51,10 @@ impl Mounted {
         ensures status { KeepsRecord self.old.register.value self.new.register.value }
         // Once it is done, the group takes calls still, and its tables are those after the change.
         ensures mounted { OnOk result (IsMounted self.new) }
-        ensures applied { OnOk result (IsAfter self.old.catalog.tables change.now.put change.now.gone self.new.catalog.tables) }
-        ensures cause { IfErr result (CommitCause self.old change.now.put self.new (B.state bay.old) (B.state bay.new)) }
+        ensures applied { OnOk result (IsAfter self.old.catalog.tables change.now.put
+            change.now.gone self.new.catalog.tables) }
+        ensures cause { IfErr result (CommitCause self.old change.now.put self.new (B.state bay.old)
+            (B.state bay.new)) }
         // Each image of each moment is held for the group before or the one after.
         ensures moments { IsMounted self.old → (n : ℕ) (g h : Group) (kept : Kept) → LeadsTo n self.old change.now.put change.now.gone (B.state bay.old) g h kept
             → LeavesOnly (B.state bay.old) (B.state bay.new) (StandsIn n self.old.register.id (g ∷ h ∷ []) kept) }
@@ -59,8 +62,11 @@ impl Mounted {
         ensures done { IsMounted self.old → OnOk result ((n : ℕ) (g h : Group) (kept : Kept) → LeadsTo n self.old change.now.put change.now.gone (B.state bay.old) g h kept
             → (later : Kept) × (later.slots ≡ kept.slots) × Mounts n self.new (B.state bay.new) h later) }
         // Where it is refused and the group takes calls, nothing has changed.
-        ensures refused { IsMounted self.new → OnErr result ((n : ℕ) (g : Group) (kept : Kept) → Mounts n self.old (B.state bay.old) g kept → Mounts n self.new (B.state bay.new) g kept) }
-        ensures idle { IsMounted self.old → IfErr result (IsIdleBut self.old self.new (B.state bay.old) (B.state bay.new)) }
+        ensures refused { IsMounted self.new → OnErr result
+            ((n : ℕ) (g : Group) (kept : Kept) → Mounts n self.old (B.state bay.old) g kept
+            → Mounts n self.new (B.state bay.new) g kept) }
+        ensures idle { IsMounted self.old → IfErr result
+            (IsIdleBut self.old self.new (B.state bay.old) (B.state bay.new)) }
         // Each turn that it takes costs a copy.
         ensures turns { turns_at_most self.new ≤ turns_at_most self.old }
     {
@@ -85,7 +91,8 @@ impl Mounted {
         requires plan { (u : Tables) × IsPlan self.old.catalog change.now.put change.now.gone u }
         // The group's parts agree, it takes the next call, and the disks of others stay.
         ensures goes { GoesOn self.old result self.new (B.state bay.old) (B.state bay.new) }
-        ensures commits { CommitsPlan self.old change.now.put change.now.gone result self.new (B.state bay.old) (B.state bay.new) }
+        ensures commits { CommitsPlan self.old change.now.put change.now.gone result self.new
+            (B.state bay.old) (B.state bay.new) }
         // Whatever it answers, the record that holds has the entries and the sets of the one before, and no directory copy more.
         ensures status { KeepsRecord self.old.register.value self.new.register.value }
     {
@@ -114,7 +121,8 @@ impl Mounted {
         requires few { length change.now.put + length change.now.gone ≤ 64 }
         requires items { ArePutItems change.now.put }
         requires leaves { (u : Tables) × Leaves self.old.catalog change.now.put change.now.gone u }
-        ensures { CommitsChange self.old change.now.put change.now.gone result self.new (B.state bay.old) (B.state bay.new) }
+        ensures { CommitsChange self.old change.now.put change.now.gone result self.new
+            (B.state bay.old) (B.state bay.new) }
     {
         self.search = Search::start();
         match commit_change(alloc, bay, &mut self.catalog, &mut self.store, change) {

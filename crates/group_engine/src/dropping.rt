@@ -32,7 +32,8 @@ pub(crate) fn drop_copies<B: Bay>(
     requires written { register.old.is_fresh ≡ false }
     requires ready { IsRegisterReady register.old (B.state bay.old) }
     requires majority { Reaches register.old.members register.old.value }
-    ensures { WritesFewer register.old gone result register.new (B.state bay.old) (B.state bay.new) }
+    ensures { WritesFewer register.old gone result register.new (B.state bay.old)
+        (B.state bay.new) }
 {
     let value = register.value();
     let left = without(value.dirs, gone);

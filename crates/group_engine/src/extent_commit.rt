@@ -24,10 +24,12 @@ impl Mounted {
         x: ExtentId,
     ) -> Result<(), Refusal>
         requires takes { Takes self.old (B.state bay.old) }
-        requires plan { IsPlanIn (x.file, x.index / 256) self.old.catalog change.now.put change.now.gone }
+        requires plan { IsPlanIn (x.file, x.index / 256) self.old.catalog change.now.put
+            change.now.gone }
         // The group's parts agree, it takes the next call, and the disks of others stay.
         ensures goes { GoesOn self.old result self.new (B.state bay.old) (B.state bay.new) }
-        ensures commits { CommitsPlan self.old change.now.put change.now.gone result self.new (B.state bay.old) (B.state bay.new) }
+        ensures commits { CommitsPlan self.old change.now.put change.now.gone result self.new
+            (B.state bay.old) (B.state bay.new) }
         // Whatever it answers, the record that holds has the entries and the sets of the one before, and no directory copy more.
         ensures status { KeepsRecord self.old.register.value self.new.register.value }
     {
@@ -44,7 +46,8 @@ impl Mounted {
     /// The search goes on as it did before the chunk of an extent changed.
     fn search_on(&mut self, mut search: Search, x: ExtentId)
         requires tables { AreTables self.old.catalog.tables }
-        requires search { WasSearchOf (x.file, x.index / 256) self.old.catalog self.old.register.value search }
+        requires search { WasSearchOf (x.file, x.index / 256) self.old.catalog
+            self.old.register.value search }
         ensures { self.new ≡ self.old }
     {
         search.follow(&self.catalog, self.register.value(), x);

@@ -46,8 +46,10 @@ pub fn others_are_spared<B: Bay>(start: &B, end: &B)
 
 /// Where the same disks are attached, they stay so, and those of each group do.
 pub fn stays_attached<B: Bay>(start: &B, end: &B)
-    ensures stays { KeepsAttached (B.state start.now) (B.state end.now) → StaysAttached (B.state start.now) (B.state end.now) }
-    ensures own { (m : MountedGroup) → StaysAttached (B.state start.now) (B.state end.now) → KeepsOwn m (B.state start.now) (B.state end.now) }
+    ensures stays { KeepsAttached (B.state start.now) (B.state end.now)
+        → StaysAttached (B.state start.now) (B.state end.now) }
+    ensures own { (m : MountedGroup) → StaysAttached (B.state start.now) (B.state end.now)
+        → KeepsOwn m (B.state start.now) (B.state end.now) }
 {}
 
 /// What two calls one after the other keep, both do.
@@ -64,5 +66,6 @@ pub fn causes_join<B: Bay>(start: &B, between: &B, end: &B)
 
 /// To give up the move that is on its way keeps a group.
 pub fn giving_up_keeps<B: Bay>(bay: &B)
-    ensures { (m : MountedGroup) → Takes m (B.state bay.now) → KeepsGroup m (record m { flight = None }) (B.state bay.now) (B.state bay.now) }
+    ensures { (m : MountedGroup) → Takes m (B.state bay.now)
+        → KeepsGroup m (record m { flight = None }) (B.state bay.now) (B.state bay.now) }
 {}

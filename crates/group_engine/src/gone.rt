@@ -22,7 +22,8 @@ fn mark_gone<B: Bay>(bay: &mut B, register: &mut Register) -> Result<DiskSet, De
     requires written { register.old.is_fresh ≡ false }
     requires ready { IsWritable register.old (B.state bay.old) }
     requires majority { Reaches register.old.members register.old.value }
-    ensures { HasWritten register.old (gone_of register.old.value) result register.new (B.state bay.old) (B.state bay.new) }
+    ensures { HasWritten register.old (gone_of register.old.value) result register.new
+        (B.state bay.old) (B.state bay.new) }
 {
     let value = register.value();
     let next = with_gone(value);
@@ -41,7 +42,8 @@ impl Mounted {
         // Once it is done, a majority of each set shows the record. It is done of a group that took calls alone.
         ensures mounted { OnOk result (IsMounted self.old) }
         ensures gone { OnOk result (IsGone self.old self.new (B.state bay.old) (B.state bay.new)) }
-        ensures cause { IfErr result (GoneCause self.old self.new (B.state bay.old) (B.state bay.new)) }
+        ensures cause { IfErr result (GoneCause self.old self.new (B.state bay.old)
+            (B.state bay.new)) }
     {
         match self.access {
             Access::Mounted => self.write_gone(bay),

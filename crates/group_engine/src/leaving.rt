@@ -35,7 +35,8 @@ impl Mounted {
         // Once it is done, the group takes calls still, and the disk isn't attached.
         ensures mounted { OnOk result (IsMounted self.new) }
         ensures gone { OnOk result (slot_at self.new.disks disk ≡ None) }
-        ensures cause { IfErr result (LettingCause self.old self.new (B.state bay.old) (B.state bay.new)) }
+        ensures cause { IfErr result (LettingCause self.old self.new (B.state bay.old)
+            (B.state bay.new)) }
     {
         match self.takes_calls() {
             Ok(()) => self.take_out(alloc, bay, disk),

@@ -9,7 +9,8 @@ use bay::Bay;
 
 /// A call that keeps the disks of a group lets none go but may.
 pub fn keeping_lets_go<B: Bay>(start: &B, end: &B)
-    ensures lets { (a b : MountedGroup) → KeepsGroup a b (B.state start.now) (B.state end.now) → LetsGo a b (B.state start.now) (B.state end.now) }
+    ensures lets { (a b : MountedGroup) → KeepsGroup a b (B.state start.now) (B.state end.now)
+        → LetsGo a b (B.state start.now) (B.state end.now) }
     // The cause by which it found the group dismounted is one of calls that may let disks go.
     ensures cause { (a b : MountedGroup) → IsWhole a → KeepsGroup a b (B.state start.now) (B.state end.now) → (refusal : Refusal)
         → StatusCause a b (B.state start.now) (B.state end.now) refusal → LettingCause a b (B.state start.now) (B.state end.now) refusal }

@@ -113,7 +113,8 @@ impl Mounted {
     /// The size of a disk's image in bytes, where it is attached.
     pub fn size(&self, disk: u8) -> Option<u64>
         requires { disk < 64 }
-        ensures { result ≡ option_map (λ (a : AttachedDisk). a.size) (get_or self.now.disks disk None) }
+        ensures { result ≡ option_map (λ (a : AttachedDisk). a.size)
+            (get_or self.now.disks disk None) }
     {
         match self.disks[disk as usize] {
             Some(attached) => Some(attached.size),
@@ -142,7 +143,8 @@ impl Mounted {
         requires whole { IsWhole self.old }
         ensures same { self.new ≡ self.old }
         ensures next { IfSome result (IsNextMove self.old.catalog self.old.register.value) }
-        ensures none { IfNone result (AreOnRegular self.old.register.value.entries self.old.catalog.tables → ⊥) }
+        ensures none { IfNone result (AreOnRegular self.old.register.value.entries
+            self.old.catalog.tables → ⊥) }
     {
         self.search.next(&self.catalog, self.register.value())
     }
@@ -207,7 +209,8 @@ impl Mounted {
 pub(crate) fn disk_in(disks: &[Option<Attached>], slot: u32) -> u8
     requires { length disks.now ≡ 64 }
     ensures small { result < 64 }
-    ensures found { (k : ℕ) → k < 64 → slot_at disks.now k ≡ Some slot → slot_at disks.now result ≡ Some slot }
+    ensures found { (k : ℕ) → k < 64 → slot_at disks.now k ≡ Some slot
+        → slot_at disks.now result ≡ Some slot }
 {
     for disk in 0..64u8 {
         if let Some(attached) = disks[disk as usize] {

@@ -106,7 +106,8 @@ impl Mounted {
 
     /// Whether each disk of a set has a copy in the store.
     fn has_copies(&self, dirs: DiskSet) -> bool
-        ensures { OnTrue result ((d : ℕ) → IsAmong (elements dirs) d → HasDirectoryCopy self.now.store.copies d) }
+        ensures { OnTrue result ((d : ℕ) → IsAmong (elements dirs) d
+            → HasDirectoryCopy self.now.store.copies d) }
     {
         for disk in 0..64u8 {
             if dirs.has(disk) && !self.store.has(disk) {

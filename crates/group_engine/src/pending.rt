@@ -138,18 +138,21 @@ impl Mounted {
         requires whole { IsMounted self.old → IsWhole self.old }
         requires ready { IsMounted self.old → IsReady self.old (B.state bay.old) }
         ensures keeps { KeepsGroup self.old self.new (B.state bay.old) (B.state bay.new) }
-        ensures cause { IfErr result (StatusCause self.old self.new (B.state bay.old) (B.state bay.new)) }
+        ensures cause { IfErr result (StatusCause self.old self.new (B.state bay.old)
+            (B.state bay.new)) }
         // Whatever it answers, the record that holds has the entries and the sets of the one before, and no directory copy more.
         ensures status { KeepsRecord self.old.register.value self.new.register.value }
         // Once it is done, the group takes calls, nothing is pending, and the files have their heads.
         ensures mounted { OnOk result (IsMounted self.new) }
         ensures ended { OnOk result (self.new.catalog.tables.operations.pending ≡ None) }
-        ensures files { OnOk result (self.new.catalog.tables.files ≡ self.old.catalog.tables.files) }
+        ensures files { OnOk result (self.new.catalog.tables.files
+            ≡ self.old.catalog.tables.files) }
         ensures names { OnOk result (KeepsNames self.old.catalog.tables self.new.catalog.tables) }
         // The group stays the one that it is: each image of each moment is held for it alone, whatever comes, and once it is done
         // it is mounted.
         ensures moments { StandsThrough self.old (B.state bay.old) (B.state bay.new) }
-        ensures done { OnOk result (StaysMounted self.old self.new (B.state bay.old) (B.state bay.new)) }
+        ensures done { OnOk result (StaysMounted self.old self.new (B.state bay.old)
+            (B.state bay.new)) }
         // Each turn that it takes costs a copy.
         ensures turns { turns_at_most self.new ≤ turns_at_most self.old }
         ensures closed { OnErr result (IsMounted self.new → ⊥) }

@@ -44,7 +44,8 @@ impl Search {
     /// chunks for the move from the cursor's places on.
     pub(crate) fn next(&mut self, catalog: &Catalog, status: &PstRecord) -> Option<Next>
         requires status { IsTrue (is_status status.now) }
-        requires units { HasUnits catalog.now.shape status.now.entries catalog.now.tables catalog.now.units }
+        requires units { HasUnits catalog.now.shape status.now.entries catalog.now.tables
+            catalog.now.units }
         requires search { IsSearchOf catalog.now status.now self.old }
         ensures search { IsSearchOf catalog.now status.now self.new }
         ensures next { IfSome result (IsNextMove catalog.now status.now) }
@@ -60,7 +61,8 @@ impl Search {
     /// The chunk of an extent has changed: the cursor follows, and the homes of that chunk alone are asked.
     pub(crate) fn follow(&mut self, catalog: &Catalog, status: &PstRecord, extent: ExtentId)
         requires tables { AreTables catalog.now.tables }
-        requires search { WasSearchOf (extent.file, extent.index / 256) catalog.now status.now self.old }
+        requires search { WasSearchOf (extent.file, extent.index / 256) catalog.now status.now
+            self.old }
         ensures { IsSearchOf catalog.now status.now self.new }
     {
         self.cursor.follow(catalog, status, extent);

@@ -41,11 +41,14 @@ impl Mounted {
         ensures flight { self.new.flight ≡ self.old.flight }
         ensures tables { self.new.catalog.tables ≡ self.old.catalog.tables }
         // Where the record gives each disk as many units as the one before, the unit maps stay.
-        ensures units { HaveSameUnits self.old.register.value.entries next.now.entries → self.new.catalog.units ≡ self.old.catalog.units }
+        ensures units { HaveSameUnits self.old.register.value.entries next.now.entries
+            → self.new.catalog.units ≡ self.old.catalog.units }
         // Once it is done, the group takes calls still, and the record holds under the next number.
         ensures mounted { OnOk result (IsMounted self.new) }
-        ensures recorded { OnOk result (self.new.register.value ≡ with_next_number self.old.register next.now) }
-        ensures cause { IfErr result (StatusCause self.old self.new (B.state bay.old) (B.state bay.new)) }
+        ensures recorded { OnOk result (self.new.register.value
+            ≡ with_next_number self.old.register next.now) }
+        ensures cause { IfErr result (StatusCause self.old self.new (B.state bay.old)
+            (B.state bay.new)) }
         // Each image of each moment is held for the group.
         ensures moments { IsMounted self.old → (n : ℕ) (g : Group) (kept : Kept) → MayGet n self.old next.now (B.state bay.old) g kept
             → LeavesOnly (B.state bay.old) (B.state bay.new) (StandsIn n self.old.register.id (g ∷ []) kept) }
@@ -53,7 +56,9 @@ impl Mounted {
         ensures done { IsMounted self.old → OnOk result ((n : ℕ) (g : Group) (kept : Kept) → MayGet n self.old next.now (B.state bay.old) g kept
             → (later : Kept) × (later.slots ≡ kept.slots) × Mounts n self.new (B.state bay.new) g later) }
         // Where it is refused and the group takes calls, nothing has changed.
-        ensures refused { IsMounted self.new → OnErr result ((n : ℕ) (g : Group) (kept : Kept) → Mounts n self.old (B.state bay.old) g kept → Mounts n self.new (B.state bay.new) g kept) }
+        ensures refused { IsMounted self.new → OnErr result
+            ((n : ℕ) (g : Group) (kept : Kept) → Mounts n self.old (B.state bay.old) g kept
+            → Mounts n self.new (B.state bay.new) g kept) }
         // The record takes a turn.
         ensures turns { turns_at_most self.new ≤ turns_at_most self.old + 1 }
     {
@@ -77,7 +82,8 @@ impl Mounted {
         requires whole { IsWhole self.old }
         requires ready { IsReady self.old (B.state bay.old) }
         requires next { IsNextOf self.old next.now }
-        ensures { WritesStatus self.old next.now result self.new (B.state bay.old) (B.state bay.new) }
+        ensures { WritesStatus self.old next.now result self.new (B.state bay.old)
+            (B.state bay.new) }
     {
         self.search = Search::start();
         if self.catalog.ready_disks(alloc, next).is_err() {

@@ -25,7 +25,9 @@ pub fn edit_attribute<B: Bay>(
     // The group's parts agree, it takes the next call, and the disks of others stay.
     ensures keeps { KeepsGroup m.old m.new (B.state bay.old) (B.state bay.new) }
     // A change that gives it the value was committed, or it is refused.
-    ensures edits { Edits (IsAttributePlan m.old.catalog name.now value.now) (IsAttributeRefusal m.old.catalog name.now value.now) m.old result m.new (B.state bay.old) (B.state bay.new) }
+    ensures edits { Edits (IsAttributePlan m.old.catalog name.now value.now)
+        (IsAttributeRefusal m.old.catalog name.now value.now) m.old result m.new (B.state bay.old)
+        (B.state bay.new) }
 {
     let change = match m.catalog().plan_attribute(alloc, name, value) {
         Ok(change) => change,

@@ -60,7 +60,8 @@ pub fn edit_group<B: Bay>(
     // The group's parts agree, it takes the next call, and the disks of others stay.
     ensures keeps { KeepsGroup m.old m.new (B.state bay.old) (B.state bay.new) }
     // A change that the edit is was committed, or the edit is refused.
-    ensures edits { Edits (IsEditPlan m.old.catalog edit.now) (IsEditRefusal m.old.catalog edit.now) m.old result m.new (B.state bay.old) (B.state bay.new) }
+    ensures edits { Edits (IsEditPlan m.old.catalog edit.now) (IsEditRefusal m.old.catalog edit.now)
+        m.old result m.new (B.state bay.old) (B.state bay.new) }
 {
     if !edit.is_allowed() {
         return Err(Refusal::NoName);

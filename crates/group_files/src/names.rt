@@ -27,7 +27,9 @@ pub fn edit_tree<B: Bay>(
     // The group's parts agree, it takes the next call, and the disks of others stay.
     ensures keeps { KeepsGroup m.old m.new (B.state bay.old) (B.state bay.new) }
     // A change that the edit is was committed, or the edit is refused.
-    ensures edits { Edits (IsTreePlan m.old.catalog (edit_meant edit.now)) (IsTreeRefusal m.old.catalog (edit_meant edit.now)) m.old result m.new (B.state bay.old) (B.state bay.new) }
+    ensures edits { Edits (IsTreePlan m.old.catalog (edit_meant edit.now))
+        (IsTreeRefusal m.old.catalog (edit_meant edit.now)) m.old result m.new (B.state bay.old)
+        (B.state bay.new) }
 {
     let change = match m.catalog().plan_tree(alloc, edit) {
         Ok(change) => change,

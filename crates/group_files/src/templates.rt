@@ -30,7 +30,9 @@ pub fn edit_template<B: Bay>(
     // The group's parts agree, it takes the next call, and the disks of others stay.
     ensures keeps { KeepsGroup m.old m.new (B.state bay.old) (B.state bay.new) }
     // A change that the edit is was committed, or the edit is refused.
-    ensures edits { Edits (IsTemplatePlan m.old.catalog (template_edit_meant edit.now)) (IsTemplateRefusal m.old.catalog (template_edit_meant edit.now)) m.old result m.new (B.state bay.old) (B.state bay.new) }
+    ensures edits { Edits (IsTemplatePlan m.old.catalog (template_edit_meant edit.now))
+        (IsTemplateRefusal m.old.catalog (template_edit_meant edit.now)) m.old result m.new
+        (B.state bay.old) (B.state bay.new) }
 {
     let change = match m.catalog().plan_template(alloc, edit) {
         Ok(change) => change,

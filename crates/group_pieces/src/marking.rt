@@ -33,7 +33,8 @@ pub(crate) fn mark_left<B: Bay>(
     ensures marked { OnOk result (AreMarked m.old x inner failed m.new.catalog.tables) }
     ensures still { left_of m.old x inner failed ≡ 0 → bay.new ≡ bay.old }
     // A group that is mounted with the piece Free is held so all the while, and mounted with the bytes once it is done.
-    ensures held { RecordsHeld m.old x inner failed result m.new (B.state bay.old) (B.state bay.new) }
+    ensures held { RecordsHeld m.old x inner failed result m.new (B.state bay.old)
+        (B.state bay.new) }
     // Heads, names, homes and marks stay, but that copies are marked.
     ensures places { OnOk result (MarksMore m.old.catalog.tables m.new.catalog.tables) }
     // Entries stay, and no turns are taken but those of copies that were given up.

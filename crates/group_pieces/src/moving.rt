@@ -24,7 +24,8 @@ pub(crate) fn follow_move<B: Bay>(
     requires takes { Takes m.old (B.state bay.old) }
     requires short { inner < 2 ^ 32 }
     ensures keeps { KeepsGroup m.old m.new (B.state bay.old) (B.state bay.new) }
-    ensures writes { WritesBytes m.old (MovedBytes m.old x inner (length bytes.now)) (B.state bay.old) (B.state bay.new) }
+    ensures writes { WritesBytes m.old (MovedBytes m.old x inner (length bytes.now))
+        (B.state bay.old) (B.state bay.new) }
     // Nothing else of the group changes.
     ensures same { m.new ≡ record m.old { flight = m.new.flight } }
 {
@@ -54,7 +55,8 @@ fn write_copied<B: Bay>(
     requires takes { Takes m.now (B.state bay.old) }
     requires short { inner < 2 ^ 32 }
     ensures keeps { KeepsGroup m.now m.now (B.state bay.old) (B.state bay.new) }
-    ensures writes { WritesBytes m.now (FlightBytes m.now flight x inner (length bytes.now)) (B.state bay.old) (B.state bay.new) }
+    ensures writes { WritesBytes m.now (FlightBytes m.now flight x inner (length bytes.now))
+        (B.state bay.old) (B.state bay.new) }
 {
     let Flight {
         x: moved,

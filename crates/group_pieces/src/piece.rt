@@ -40,21 +40,25 @@ pub fn write_piece<B: Bay>(
     requires takes { Takes m.old (B.state bay.old) }
     requires piece { FitsExtent m.old.catalog.shape x.index inner (length bytes.now) }
     // Each usable copy but those on disks that failed has the bytes, before anything is recorded.
-    ensures written { IfOk result (λ failed. WritesPiece B.state m.old x inner bytes.now failed m.new bay.old bay.new) }
+    ensures written { IfOk result (λ failed. WritesPiece B.state m.old x inner bytes.now failed
+        m.new bay.old bay.new) }
     // Where nothing has to be recorded each usable copy has them in the end.
     ensures done { IfOk result (λ failed. IsPlain m.old x inner (length bytes.now) failed
         → NowOnly (B.state bay.new) (HaveBut (places_at m.old x inner) failed bytes.now)) }
     // The group's parts agree, it takes the next call, and the disks of others stay.
     ensures keeps { KeepsGroup m.old m.new (B.state bay.old) (B.state bay.new) }
-    ensures cause { IfErr result (WritePieceCause m.old x inner m.new (B.state bay.old) (B.state bay.new)) }
-    ensures failed { IfOk result (λ failed. AreRisen m.old failed (B.state bay.old) (B.state bay.new)) }
+    ensures cause { IfErr result (WritePieceCause m.old x inner m.new (B.state bay.old)
+        (B.state bay.new)) }
+    ensures failed { IfOk result (λ failed. AreRisen m.old failed (B.state bay.old)
+        (B.state bay.new)) }
     ensures some { OnOk result (AreNone (places_at m.old x inner) → ⊥) }
     // Each copy that is there and didn't take the bytes bears a mark, and the disks that failed are Offline.
     ensures marked { IfOk result (λ failed. AreMarked m.old x inner failed m.new.catalog.tables) }
     ensures offline { IfOk result (λ failed. AreOffline failed now m.new.register.value) }
     ensures mounted { OnOk result (IsMounted m.new) }
     // A group that is mounted is held with the piece's cells Free all the while, and mounted with the bytes once it is done.
-    ensures held { PieceHeld m.old x inner bytes.now result m.new (B.state bay.old) (B.state bay.new) }
+    ensures held { PieceHeld m.old x inner bytes.now result m.new (B.state bay.old)
+        (B.state bay.new) }
     // Where no copy is usable nothing was done.
     ensures lost { AreNone (places_at m.old x inner) → (m.new ≡ m.old) × (bay.new ≡ bay.old) }
 {
@@ -77,18 +81,22 @@ fn write_mounted<B: Bay>(
     requires mounted { IsMounted m.old }
     requires takes { Takes m.old (B.state bay.old) }
     requires piece { FitsExtent m.old.catalog.shape x.index inner (length bytes.now) }
-    ensures written { IfOk result (λ failed. WritesPiece B.state m.old x inner bytes.now failed m.new bay.old bay.new) }
+    ensures written { IfOk result (λ failed. WritesPiece B.state m.old x inner bytes.now failed
+        m.new bay.old bay.new) }
     ensures done { IfOk result (λ failed. IsPlain m.old x inner (length bytes.now) failed
         → NowOnly (B.state bay.new) (HaveBut (places_at m.old x inner) failed bytes.now)) }
     ensures keeps { KeepsGroup m.old m.new (B.state bay.old) (B.state bay.new) }
-    ensures cause { IfErr result (WritePieceCause m.old x inner m.new (B.state bay.old) (B.state bay.new)) }
-    ensures failed { IfOk result (λ failed. AreRisen m.old failed (B.state bay.old) (B.state bay.new)) }
+    ensures cause { IfErr result (WritePieceCause m.old x inner m.new (B.state bay.old)
+        (B.state bay.new)) }
+    ensures failed { IfOk result (λ failed. AreRisen m.old failed (B.state bay.old)
+        (B.state bay.new)) }
     ensures some { OnOk result (AreNone (places_at m.old x inner) → ⊥) }
     ensures marked { IfOk result (λ failed. AreMarked m.old x inner failed m.new.catalog.tables) }
     ensures offline { IfOk result (λ failed. AreOffline failed now m.new.register.value) }
     ensures mounted { OnOk result (IsMounted m.new) }
     // A group that is mounted is held with the piece's cells Free all the while, and mounted with the bytes once it is done.
-    ensures held { PieceHeld m.old x inner bytes.now result m.new (B.state bay.old) (B.state bay.new) }
+    ensures held { PieceHeld m.old x inner bytes.now result m.new (B.state bay.old)
+        (B.state bay.new) }
     // Where no copy is usable nothing was done.
     ensures lost { AreNone (places_at m.old x inner) → (m.new ≡ m.old) × (bay.new ≡ bay.old) }
 {
@@ -136,7 +144,8 @@ fn settle<B: Bay>(
     // Heads, names, homes and marks stay, but that copies are marked.
     ensures places { OnOk result (MarksMore m.old.catalog.tables m.new.catalog.tables) }
     // A group that is mounted with the piece Free is held so all the while, and mounted with the bytes once it is done.
-    ensures held { RecordsHeld m.old x inner failed result m.new (B.state bay.old) (B.state bay.new) }
+    ensures held { RecordsHeld m.old x inner failed result m.new (B.state bay.old)
+        (B.state bay.new) }
     // Where the disks that failed serve, turns are taken by faults alone.
     ensures turns { OnOk result (CostsFaults m.old failed m.new) }
     // Where it is refused the group takes no more calls.
@@ -173,7 +182,8 @@ fn record_faults<B: Bay>(
     // Heads, names, homes and marks stay, but that copies are marked.
     ensures places { OnOk result (MarksMore m.old.catalog.tables m.new.catalog.tables) }
     // A group that is mounted with the piece Free is held so all the while, and mounted with the bytes once it is done.
-    ensures held { RecordsHeld m.old x inner failed result m.new (B.state bay.old) (B.state bay.new) }
+    ensures held { RecordsHeld m.old x inner failed result m.new (B.state bay.old)
+        (B.state bay.new) }
     // Where the disks that failed serve, turns are taken by faults alone.
     ensures turns { OnOk result (CostsFaults m.old failed m.new) }
 {

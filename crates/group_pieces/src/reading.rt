@@ -40,7 +40,8 @@ pub fn read_piece<B: Bay>(
     ensures reads { ReadsGroup m.now (B.state bay.old) (B.state bay.new) }
     ensures cause { IfErr result (IsReadCause m.now x inner (B.state bay.old) (B.state bay.new)) }
     ensures some { OnOk result (AreNone (places_at m.now x inner) → ⊥) }
-    ensures mounted { (n : ℕ) (g : Group) (kept : Kept) → Mounts n m.now (B.state bay.old) g kept → Mounts n m.now (B.state bay.new) g kept }
+    ensures mounted { (n : ℕ) (g : Group) (kept : Kept) → Mounts n m.now (B.state bay.old) g kept
+        → Mounts n m.now (B.state bay.new) g kept }
     // The bytes agree with each known cell, where the bay tells what the disks hold.
     ensures agrees { OnOk result ((n : ℕ) (g : Group) (kept : Kept) → Mounts n m.now (B.state bay.old) g kept
         → ForSome (B.state bay.new).holds (λ image. AgreesIn g (piece_of x inner (length buf.old)) buf.new)) }

@@ -28,9 +28,14 @@ pub fn write_spare<B: Bay>(
     requires takes { Takes m.now (B.state bay.old) }
     requires run { (units : ℕ) × IsRunOf m.now home units inner (length bytes.now) }
     ensures keeps { KeepsGroup m.now m.now (B.state bay.old) (B.state bay.new) }
-    ensures writes { OnDisk m.now home.disk (λ slot. WritesBytes m.now (Range slot (home.unit * m.now.catalog.shape.au + inner) (length bytes.now)) (B.state bay.old) (B.state bay.new)) }
-    ensures done { OnOk result (OnDisk m.now home.disk (λ slot. Ends (Puts slot (home.unit * m.now.catalog.shape.au + inner) bytes.now) (B.state bay.old) (B.state bay.new))) }
-    ensures cause { OnErr result (OnDisk m.now home.disk (λ slot. Rose ((B.state bay.old).faults slot) ((B.state bay.new).faults slot))) }
+    ensures writes { OnDisk m.now home.disk (λ slot. WritesBytes m.now
+        (Range slot (home.unit * m.now.catalog.shape.au + inner) (length bytes.now))
+        (B.state bay.old) (B.state bay.new)) }
+    ensures done { OnOk result (OnDisk m.now home.disk
+        (λ slot. Ends (Puts slot (home.unit * m.now.catalog.shape.au + inner) bytes.now)
+        (B.state bay.old) (B.state bay.new))) }
+    ensures cause { OnErr result (OnDisk m.now home.disk
+        (λ slot. Rose ((B.state bay.old).faults slot) ((B.state bay.new).faults slot))) }
 {
     let Some(slot) = m.slot(home.disk) else {
         return Err(Fault);
@@ -59,7 +64,8 @@ pub(crate) fn write_moved<B: Bay>(
     requires takes { Takes m.now (B.state bay.old) }
     requires short { inner < 2 ^ 32 }
     ensures keeps { KeepsGroup m.now m.now (B.state bay.old) (B.state bay.new) }
-    ensures writes { WritesBytes m.now (HomeBytes m.now home inner (length bytes.now)) (B.state bay.old) (B.state bay.new) }
+    ensures writes { WritesBytes m.now (HomeBytes m.now home inner (length bytes.now))
+        (B.state bay.old) (B.state bay.new) }
 {
     let Some(place) = run_at(m, home, inner, bytes.len() as u64) else {
         return Err(Fault);

@@ -60,7 +60,8 @@ fn clashes(disk: &Headed, other: &Headed) -> bool
 
 /// The slot of the first of some disks that clashes with one.
 fn first_clash(disk: &Headed, others: &[Headed]) -> Option<u32>
-    ensures { result ≡ option_map (λ (h : HeadedDisk). h.slot) (find (clashes disk.now) others.now) }
+    ensures { result ≡ option_map (λ (h : HeadedDisk). h.slot)
+        (find (clashes disk.now) others.now) }
 {
     let [first, rest @ ..] = others else {
         return None;

@@ -158,7 +158,8 @@ fn note_unread(
     members: &[Member],
     unread: &mut Vec<u32>,
 ) -> Result<(), NoMemory>
-    ensures { OnOk result (unread.new.items ≡ unread.old.items ++ unread_by members.now answer.now) }
+    ensures { OnOk result (unread.new.items
+        ≡ unread.old.items ++ unread_by members.now answer.now) }
 {
     match answer {
         Ok(survey) => put_unread(survey.seen(), members, unread),
@@ -176,9 +177,12 @@ fn judge<B: Bay>(
 ) -> Result<Verdict, NoMemory>
     requires attached { AreAttached headed.now (B.state bay.old) }
     requires few { length headed.now ≤ 512 }
-    ensures judged { IfOk result (λ verdict. GrowsBy unread.old.items unread.new.items (λ own. IsJudged id (members_with id headed.now) verdict own (B.state bay.old) (B.state bay.new))) }
+    ensures judged { IfOk result (λ verdict. GrowsBy unread.old.items unread.new.items
+        (λ own. IsJudged id (members_with id headed.now) verdict own (B.state bay.old)
+        (B.state bay.new))) }
     ensures attached { KeepsAttached (B.state bay.old) (B.state bay.new) }
-    ensures calls { (B.state bay.new).calls ≤ (B.state bay.old).calls + 8 * length (members_with id headed.now) }
+    ensures calls { (B.state bay.new).calls ≤ (B.state bay.old).calls
+        + 8 * length (members_with id headed.now) }
     ensures runs { Runs (IsSlotIn headed.now) Same (B.state bay.old) (B.state bay.new) }
 {
     let members = members_of(alloc, headed, id)?;
@@ -226,9 +230,11 @@ pub fn choose<B: Bay>(
 ) -> Result<Choice, NoMemory>
     requires attached { AreAttached headed.now (B.state bay.old) }
     requires few { length headed.now ≤ 512 }
-    ensures chosen { IfOk result (λ choice. GrowsBy unread.old.items unread.new.items (λ more. Chooses headed.now ids.now choice more (B.state bay.old) (B.state bay.new))) }
+    ensures chosen { IfOk result (λ choice. GrowsBy unread.old.items unread.new.items
+        (λ more. Chooses headed.now ids.now choice more (B.state bay.old) (B.state bay.new))) }
     ensures attached { KeepsAttached (B.state bay.old) (B.state bay.new) }
-    ensures calls { (B.state bay.new).calls ≤ (B.state bay.old).calls + calls_to_survey headed.now ids.now }
+    ensures calls { (B.state bay.new).calls ≤ (B.state bay.old).calls
+        + calls_to_survey headed.now ids.now }
     ensures runs { Runs (IsSlotIn headed.now) Same (B.state bay.old) (B.state bay.new) }
 {
     let [first, rest @ ..] = ids else {

@@ -55,7 +55,8 @@ fn put_copies(
     status: &PstRecord,
     copies: &mut Vec<DirCopy>,
 ) -> Result<(), NoMemory>
-    ensures { OnOk result (copies.new.items ≡ copies.old.items ++ named_copies id read.now status.now headed.now) }
+    ensures { OnOk result (copies.new.items
+        ≡ copies.old.items ++ named_copies id read.now status.now headed.now) }
 {
     let [first, rest @ ..] = headed else {
         return Ok(());
@@ -74,7 +75,8 @@ pub fn named_copies(
     read: &[Member],
     status: &PstRecord,
 ) -> Result<Vec<DirCopy>, NoMemory>
-    ensures { IfOk result (λ copies. copies.items ≡ named_copies id read.now status.now headed.now) }
+    ensures { IfOk result (λ copies. copies.items
+        ≡ named_copies id read.now status.now headed.now) }
 {
     let mut copies = Vec::new(alloc);
     put_copies(id, headed, read, status, &mut copies)?;

@@ -23,10 +23,13 @@ pub fn find_headed<B: Bay>(
     paths: &[String],
 ) -> Result<Vec<Headed>, NoMemory>
     requires few { length paths.now ≤ 512 }
-    ensures looks { Looks (λ slot. slot < length paths.now) (4 * length paths.now) (B.state bay.old) (B.state bay.new) }
+    ensures looks { Looks (λ slot. slot < length paths.now) (4 * length paths.now) (B.state bay.old)
+        (B.state bay.new) }
     ensures few { IfOk result (λ found. length found.items ≤ length paths.now) }
-    ensures there { IfOk result (λ found. AreThere (length paths.now) found.items (B.state bay.new)) }
-    ensures all { IfOk result (λ found. AreAllHeaded (length paths.now) found.items (B.state bay.old) (B.state bay.new)) }
+    ensures there { IfOk result (λ found. AreThere (length paths.now) found.items
+        (B.state bay.new)) }
+    ensures all { IfOk result (λ found. AreAllHeaded (length paths.now) found.items
+        (B.state bay.old) (B.state bay.new)) }
 {
     let mut found = Vec::new(alloc);
     for (slot, path) in paths.iter().enumerate() {

@@ -101,7 +101,11 @@ fn taken(choice: &Choice) -> Result<u64, MountError>
 /// What was found of an id, without the images in these slots.
 fn found_of(id: u64, slots: u32, headed: Vec<Headed>, unread: &[u32]) -> Found
     requires few { length headed.items ≤ 512 }
-    ensures { result ≡ record { id = id; slots = slots; headed = not_held unread.now headed.items } }
+    ensures { result ≡ record {
+      id = id;
+      slots = slots;
+      headed = not_held unread.now headed.items;
+    } }
 {
     let mut headed = headed;
     leave_out(&mut headed, unread);
@@ -122,12 +126,14 @@ impl Found {
         ensures answer { MatchResult result
             (λ found. IsFound name.now (length paths.now) found (B.state bay.old) (B.state bay.new))
             (λ error. FindCause name.now (length paths.now) error (B.state bay.old) (B.state bay.new)) }
-        ensures there { IfOk result (λ found. AreThere (length paths.now) found.headed (B.state bay.new)) }
+        ensures there { IfOk result (λ found. AreThere (length paths.now) found.headed
+            (B.state bay.new)) }
         // What is attached stays so, with its size.
         ensures stays { AttachedStays (B.state bay.old) (B.state bay.new) }
         ensures slots { IfOk result (λ found. found.slots ≡ length paths.now) }
         ensures calls { (B.state bay.new).calls ≤ (B.state bay.old).calls + 12 * length paths.now }
-        ensures runs { Runs (λ slot. slot < length paths.now) Same (B.state bay.old) (B.state bay.new) }
+        ensures runs { Runs (λ slot. slot < length paths.now) Same (B.state bay.old)
+            (B.state bay.new) }
     {
         let headed = find_headed(alloc, bay, paths)?;
         let ids = ids_named(alloc, &headed, name)?;

@@ -41,10 +41,13 @@ pub fn load_copies<B: Bay>(
 ) -> Result<Store, MountError>
     requires there { AreThere slots headed.now (B.state bay.old) }
     requires alike { first_stranger id headed.now ≡ None }
-    ensures copies { IfOk result (λ store. ArePartOf store.copies (copies_read id headed.now survey.now)) }
+    ensures copies { IfOk result (λ store. ArePartOf store.copies
+        (copies_read id headed.now survey.now)) }
     ensures some { IfOk result (λ store. 0 < length store.copies) }
-    ensures kept { IfOk result (λ store. AreSettled (copies_read id headed.now survey.now) (B.state bay.old) → Keeps store (B.state bay.new)) }
-    ensures cause { IfErr result (LoadRefusal (copies_read id headed.now survey.now) (B.state bay.old) (B.state bay.new)) }
+    ensures kept { IfOk result (λ store. AreSettled (copies_read id headed.now survey.now)
+        (B.state bay.old) → Keeps store (B.state bay.new)) }
+    ensures cause { IfErr result (LoadRefusal (copies_read id headed.now survey.now)
+        (B.state bay.old) (B.state bay.new)) }
     ensures attached { KeepsAttached (B.state bay.old) (B.state bay.new) }
     ensures runs { Runs (IsSlotIn headed.now) Same (B.state bay.old) (B.state bay.new) }
 {

@@ -150,8 +150,10 @@ fn check_missing(
     status: &PstRecord,
     option: MountOption,
 ) -> Result<(), MountError>
-    ensures none { OnOk result (option ≡ NoForce → first_missing id headed.now status.now.entries ≡ None) }
-    ensures cause { IfErr result (IsMissingRefusal option catalog.now.tables (first_missing id headed.now status.now.entries)) }
+    ensures none { OnOk result (option ≡ NoForce
+        → first_missing id headed.now status.now.entries ≡ None) }
+    ensures cause { IfErr result (IsMissingRefusal option catalog.now.tables
+        (first_missing id headed.now status.now.entries)) }
 {
     match option {
         MountOption::Force => Ok(()),
@@ -172,8 +174,11 @@ fn read_group<B: Bay>(
 ) -> Result<GroupRead, MountError>
     requires there { AreThere slots images.now (B.state bay.old) }
     requires few { length images.now ≤ 512 }
-    ensures read { IfOk result (λ read. IsReadOf (record { id = id; slots = slots; headed = images.now }) read (B.state bay.new)) }
-    ensures cause { IfErr result (λ error. (option : Forcing) → QuorumCause option (record { id = id; slots = slots; headed = images.now }) error (B.state bay.old) (B.state bay.new)) }
+    ensures read { IfOk result (λ read. IsReadOf
+        (record { id = id; slots = slots; headed = images.now }) read (B.state bay.new)) }
+    ensures cause { IfErr result (λ error. (option : Forcing)
+        → QuorumCause option (record { id = id; slots = slots; headed = images.now }) error
+        (B.state bay.old) (B.state bay.new)) }
     ensures attached { KeepsAttached (B.state bay.old) (B.state bay.new) }
     ensures runs { Runs (IsSlotIn images.now) Same (B.state bay.old) (B.state bay.new) }
 {
@@ -198,8 +203,10 @@ fn complete_catalog(
 ) -> Result<Catalog, MountError>
     requires shape { IsTrue (is_shape read.now.shape) }
     requires entries { IsTrue (list_all is_entry read.now.survey.value.entries) }
-    ensures catalog { IfOk result (IsCatalogIn read.now.store read.now.survey.value read.now.shape) }
-    ensures complete { OnOk result (option ≡ NoForce → first_missing id headed.now read.now.survey.value.entries ≡ None) }
+    ensures catalog { IfOk result (IsCatalogIn read.now.store read.now.survey.value
+        read.now.shape) }
+    ensures complete { OnOk result (option ≡ NoForce
+        → first_missing id headed.now read.now.survey.value.entries ≡ None) }
     ensures cause { IfErr result (CataloguedCause option id headed.now read.now) }
 {
     let status = read.survey.value();
@@ -221,7 +228,15 @@ fn quorate_with(
     read: GroupRead,
     catalog: Catalog,
 ) -> Quorate
-    ensures { result ≡ record { id = id; slots = slots; headed = headed; survey = read.survey; shape = read.shape; store = read.store; catalog = catalog } }
+    ensures { result ≡ record {
+      id = id;
+      slots = slots;
+      headed = headed;
+      survey = read.survey;
+      shape = read.shape;
+      store = read.store;
+      catalog = catalog;
+    } }
 {
     let GroupRead {
         survey,

@@ -42,7 +42,8 @@ fn has_number(entries: &[PstEntry], disk: u8) -> bool
 /// The set with a disk that has an entry and a stale copy.
 fn with_mark(set: DiskSet, catalog: &Catalog, entries: &[PstEntry], disk: u8) -> DiskSet
     requires { disk < 64 }
-    ensures here { has_bit set disk ≡ false → has_entry_of_disk entries.now disk ≡ true → IsMarkOf catalog.now.tables disk (has_bit result disk) }
+    ensures here { has_bit set disk ≡ false → has_entry_of_disk entries.now disk ≡ true
+        → IsMarkOf catalog.now.tables disk (has_bit result disk) }
     ensures others { (k : ℕ) → k < 64 → k ≢ disk → has_bit result k ≡ has_bit set k }
 {
     if has_number(entries, disk) && is_marked(catalog, disk) {
@@ -99,8 +100,10 @@ fn moded(quorate: &Quorate, entry: PstEntry, marked: DiskSet, now: u64) -> PstEn
 /// The entries after the mount.
 fn all_moded(quorate: &Quorate, entries: &[PstEntry], marked: DiskSet, now: u64) -> [PstEntry; 64]
     requires few { length entries.now ≤ 64 }
-    ensures value { take (length entries.now) result ≡ map (entry_when_mounted quorate.now marked now) entries.now }
-    ensures kept { list_all is_entry entries.now ≡ true → list_all is_entry (take (length entries.now) result) ≡ true }
+    ensures value { take (length entries.now) result
+        ≡ map (entry_when_mounted quorate.now marked now) entries.now }
+    ensures kept { list_all is_entry entries.now ≡ true
+        → list_all is_entry (take (length entries.now) result) ≡ true }
 {
     let mut after = [PstEntry::blank(); 64];
     for (i, entry) in entries.iter().enumerate() {
@@ -111,7 +114,8 @@ fn all_moded(quorate: &Quorate, entries: &[PstEntry], marked: DiskSet, now: u64)
 
 /// The record with the modes that a mount leaves. A record of the format stays one.
 fn with_modes(quorate: &Quorate, status: &PstRecord, marked: DiskSet, now: u64) -> PstRecord
-    ensures value { result ≡ record status.now { entries = map (entry_when_mounted quorate.now marked now) status.now.entries } }
+    ensures value { result ≡ record status.now
+        { entries = map (entry_when_mounted quorate.now marked now) status.now.entries } }
     ensures kept { IsTrue (is_status status.now) → IsTrue (is_status result) }
 {
     let entries = status.entries();

@@ -85,7 +85,8 @@ fn put_disks(
     headed: &[Headed],
     disks: &mut Vec<(Member, u64)>,
 ) -> Result<(), NoMemory>
-    ensures { OnOk result (disks.new.items ≡ disks.old.items ++ disks_with id entries.now headed.now) }
+    ensures { OnOk result (disks.new.items
+        ≡ disks.old.items ++ disks_with id entries.now headed.now) }
 {
     let [first, rest @ ..] = headed else {
         return Ok(());
@@ -105,7 +106,8 @@ fn put_own(
     headed: &[Headed],
     members: &mut Vec<Member>,
 ) -> Result<(), NoMemory>
-    ensures { OnOk result (members.new.items ≡ members.old.items ++ own_members id entries.now headed.now) }
+    ensures { OnOk result (members.new.items
+        ≡ members.old.items ++ own_members id entries.now headed.now) }
 {
     let [first, rest @ ..] = headed else {
         return Ok(());
@@ -184,7 +186,8 @@ fn refusal_of_renew(headed: &[Headed], error: RenewError) -> MountError
 /// What a mount at this second is to write and to give. NoMajority, where too few disks of a set are there with all their units.
 fn make_anew(alloc: Global, quorate: &Quorate, now: u64) -> Result<Anew, MountError>
     requires makes { MakesRecord quorate.now }
-    requires renews { (next : Status) → IsNextRecord quorate.now now next → Renews quorate.now.survey.value next }
+    requires renews { (next : Status) → IsNextRecord quorate.now now next
+        → Renews quorate.now.survey.value next }
     ensures anew { IfOk result (IsAnew quorate.now now) }
     ensures cause { IfErr result (AnewCause quorate.now) }
 {
@@ -210,15 +213,21 @@ fn write_register<B: Bay>(
     members: &[Member],
 ) -> Result<Register, RenewError>
     requires { MayRenewRecord survey next.now members.now (B.state bay.old) }
-    ensures register { IfOk result (λ register. register ≡ first_register (with_next_number (register_of survey) next.now) members.now) }
+    ensures register { IfOk result (λ register. register
+        ≡ first_register (with_next_number (register_of survey) next.now) members.now) }
     ensures stands { IfOk result (λ register. StandsAnew register (B.state bay.new)) }
-    ensures cause { IfErr result (λ error. RenewCause survey next.now error (B.state bay.old) (B.state bay.new)) }
+    ensures cause { IfErr result (λ error. RenewCause survey next.now error (B.state bay.old)
+        (B.state bay.new)) }
     ensures attached { KeepsAttached (B.state bay.old) (B.state bay.new) }
-    ensures front { Runs (IsSlotOf survey.members) (ChangesOnly (FrontOf survey.members)) (B.state bay.old) (B.state bay.new) }
+    ensures front { Runs (IsSlotOf survey.members) (ChangesOnly (FrontOf survey.members))
+        (B.state bay.old) (B.state bay.new) }
     // What `renew` says of the groups, and that the register keeps the history with all these members.
-    ensures groups { EachMount survey next.now (λ mount. KeepsGroups mount (B.state bay.old) (B.state bay.new)) }
-    ensures held { OnOk result (EachMount survey next.now (λ mount. HoldsOneGroup mount (B.state bay.old) (B.state bay.new))) }
-    ensures history { IfOk result (λ register. EachMount survey next.now (λ mount. KeepsAnyRegister mount register (B.state bay.old) (B.state bay.new))) }
+    ensures groups { EachMount survey next.now
+        (λ mount. KeepsGroups mount (B.state bay.old) (B.state bay.new)) }
+    ensures held { OnOk result (EachMount survey next.now
+        (λ mount. HoldsOneGroup mount (B.state bay.old) (B.state bay.new))) }
+    ensures history { IfOk result (λ register. EachMount survey next.now
+        (λ mount. KeepsAnyRegister mount register (B.state bay.old) (B.state bay.new))) }
 {
     match renew(bay, survey, next) {
         Ok(renewed) => Ok(Register::standing(bay, renewed.register.value(), members)),
@@ -230,12 +239,18 @@ fn write_register<B: Bay>(
 fn write_parts<B: Bay>(bay: &mut B, quorate: Quorate, anew: Anew) -> Result<Parts, MountError>
     requires quorum { IsQuorum quorate (B.state bay.old) }
     requires anew { (now : ℕ) × IsAnew quorate now anew }
-    ensures parts { IfOk result (λ parts. (now : ℕ) → IsAnew quorate now anew → ArePartsOf quorate now parts (B.state bay.new)) }
-    ensures cause { IfErr result (λ error. RecoverCause quorate error (B.state bay.old) (B.state bay.new)) }
+    ensures parts { IfOk result (λ parts. (now : ℕ) → IsAnew quorate now anew
+        → ArePartsOf quorate now parts (B.state bay.new)) }
+    ensures cause { IfErr result (λ error. RecoverCause quorate error (B.state bay.old)
+        (B.state bay.new)) }
     ensures attached { KeepsAttached (B.state bay.old) (B.state bay.new) }
-    ensures runs { Runs (IsSlotIn quorate.headed.items) (ChangesOnly (FrontOf (members_with quorate.id quorate.headed.items))) (B.state bay.old) (B.state bay.new) }
-    ensures members { Runs (IsSlotIn quorate.headed.items) (ChangesMembers quorate.id) (B.state bay.old) (B.state bay.new) }
-    ensures leaves { (groups : List Group) → StoodFor quorate groups (B.state bay.old) → LeavesGroups quorate groups result (B.state bay.old) (B.state bay.new) }
+    ensures runs { Runs (IsSlotIn quorate.headed.items)
+        (ChangesOnly (FrontOf (members_with quorate.id quorate.headed.items))) (B.state bay.old)
+        (B.state bay.new) }
+    ensures members { Runs (IsSlotIn quorate.headed.items) (ChangesMembers quorate.id)
+        (B.state bay.old) (B.state bay.new) }
+    ensures leaves { (groups : List Group) → StoodFor quorate groups (B.state bay.old)
+        → LeavesGroups quorate groups result (B.state bay.old) (B.state bay.new) }
 {
     let Quorate {
         id,
@@ -278,14 +293,19 @@ impl Quorate {
     pub fn recover<B: Bay>(self, alloc: Global, bay: &mut B, now: u64) -> Result<Parts, MountError>
         requires { IsQuorum self (B.state bay.old) }
         ensures parts { IfOk result (λ parts. ArePartsOf self now parts (B.state bay.new)) }
-        ensures cause { IfErr result (λ error. RecoverCause self error (B.state bay.old) (B.state bay.new)) }
+        ensures cause { IfErr result (λ error. RecoverCause self error (B.state bay.old)
+            (B.state bay.new)) }
         ensures attached { KeepsAttached (B.state bay.old) (B.state bay.new) }
         // Nothing changes but the claim and status slots of the group's disks.
-        ensures runs { Runs (IsSlotIn self.headed.items) (ChangesOnly (FrontOf (members_with self.id self.headed.items))) (B.state bay.old) (B.state bay.new) }
+        ensures runs { Runs (IsSlotIn self.headed.items)
+            (ChangesOnly (FrontOf (members_with self.id self.headed.items))) (B.state bay.old)
+            (B.state bay.new) }
         // These are members of its id, and stay so.
-        ensures members { Runs (IsSlotIn self.headed.items) (ChangesMembers self.id) (B.state bay.old) (B.state bay.new) }
+        ensures members { Runs (IsSlotIn self.headed.items) (ChangesMembers self.id)
+            (B.state bay.old) (B.state bay.new) }
         // Each image of each moment stands for groups that it might stand for before; in the end one group is left.
-        ensures leaves { (groups : List Group) → StoodFor self groups (B.state bay.old) → LeavesGroups self groups result (B.state bay.old) (B.state bay.new) }
+        ensures leaves { (groups : List Group) → StoodFor self groups (B.state bay.old)
+            → LeavesGroups self groups result (B.state bay.old) (B.state bay.new) }
     {
         match make_anew(alloc, &self, now) {
             Ok(anew) => write_parts(bay, self, anew),

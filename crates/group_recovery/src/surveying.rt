@@ -55,8 +55,10 @@ fn survey_members<B: Bay>(
 ) -> Result<Survey, MountError>
     requires slots { HaveSlots (B.state bay.old) members.now }
     requires few { length members.now ≤ 512 }
-    ensures surveyed { IfOk result (λ survey. AreSurveyed id members.now survey (B.state bay.old) (B.state bay.new)) }
-    ensures cause { IfErr result (λ error. MembersCause id members.now error (B.state bay.old) (B.state bay.new)) }
+    ensures surveyed { IfOk result (λ survey. AreSurveyed id members.now survey (B.state bay.old)
+        (B.state bay.new)) }
+    ensures cause { IfErr result (λ error. MembersCause id members.now error (B.state bay.old)
+        (B.state bay.new)) }
     ensures attached { KeepsAttached (B.state bay.old) (B.state bay.new) }
     ensures calls { (B.state bay.new).calls ≤ (B.state bay.old).calls + 9 * length members.now }
     ensures runs { Runs (IsSlotOf members.now) Same (B.state bay.old) (B.state bay.new) }
@@ -78,8 +80,10 @@ pub fn survey_named<B: Bay>(
     requires there { AreThere slots named.now (B.state bay.old) }
     requires few { length named.now ≤ 512 }
     ensures now { IfOk result (λ survey. IsSurveyedNow slots id survey (B.state bay.new)) }
-    ensures among { IfOk result (λ survey. (m : Disk) → IsAmong survey.members m → IsAmong (members_with id named.now) m) }
-    ensures cause { IfErr result (λ error. SurveyCause id named.now error (B.state bay.old) (B.state bay.new)) }
+    ensures among { IfOk result (λ survey. (m : Disk) → IsAmong survey.members m
+        → IsAmong (members_with id named.now) m) }
+    ensures cause { IfErr result (λ error. SurveyCause id named.now error (B.state bay.old)
+        (B.state bay.new)) }
     ensures attached { KeepsAttached (B.state bay.old) (B.state bay.new) }
     ensures calls { (B.state bay.new).calls ≤ (B.state bay.old).calls + 9 * length named.now }
     ensures runs { Runs (IsSlotIn named.now) Same (B.state bay.old) (B.state bay.new) }

@@ -16,7 +16,8 @@ use std::alloc::Global;
 /// Syncs one member, and puts it behind others where that could be done.
 fn sync_one<B: Bay>(bay: &mut B, member: Member, synced: &mut Vec<Member>) -> Result<(), NoMemory>
     requires { HasSlots (B.state bay.old) member.slot member.sector }
-    ensures synced { OnOk result (SyncsOne member synced.old.items synced.new.items (B.state bay.old) (B.state bay.new)) }
+    ensures synced { OnOk result (SyncsOne member synced.old.items synced.new.items
+        (B.state bay.old) (B.state bay.new)) }
     ensures attached { KeepsAttached (B.state bay.old) (B.state bay.new) }
     ensures calls { (B.state bay.new).calls ≤ (B.state bay.old).calls + 1 }
     ensures runs { Runs (IsSlot member.slot) Same (B.state bay.old) (B.state bay.new) }
@@ -34,7 +35,8 @@ pub fn sync_all<B: Bay>(
     members: &[Member],
 ) -> Result<Vec<Member>, NoMemory>
     requires slots { HaveSlots (B.state bay.old) members.now }
-    ensures synced { IfOk result (λ synced. AreSynced members.now synced.items (B.state bay.old) (B.state bay.new)) }
+    ensures synced { IfOk result (λ synced. AreSynced members.now synced.items (B.state bay.old)
+        (B.state bay.new)) }
     ensures attached { KeepsAttached (B.state bay.old) (B.state bay.new) }
     ensures calls { (B.state bay.new).calls ≤ (B.state bay.old).calls + length members.now }
     ensures runs { Runs (IsSlotOf members.now) Same (B.state bay.old) (B.state bay.new) }

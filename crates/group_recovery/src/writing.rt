@@ -43,20 +43,30 @@ pub fn renew<B: Bay>(bay: &mut B, survey: Survey, next: &PstRecord) -> Result<Re
     requires is_record { IsTrue (is_status next.now) }
     requires group { next.now.id ≡ survey.value.id }
     requires renews { Renews survey.value next.now }
-    ensures runs { EachMount survey next.now (λ mount. RunsAsMount mount (B.state bay.old) (B.state bay.new)) }
-    ensures done { OnOk result (EachMount survey next.now (λ mount. HasRenewed mount (B.state bay.old) (B.state bay.new))) }
-    ensures register { IfOk result (λ renewed. renewed.register ≡ renewed_register survey next.now) }
+    ensures runs { EachMount survey next.now
+        (λ mount. RunsAsMount mount (B.state bay.old) (B.state bay.new)) }
+    ensures done { OnOk result (EachMount survey next.now
+        (λ mount. HasRenewed mount (B.state bay.old) (B.state bay.new))) }
+    ensures register { IfOk result (λ renewed. renewed.register
+        ≡ renewed_register survey next.now) }
     ensures allowed { IfOk result (λ renewed. IsTrue (is_status renewed.register.value)) }
-    ensures reaches { IfOk result (λ renewed. Reaches renewed.register.members renewed.register.value) }
+    ensures reaches { IfOk result (λ renewed. Reaches renewed.register.members
+        renewed.register.value) }
     // Nothing changes but the claim and status slots of these disks.
-    ensures front { Runs (IsSlotOf survey.members) (ChangesOnly (FrontOf survey.members)) (B.state bay.old) (B.state bay.new) }
-    ensures cause { IfErr result (λ error. RenewCause survey next.now error (B.state bay.old) (B.state bay.new)) }
+    ensures front { Runs (IsSlotOf survey.members) (ChangesOnly (FrontOf survey.members))
+        (B.state bay.old) (B.state bay.new) }
+    ensures cause { IfErr result (λ error. RenewCause survey next.now error (B.state bay.old)
+        (B.state bay.new)) }
     ensures attached { KeepsAttached (B.state bay.old) (B.state bay.new) }
-    ensures calls { (B.state bay.new).calls ≤ (B.state bay.old).calls + 13 * (length survey.members + 64) }
+    ensures calls { (B.state bay.new).calls ≤ (B.state bay.old).calls
+        + 13 * (length survey.members + 64) }
     // Each image of each moment stands for what those at the start did, and in the end one group is held.
-    ensures groups { EachMount survey next.now (λ mount. KeepsGroups mount (B.state bay.old) (B.state bay.new)) }
-    ensures held { OnOk result (EachMount survey next.now (λ mount. HoldsOneGroup mount (B.state bay.old) (B.state bay.new))) }
-    ensures history { IfOk result (λ renewed. EachMount survey next.now (λ mount. KeepsRegister mount renewed.register (B.state bay.old) (B.state bay.new))) }
+    ensures groups { EachMount survey next.now
+        (λ mount. KeepsGroups mount (B.state bay.old) (B.state bay.new)) }
+    ensures held { OnOk result (EachMount survey next.now
+        (λ mount. HoldsOneGroup mount (B.state bay.old) (B.state bay.new))) }
+    ensures history { IfOk result (λ renewed. EachMount survey next.now
+        (λ mount. KeepsRegister mount renewed.register (B.state bay.old) (B.state bay.new))) }
 {
     match survey.claim(bay) {
         Ok(register) => write_anew(bay, register, next),
@@ -78,7 +88,8 @@ fn write_anew<B: Bay>(
     requires majority { Reaches register.members next.now }
     ensures answer { WritesAnew register next.now result (B.state bay.old) (B.state bay.new) }
     ensures allowed { IfOk result (λ renewed. IsTrue (is_status renewed.register.value)) }
-    ensures reaches { IfOk result (λ renewed. Reaches renewed.register.members renewed.register.value) }
+    ensures reaches { IfOk result (λ renewed. Reaches renewed.register.members
+        renewed.register.value) }
     ensures attached { KeepsAttached (B.state bay.old) (B.state bay.new) }
     ensures calls { (B.state bay.new).calls ≤ (B.state bay.old).calls + 13 * 64 }
     ensures runs { RunsAsRecord register next.now (B.state bay.old) (B.state bay.new) }

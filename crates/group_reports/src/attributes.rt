@@ -13,7 +13,8 @@ use std::alloc::Global;
 
 /// The rows of lsattr: one of each attribute, in folded order. Sizes are in bytes, and the repair time is in seconds.
 pub fn attribute_rows(alloc: Global, catalog: &Catalog) -> Result<Vec<AttrRow>, NoMemory>
-    ensures { IfOk result (λ rows. rows.items ≡ attribute_rows catalog.now.shape catalog.now.tables.templates.settings.attributes) }
+    ensures { IfOk result (λ rows. rows.items
+        ≡ attribute_rows catalog.now.shape catalog.now.tables.templates.settings.attributes) }
 {
     let shape = catalog.shape();
     let settings = catalog.settings();

@@ -34,7 +34,10 @@ impl Checked {
     fn plus(self, others: Checked) -> Checked
         requires extents { self.extents + others.extents < 2 ^ 64 }
         requires not_full { self.not_full + others.not_full < 2 ^ 64 }
-        ensures { result ≡ record { extents = self.extents + others.extents; not_full = self.not_full + others.not_full } }
+        ensures { result ≡ record {
+          extents = self.extents + others.extents;
+          not_full = self.not_full + others.not_full;
+        } }
     {
         Checked {
             extents: self.extents + others.extents,
@@ -98,7 +101,8 @@ fn checked_row(
     requires copies { copies ≤ 3 }
     requires few { length extents.now ≤ 256 }
     requires numbers { first + 256 < 2 ^ 63 }
-    ensures checked { result ≡ checked_of disks.now (extents_from catalog.now file copies first extents.now) }
+    ensures checked { result ≡ checked_of disks.now
+        (extents_from catalog.now file copies first extents.now) }
     ensures few { result.extents ≤ 256 }
     ensures fewer { result.not_full ≤ 256 }
 {
@@ -120,7 +124,8 @@ fn checked_one(
     homes: &Homes,
 ) -> Checked
     requires { copies ≤ 3 }
-    ensures checked { result ≡ checked_of disks.now (with_extent_if_any (extent_there catalog.now file copies index homes.now) []) }
+    ensures checked { result ≡ checked_of disks.now
+        (with_extent_if_any (extent_there catalog.now file copies index homes.now) []) }
     ensures few { result.extents ≤ 1 }
     ensures fewer { result.not_full ≤ 1 }
 {
@@ -162,7 +167,8 @@ fn lost_in_chunk(
     extents: &[Homes],
 ) -> Option<Extent>
     requires { length extents.now ≤ 256 }
-    ensures { result ≡ find (is_only_on disks.now disk) (chunk_extents catalog.now (at, extents.now)) }
+    ensures { result ≡ find (is_only_on disks.now disk)
+        (chunk_extents catalog.now (at, extents.now)) }
 {
     let Some(copies) = catalog.copies_of(at.0) else {
         return None;
@@ -184,7 +190,8 @@ fn lost_in_row(
     requires copies { copies ≤ 3 }
     requires few { length extents.now ≤ 256 }
     requires numbers { first + 256 < 2 ^ 63 }
-    ensures { result ≡ find (is_only_on disks.now disk) (extents_from catalog.now file copies first extents.now) }
+    ensures { result ≡ find (is_only_on disks.now disk)
+        (extents_from catalog.now file copies first extents.now) }
 {
     let mut index = first;
     for homes in extents {
@@ -207,7 +214,8 @@ fn lost_there(
     homes: &Homes,
 ) -> Option<Extent>
     requires { copies ≤ 3 }
-    ensures { result ≡ find (is_only_on disks.now disk) (with_extent_if_any (extent_there catalog.now file copies index homes.now) []) }
+    ensures { result ≡ find (is_only_on disks.now disk)
+        (with_extent_if_any (extent_there catalog.now file copies index homes.now) []) }
 {
     let Some(extent) = extent_there(catalog, file, copies, index, homes) else {
         return None;

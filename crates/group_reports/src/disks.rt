@@ -43,7 +43,10 @@ impl Model for GroupTotals {
 pub fn group_totals(catalog: &Catalog, status: &PstRecord) -> GroupTotals
     ensures value { result ≡ group_row catalog.now status.now.entries }
     // Where the units are those of a group's records, the free ones are those under no home.
-    ensures placement { (s : Shape) (items : List Item) → AreUnitsOf s items status.now.entries catalog.now.units → result ≡ row_by (specs.free_units s items) catalog.now.tables.operations.rebalance status.now.entries }
+    ensures placement { (s : Shape) (items : List Item)
+        → AreUnitsOf s items status.now.entries catalog.now.units
+        → result ≡ row_by (specs.free_units s items) catalog.now.tables.operations.rebalance
+        status.now.entries }
 {
     totals(catalog, status)
 }

@@ -52,7 +52,8 @@ pub fn expiring(catalog: &Catalog, status: &PstRecord, now: u64) -> Option<u8>
 }
 
 fn first_expiring(catalog: &Catalog, status: &PstRecord, disks: &[PstEntry], now: u64) -> Option<u8>
-    ensures { result ≡ number_of_entry_if_any (find (λ e. is_repair_time_up now e && may_go catalog.now status.now e.number) disks.now) }
+    ensures { result ≡ number_of_entry_if_any
+        (find (λ e. is_repair_time_up now e && may_go catalog.now status.now e.number) disks.now) }
 {
     for disk in disks {
         if is_due(disk, now) && may_go(catalog, status, disk.number) {

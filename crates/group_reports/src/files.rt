@@ -12,7 +12,9 @@ use file_directory::FileHead;
 #[tactic(auto, using(crate::proofs::FileWalk::next_file, crate::proofs::FileWalk::no_head, crate::proofs::FileWalk::past_all, crate::proofs::FileWalk::none_in))]
 pub(crate) fn next_file(catalog: &Catalog, least: u64) -> Option<(u32, &FileHead)>
     // The files from there on are this one and those behind it.
-    ensures next { MatchOption result (files_from catalog.now.tables.files least ≡ []) (λ f. files_from catalog.now.tables.files least ≡ (f.0, f.1.now) ∷ files_from catalog.now.tables.files (f.0 + 1)) }
+    ensures next { MatchOption result (files_from catalog.now.tables.files least ≡ [])
+        (λ f. files_from catalog.now.tables.files least
+        ≡ (f.0, f.1.now) ∷ files_from catalog.now.tables.files (f.0 + 1)) }
     ensures above { IfSome result (λ f. least ≤ f.0) }
     ensures catalog { IsCatalog catalog.now }
 {

@@ -29,7 +29,8 @@ pub fn rows_listed(
     catalog: &Catalog,
     parts: &[Text],
 ) -> Result<Vec<LsRow>, Refusal>
-    ensures rows { IfOk result (λ rows. AreRowsAt catalog.now.tables group.now parts.now rows.items) }
+    ensures rows { IfOk result (λ rows. AreRowsAt catalog.now.tables group.now parts.now
+        rows.items) }
     ensures cause { IfErr result (IsListCause catalog.now.tables parts.now) }
 {
     match pattern_of(parts) {
@@ -41,8 +42,10 @@ pub fn rows_listed(
 /// The pattern that the last part of a path is, and the parts above it. None where it isn't one.
 #[tactic(auto, using(crate::proofs::Paths::split_up, crate::proofs::Paths::split_last, crate::proofs::Paths::no_parts))]
 fn pattern_of(parts: &[Text]) -> Option<(&[Text], &[u8])>
-    ensures pattern { MatchOption result (has_star (last_part parts.now) ≡ false) (λ p. has_star (last_part parts.now) ≡ true) }
-    ensures parts { IfSome result (λ p. (p.0.now ≡ up parts.now) × (p.1.now ≡ last_part parts.now)) }
+    ensures pattern { MatchOption result (has_star (last_part parts.now) ≡ false)
+        (λ p. has_star (last_part parts.now) ≡ true) }
+    ensures parts { IfSome result (λ p. (p.0.now ≡ up parts.now)
+        × (p.1.now ≡ last_part parts.now)) }
 {
     let Some((last, above)) = parts.split_last() else {
         return None;
@@ -69,8 +72,11 @@ fn rows_matching(
     above: &[Text],
     pattern: &[u8],
 ) -> Result<Vec<LsRow>, Refusal>
-    ensures rows { IfOk result (λ rows. AreRowsIn catalog.now.tables group.now pattern.now (directory_in catalog.now.tables (node_named catalog.now.tables above.now)) rows.items) }
-    ensures cause { IfErr result (IsDueRefusal (directory_refusal (directory_in catalog.now.tables (node_named catalog.now.tables above.now)))) }
+    ensures rows { IfOk result (λ rows. AreRowsIn catalog.now.tables group.now pattern.now
+        (directory_in catalog.now.tables (node_named catalog.now.tables above.now)) rows.items) }
+    ensures cause { IfErr result (IsDueRefusal
+        (directory_refusal (directory_in catalog.now.tables
+        (node_named catalog.now.tables above.now)))) }
 {
     let node = node_named(alloc, group, catalog, above).map_err(no_memory)?;
     let directory = directory_in(catalog, node)?;
@@ -84,8 +90,10 @@ fn rows_named(
     catalog: &Catalog,
     parts: &[Text],
 ) -> Result<Vec<LsRow>, Refusal>
-    ensures rows { IfOk result (λ rows. IsSomeAnd (node_named catalog.now.tables parts.now) (λ n. AreRowsOf catalog.now.tables group.now n rows.items)) }
-    ensures cause { IfErr result (IsDueRefusal (if_missing (node_named catalog.now.tables parts.now))) }
+    ensures rows { IfOk result (λ rows. IsSomeAnd (node_named catalog.now.tables parts.now)
+        (λ n. AreRowsOf catalog.now.tables group.now n rows.items)) }
+    ensures cause { IfErr result (IsDueRefusal
+        (if_missing (node_named catalog.now.tables parts.now))) }
 {
     let Some(node) = node_named(alloc, group, catalog, parts).map_err(no_memory)? else {
         return Err(Refusal::NoName);
@@ -117,7 +125,8 @@ pub fn rows_under(
     directory: u32,
     pattern: &[u8],
 ) -> Result<Vec<LsRow>, NoMemory>
-    ensures { IfOk result (λ rows. AreRowsUnder catalog.now.tables group.now directory pattern.now rows.items) }
+    ensures { IfOk result (λ rows. AreRowsUnder catalog.now.tables group.now directory pattern.now
+        rows.items) }
 {
     let numbers = catalog.children(alloc, directory)?;
     rows_at(alloc, group, catalog, pattern, &numbers)
@@ -131,7 +140,8 @@ fn rows_at(
     pattern: &[u8],
     numbers: &[u32],
 ) -> Result<Vec<LsRow>, NoMemory>
-    ensures { IfOk result (λ rows. rows.items ≡ rows_of_nodes catalog.now.tables group.now pattern.now numbers.now) }
+    ensures { IfOk result (λ rows. rows.items
+        ≡ rows_of_nodes catalog.now.tables group.now pattern.now numbers.now) }
 {
     let mut rows = Vec::new(alloc);
     for number in numbers {
@@ -176,7 +186,8 @@ fn node_row(
     pattern: &[u8],
     node: &Node,
 ) -> Result<Option<LsRow>, NoMemory>
-    ensures { IfOk result (λ row. row ≡ node_row catalog.now.tables group.now pattern.now node.now) }
+    ensures { IfOk result (λ row. row ≡ node_row catalog.now.tables group.now pattern.now
+        node.now) }
 {
     if is_match(pattern, node.name.as_bytes()) {
         listed(alloc, group, catalog, node)
@@ -191,7 +202,8 @@ fn listed(
     catalog: &Catalog,
     node: &Node,
 ) -> Result<Option<LsRow>, NoMemory>
-    ensures { IfOk result (λ row. row ≡ option_map listed_row (listing_of_node catalog.now.tables group.now node.now)) }
+    ensures { IfOk result (λ row. row ≡ option_map listed_row
+        (listing_of_node catalog.now.tables group.now node.now)) }
 {
     if let NodeKind::Directory = node.kind {
         return Ok(Some(directory_row(alloc, &node.name)?));
@@ -224,7 +236,8 @@ pub fn directory_row(alloc: Global, name: &Name) -> Result<LsRow, NoMemory>
 }
 
 fn system_row(alloc: Global, head: &FileHead, name: &Name) -> Result<LsRow, NoMemory>
-    ensures { IfOk result (λ row. row ≡ listed_row (ListedSystemName head.now.type_name head.now.copies head.now.stripe name.now)) }
+    ensures { IfOk result (λ row. row ≡ listed_row
+        (ListedSystemName head.now.type_name head.now.copies head.now.stripe name.now)) }
 {
     Ok(LsRow {
         kind: List::from_slice(alloc, head.kind.as_bytes())?,
@@ -238,7 +251,8 @@ fn system_row(alloc: Global, head: &FileHead, name: &Name) -> Result<LsRow, NoMe
 }
 
 fn alias_row(alloc: Global, head: &FileHead, name: &Name, target: Text) -> Result<LsRow, NoMemory>
-    ensures { IfOk result (λ row. row ≡ listed_row (AliasName head.now.type_name head.now.copies head.now.stripe name.now target)) }
+    ensures { IfOk result (λ row. row ≡ listed_row
+        (AliasName head.now.type_name head.now.copies head.now.stripe name.now target)) }
 {
     Ok(LsRow {
         kind: List::from_slice(alloc, head.kind.as_bytes())?,

@@ -22,7 +22,8 @@ pub fn group_row(
     catalog: &Catalog,
     status: &PstRecord,
 ) -> Result<GroupRow, NoMemory>
-    ensures { IfOk result (λ row. row ≡ mounted_row name.now catalog.now.shape (group_row catalog.now status.now.entries)) }
+    ensures { IfOk result (λ row. row ≡ mounted_row name.now catalog.now.shape
+        (group_row catalog.now status.now.entries)) }
 {
     let shape = catalog.shape();
     let totals = group_totals(catalog, status);
@@ -66,14 +67,16 @@ pub fn disk_rows(
     catalog: &Catalog,
     status: &PstRecord,
 ) -> Result<Vec<DiskRow>, NoMemory>
-    ensures { IfOk result (λ rows. rows.items ≡ map disk_row (specs.disk_rows catalog.now status.now.entries)) }
+    ensures { IfOk result (λ rows. rows.items
+        ≡ map disk_row (specs.disk_rows catalog.now status.now.entries)) }
 {
     let rows = rows_of(alloc, catalog, status.entries())?;
     Ok(rows)
 }
 
 fn rows_of(alloc: Global, catalog: &Catalog, disks: &[PstEntry]) -> Result<Vec<DiskRow>, NoMemory>
-    ensures { IfOk result (λ rows. rows.items ≡ map (λ e. disk_row (specs.row_of_disk catalog.now e)) disks.now) }
+    ensures { IfOk result (λ rows. rows.items
+        ≡ map (λ e. disk_row (specs.row_of_disk catalog.now e)) disks.now) }
 {
     let mut rows = Vec::new(alloc);
     for disk in disks {
@@ -121,7 +124,8 @@ fn failgroup_name(alloc: Global, catalog: &Catalog, disk: u8) -> Result<Text, No
 
 /// The rows of lstmpl: one of each template, in folded order.
 pub fn template_rows(alloc: Global, catalog: &Catalog) -> Result<Vec<TemplateRow>, NoMemory>
-    ensures { IfOk result (λ rows. rows.items ≡ map template_row catalog.now.tables.templates.templates) }
+    ensures { IfOk result (λ rows. rows.items
+        ≡ map template_row catalog.now.tables.templates.templates) }
 {
     rows_of_templates(alloc, catalog.templates())
 }

@@ -27,7 +27,8 @@ pub fn paths_found(
     dir: &[Name],
     pattern: &[u8],
 ) -> Result<Vec<Path>, NoMemory>
-    ensures { IfOk result (λ paths. paths.items ≡ paths_found catalog.now.tables group.now dir.now pattern.now) }
+    ensures { IfOk result (λ paths. paths.items
+        ≡ paths_found catalog.now.tables group.now dir.now pattern.now) }
 {
     let found = found_of_files(alloc, group, catalog, dir, pattern)?;
     in_order(alloc, found)
@@ -42,7 +43,9 @@ fn found_of_files(
     dir: &[Name],
     pattern: &[u8],
 ) -> Result<Vec<Path>, NoMemory>
-    ensures { IfOk result (λ paths. paths.items ≡ found_of_files catalog.now.tables group.now dir.now pattern.now catalog.now.tables.files) }
+    ensures { IfOk result (λ paths. paths.items
+        ≡ found_of_files catalog.now.tables group.now dir.now pattern.now
+        catalog.now.tables.files) }
 {
     let mut found = Vec::new(alloc);
     let mut least = 0;
@@ -63,7 +66,11 @@ fn push_found(
     head: &FileHead,
     found: &mut Vec<Path>,
 ) -> Result<(), NoMemory>
-    ensures { OnOk result (found.new.items ≡ found.old.items ++ (option_to_list (matching_node_path catalog.now.tables group.now dir.now pattern.now head.now.system) ++ option_to_list (matching_node_path catalog.now.tables group.now dir.now pattern.now head.now.alias))) }
+    ensures { OnOk result (found.new.items
+        ≡ found.old.items ++ (option_to_list
+        (matching_node_path catalog.now.tables group.now dir.now pattern.now head.now.system)
+        ++ option_to_list (matching_node_path catalog.now.tables group.now dir.now pattern.now
+        head.now.alias))) }
 {
     let system = found_at(alloc, group, catalog, dir, pattern, head.system)?;
     push_path(found, system)?;
@@ -93,7 +100,8 @@ fn found_at(
     pattern: &[u8],
     number: u32,
 ) -> Result<Option<Path>, NoMemory>
-    ensures { IfOk result (λ path. path ≡ matching_node_path catalog.now.tables group.now dir.now pattern.now number) }
+    ensures { IfOk result (λ path. path ≡ matching_node_path catalog.now.tables group.now dir.now
+        pattern.now number) }
 {
     let Some(node) = catalog.node(number) else {
         return Ok(None);

@@ -31,7 +31,10 @@ impl Taken {
     fn plus(self, others: Taken) -> Taken
         requires used { self.used + others.used < 2 ^ 128 }
         requires mirrored { self.mirrored + others.mirrored < 2 ^ 128 }
-        ensures { result ≡ record { used = self.used + others.used; mirrored = self.mirrored + others.mirrored } }
+        ensures { result ≡ record {
+          used = self.used + others.used;
+          mirrored = self.mirrored + others.mirrored;
+        } }
     {
         Taken {
             used: self.used + others.used,
@@ -49,7 +52,8 @@ pub fn usage_below(
     catalog: &Catalog,
     dir: &[Name],
 ) -> Result<Taken, NoMemory>
-    ensures { IfOk result (λ usage. usage ≡ directory_usage catalog.now group.now dir.now catalog.now.tables.files) }
+    ensures { IfOk result (λ usage. usage
+        ≡ directory_usage catalog.now group.now dir.now catalog.now.tables.files) }
 {
     let mut usage = Taken::none();
     let mut least = 0;
@@ -69,8 +73,11 @@ fn usage_of_file(
     number: u32,
     head: &FileHead,
 ) -> Result<Taken, NoMemory>
-    ensures used { IfOk result (λ usage. usage.used ≡ if_file_below catalog.now.tables group.now dir.now file_size (number, head.now)) }
-    ensures mirrored { IfOk result (λ usage. usage.mirrored ≡ if_file_below catalog.now.tables group.now dir.now (mirrored_of catalog.now) (number, head.now)) }
+    ensures used { IfOk result (λ usage. usage.used
+        ≡ if_file_below catalog.now.tables group.now dir.now file_size (number, head.now)) }
+    ensures mirrored { IfOk result (λ usage. usage.mirrored
+        ≡ if_file_below catalog.now.tables group.now dir.now (mirrored_of catalog.now)
+        (number, head.now)) }
     ensures small { IfOk result (λ usage. usage.used ≤ 2 ^ 64) }
     ensures few { IfOk result (λ usage. usage.mirrored ≤ 2 ^ 78) }
 {

@@ -17,7 +17,8 @@ use extent_copies::units_of;
 pub fn file_units(catalog: &Catalog, file: u32) -> u64
     ensures value { result ≡ file_units catalog.now file }
     // It is so by the records of the tables.
-    ensures records { (items : List Item) → AreItemsOf catalog.now.tables items → result ≡ file_units_in catalog.now.shape.step items file }
+    ensures records { (items : List Item) → AreItemsOf catalog.now.tables items
+        → result ≡ file_units_in catalog.now.shape.step items file }
     ensures few { result < 2 ^ 46 }
 {
     file_units_by(catalog, file)

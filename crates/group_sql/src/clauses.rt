@@ -22,7 +22,8 @@ fn two_paths<'a>(
     between: &[u8],
     place: &mut Place<'a>,
 ) -> Result<(Text, Text), ReadError>
-    ensures { GivesPart (λ p. p) result place.new (paths_at between.now place.old.rest.now place.old.left) }
+    ensures { GivesPart (λ p. p) result place.new
+        (paths_at between.now place.old.rest.now place.old.left) }
 {
     let first = read_text(alloc, place)?;
     expect(place, between)?;
@@ -37,7 +38,8 @@ fn added_disks<'a>(
     first: NewFailgroup,
     place: &mut Place<'a>,
 ) -> Result<Clause, ReadError>
-    ensures { GivesPart clause_said result place.new (added_disks_at first place.old.rest.now place.old.left) }
+    ensures { GivesPart clause_said result place.new
+        (added_disks_at first place.old.rest.now place.old.left) }
 {
     let groups = failgroups_behind(alloc, first, place)?;
     let rebalance = rebalance(place)?;
@@ -47,7 +49,8 @@ fn added_disks<'a>(
 /// A template, a directory or an alias that is added.
 #[tactic(auto, unfolding(crate::specs::Choices::other_added_at))]
 fn other_added<'a>(alloc: Global, place: &mut Place<'a>) -> Result<Clause, ReadError>
-    ensures { GivesPart clause_said result place.new (other_added_at place.old.rest.now place.old.left) }
+    ensures { GivesPart clause_said result place.new
+        (other_added_at place.old.rest.now place.old.left) }
 {
     if takes(place, b"TEMPLATE") {
         let (name, words) = template(alloc, place)?;
@@ -76,7 +79,8 @@ fn added<'a>(alloc: Global, place: &mut Place<'a>) -> Result<Clause, ReadError>
 /// What stands behind DROP DISK.
 #[tactic(auto, unfolding(crate::specs::Choices::drop_disks_at, crate::specs::Choices::rebalance_at))]
 fn drop_disks<'a>(alloc: Global, place: &mut Place<'a>) -> Result<Clause, ReadError>
-    ensures { GivesPart clause_said result place.new (drop_disks_at place.old.rest.now place.old.left) }
+    ensures { GivesPart clause_said result place.new
+        (drop_disks_at place.old.rest.now place.old.left) }
 {
     let disks = read_drops(alloc, place)?;
     let rebalance = rebalance(place)?;
@@ -86,7 +90,8 @@ fn drop_disks<'a>(alloc: Global, place: &mut Place<'a>) -> Result<Clause, ReadEr
 /// What stands behind DROP DISKS.
 #[tactic(auto, unfolding(crate::specs::Choices::drop_failgroup_at))]
 fn drop_failgroup<'a>(alloc: Global, place: &mut Place<'a>) -> Result<Clause, ReadError>
-    ensures { GivesPart clause_said result place.new (drop_failgroup_at place.old.rest.now place.old.left) }
+    ensures { GivesPart clause_said result place.new
+        (drop_failgroup_at place.old.rest.now place.old.left) }
 {
     let (kind, name) = in_failgroup(alloc, place)?;
     let force = is_forced(place);
@@ -102,7 +107,8 @@ fn drop_failgroup<'a>(alloc: Global, place: &mut Place<'a>) -> Result<Clause, Re
 /// What stands behind DROP.
 #[tactic(auto, unfolding(crate::specs::Choices::dropped_at))]
 fn dropped<'a>(alloc: Global, place: &mut Place<'a>) -> Result<Clause, ReadError>
-    ensures { GivesPart clause_said result place.new (dropped_at place.old.rest.now place.old.left) }
+    ensures { GivesPart clause_said result place.new
+        (dropped_at place.old.rest.now place.old.left) }
 {
     if takes(place, b"DISK") {
         return drop_disks(alloc, place);
@@ -159,7 +165,8 @@ fn resize<'a>(alloc: Global, place: &mut Place<'a>) -> Result<Clause, ReadError>
 /// What stands behind CHECK, where REPAIR and NOREPAIR say the same.
 #[tactic(auto, unfolding(crate::specs::Choices::check_at))]
 fn check<'a>(place: &mut Place<'a>) -> Clause
-    ensures { FindsPart (clause_said result) place.new (check_at place.old.rest.now place.old.left) }
+    ensures { FindsPart (clause_said result) place.new
+        (check_at place.old.rest.now place.old.left) }
 {
     if !takes(place, b"REPAIR") {
         takes(place, b"NOREPAIR");
@@ -184,7 +191,8 @@ fn online<'a>(alloc: Global, place: &mut Place<'a>) -> Result<Clause, ReadError>
 /// What stands behind OFFLINE.
 #[tactic(auto, unfolding(crate::specs::Choices::offline_at))]
 fn offline<'a>(alloc: Global, place: &mut Place<'a>) -> Result<Clause, ReadError>
-    ensures { GivesPart clause_said result place.new (offline_at place.old.rest.now place.old.left) }
+    ensures { GivesPart clause_said result place.new
+        (offline_at place.old.rest.now place.old.left) }
 {
     let disks = read_some_disks(alloc, place)?;
     let minutes = dropped_after(place)?;
@@ -194,7 +202,8 @@ fn offline<'a>(alloc: Global, place: &mut Place<'a>) -> Result<Clause, ReadError
 /// What stands behind MODIFY or ALTER.
 #[tactic(auto, unfolding(crate::specs::Choices::modified_at))]
 fn modified<'a>(alloc: Global, place: &mut Place<'a>) -> Result<Clause, ReadError>
-    ensures { GivesPart clause_said result place.new (modified_at place.old.rest.now place.old.left) }
+    ensures { GivesPart clause_said result place.new
+        (modified_at place.old.rest.now place.old.left) }
 {
     expect(place, b"TEMPLATE")?;
     let (name, words) = template(alloc, place)?;
@@ -204,7 +213,8 @@ fn modified<'a>(alloc: Global, place: &mut Place<'a>) -> Result<Clause, ReadErro
 /// What stands behind RENAME.
 #[tactic(auto, unfolding(crate::specs::Choices::renamed_at, crate::specs::Choices::paths_at))]
 fn renamed<'a>(alloc: Global, place: &mut Place<'a>) -> Result<Clause, ReadError>
-    ensures { GivesPart clause_said result place.new (renamed_at place.old.rest.now place.old.left) }
+    ensures { GivesPart clause_said result place.new
+        (renamed_at place.old.rest.now place.old.left) }
 {
     if takes(place, b"DIRECTORY") {
         let (old, new) = two_paths(alloc, b"TO", place)?;
@@ -228,7 +238,8 @@ fn set<'a>(alloc: Global, place: &mut Place<'a>) -> Result<Clause, ReadError>
 /// A clause from OFFLINE on.
 #[tactic(auto, unfolding(crate::specs::Choices::last_clause_at))]
 fn last_clause<'a>(alloc: Global, place: &mut Place<'a>) -> Result<Clause, ReadError>
-    ensures { GivesPart clause_said result place.new (last_clause_at place.old.rest.now place.old.left) }
+    ensures { GivesPart clause_said result place.new
+        (last_clause_at place.old.rest.now place.old.left) }
 {
     if takes(place, b"OFFLINE") {
         return offline(alloc, place);
@@ -249,7 +260,8 @@ fn last_clause<'a>(alloc: Global, place: &mut Place<'a>) -> Result<Clause, ReadE
 /// A clause from CHECK on.
 #[tactic(auto, unfolding(crate::specs::Choices::later_clause_at))]
 fn later_clause<'a>(alloc: Global, place: &mut Place<'a>) -> Result<Clause, ReadError>
-    ensures { GivesPart clause_said result place.new (later_clause_at place.old.rest.now place.old.left) }
+    ensures { GivesPart clause_said result place.new
+        (later_clause_at place.old.rest.now place.old.left) }
 {
     if takes(place, b"CHECK") {
         return Ok(check(place));

@@ -32,7 +32,8 @@ fn more_attributes<'a>(
     attributes: &mut List<Attribute>,
     place: &mut Place<'a>,
 ) -> Result<(), ReadError>
-    ensures { GivesPart (λ _. attributes.new) result place.new (items_from g.attribute attribute_of 44 attributes.old place.old.rest.now place.old.left) }
+    ensures { GivesPart (λ _. attributes.new) result place.new
+        (items_from g.attribute attribute_of 44 attributes.old place.old.rest.now place.old.left) }
 {
     while takes_mark(place, b',') {
         let attribute = read_attribute(alloc, place)?;
@@ -44,7 +45,8 @@ fn more_attributes<'a>(
 /// An attribute, and others behind commas.
 #[tactic(auto, using(crate::proofs::Items::attributes_from))]
 fn listed_attributes<'a>(alloc: Global, place: &mut Place<'a>) -> Result<List<Attribute>, ReadError>
-    ensures { GivesPart (λ l. l) result place.new (reads (g.listed g.attribute) (λ v. items_of attribute_of v) place.old) }
+    ensures { GivesPart (λ l. l) result place.new
+        (reads (g.listed g.attribute) (λ v. items_of attribute_of v) place.old) }
 {
     let mut attributes = List::new(alloc);
     let attribute = read_attribute(alloc, place)?;
@@ -56,7 +58,8 @@ fn listed_attributes<'a>(alloc: Global, place: &mut Place<'a>) -> Result<List<At
 /// ATTRIBUTE and a list of attributes, where it is said.
 #[tactic(auto, unfolding(crate::specs::Choices::attributes_at))]
 fn read_attributes<'a>(alloc: Global, place: &mut Place<'a>) -> Result<List<Attribute>, ReadError>
-    ensures { GivesPart (λ l. l) result place.new (attributes_at place.old.rest.now place.old.left) }
+    ensures { GivesPart (λ l. l) result place.new
+        (attributes_at place.old.rest.now place.old.left) }
 {
     if !takes(place, b"ATTRIBUTE") {
         return Ok(List::new(alloc));
@@ -88,7 +91,8 @@ fn groups_and_attributes<'a>(
     alloc: Global,
     place: &mut Place<'a>,
 ) -> Result<(List<NewFailgroup>, List<Attribute>), ReadError>
-    ensures { GivesPart (λ p. p) result place.new (groups_and_attributes_at place.old.rest.now place.old.left) }
+    ensures { GivesPart (λ p. p) result place.new
+        (groups_and_attributes_at place.old.rest.now place.old.left) }
 {
     let groups = read_failgroups(alloc, place)?;
     let attributes = read_attributes(alloc, place)?;
@@ -98,7 +102,8 @@ fn groups_and_attributes<'a>(
 /// What stands behind CREATE DISKGROUP.
 #[tactic(auto, unfolding(crate::specs::Choices::new_group_at))]
 fn create_group<'a>(alloc: Global, place: &mut Place<'a>) -> Result<Statement, ReadError>
-    ensures { GivesPart statement_said result place.new (new_group_at place.old.rest.now place.old.left) }
+    ensures { GivesPart statement_said result place.new
+        (new_group_at place.old.rest.now place.old.left) }
 {
     let name = read_name(alloc, place)?;
     let kind = group_kind(place)?;
@@ -114,7 +119,8 @@ fn create_group<'a>(alloc: Global, place: &mut Place<'a>) -> Result<Statement, R
 /// What stands behind CREATE DISK.
 #[tactic(auto, unfolding(crate::specs::Choices::new_disk_at))]
 fn create_disk<'a>(alloc: Global, place: &mut Place<'a>) -> Result<Statement, ReadError>
-    ensures { GivesPart statement_said result place.new (new_disk_at place.old.rest.now place.old.left) }
+    ensures { GivesPart statement_said result place.new
+        (new_disk_at place.old.rest.now place.old.left) }
 {
     let path = read_text(alloc, place)?;
     expect(place, b"SIZE")?;
@@ -125,7 +131,8 @@ fn create_disk<'a>(alloc: Global, place: &mut Place<'a>) -> Result<Statement, Re
 /// What stands behind CREATE.
 #[tactic(auto, unfolding(crate::specs::Choices::created_at))]
 pub fn created<'a>(alloc: Global, place: &mut Place<'a>) -> Result<Statement, ReadError>
-    ensures { GivesPart statement_said result place.new (created_at place.old.rest.now place.old.left) }
+    ensures { GivesPart statement_said result place.new
+        (created_at place.old.rest.now place.old.left) }
 {
     if takes(place, b"DISK") {
         return create_disk(alloc, place);
@@ -152,7 +159,8 @@ fn with_contents<'a>(place: &mut Place<'a>) -> Result<bool, ReadError>
 /// What stands behind DROP.
 #[tactic(auto, unfolding(crate::specs::Choices::drop_group_at))]
 pub fn drop_group<'a>(alloc: Global, place: &mut Place<'a>) -> Result<Statement, ReadError>
-    ensures { GivesPart statement_said result place.new (drop_group_at place.old.rest.now place.old.left) }
+    ensures { GivesPart statement_said result place.new
+        (drop_group_at place.old.rest.now place.old.left) }
 {
     expect(place, b"DISKGROUP")?;
     let name = read_name(alloc, place)?;

@@ -24,7 +24,8 @@ fn more_names<'a>(
     names: &mut List<Name>,
     place: &mut Place<'a>,
 ) -> Result<(), ReadError>
-    ensures { GivesPart (λ _. names.new) result place.new (items_from g.name (λ n. n) 44 names.old place.old.rest.now place.old.left) }
+    ensures { GivesPart (λ _. names.new) result place.new
+        (items_from g.name (λ n. n) 44 names.old place.old.rest.now place.old.left) }
 {
     while takes_mark(place, b',') {
         let name = read_name(alloc, place)?;
@@ -36,7 +37,8 @@ fn more_names<'a>(
 /// A name, and others behind commas.
 #[tactic(auto, using(crate::proofs::Items::names_from))]
 pub fn read_names<'a>(alloc: Global, place: &mut Place<'a>) -> Result<List<Name>, ReadError>
-    ensures { GivesPart (λ ns. ns) result place.new (reads (g.listed g.name) (λ v. items_of (λ n. n) v) place.old) }
+    ensures { GivesPart (λ ns. ns) result place.new
+        (reads (g.listed g.name) (λ v. items_of (λ n. n) v) place.old) }
 {
     let mut names = List::new(alloc);
     let name = read_name(alloc, place)?;
@@ -61,7 +63,8 @@ fn more_drops<'a>(
     disks: &mut List<DroppedDisk>,
     place: &mut Place<'a>,
 ) -> Result<(), ReadError>
-    ensures { GivesPart (λ _. disks.new) result place.new (items_from dropped_disk dropped_of 44 disks.old place.old.rest.now place.old.left) }
+    ensures { GivesPart (λ _. disks.new) result place.new
+        (items_from dropped_disk dropped_of 44 disks.old place.old.rest.now place.old.left) }
 {
     while takes_mark(place, b',') {
         let disk = read_dropped(alloc, place)?;
@@ -73,7 +76,8 @@ fn more_drops<'a>(
 /// A disk that is dropped, and others behind commas.
 #[tactic(auto, using(crate::proofs::Items::drops_from))]
 pub fn read_drops<'a>(alloc: Global, place: &mut Place<'a>) -> Result<List<DroppedDisk>, ReadError>
-    ensures { GivesPart (λ ds. ds) result place.new (reads (g.listed dropped_disk) (λ v. items_of dropped_of v) place.old) }
+    ensures { GivesPart (λ ds. ds) result place.new
+        (reads (g.listed dropped_disk) (λ v. items_of dropped_of v) place.old) }
 {
     let mut disks = List::new(alloc);
     let disk = read_dropped(alloc, place)?;
@@ -117,7 +121,8 @@ fn more_disks<'a>(
     disks: &mut List<NewDisk>,
     place: &mut Place<'a>,
 ) -> Result<(), ReadError>
-    ensures { GivesPart (λ _. disks.new) result place.new (items_from g.disk new_disk_of 44 disks.old place.old.rest.now place.old.left) }
+    ensures { GivesPart (λ _. disks.new) result place.new
+        (items_from g.disk new_disk_of 44 disks.old place.old.rest.now place.old.left) }
 {
     while takes_mark(place, b',') {
         let disk = read_disk(alloc, place)?;
@@ -129,7 +134,8 @@ fn more_disks<'a>(
 /// A disk, and others behind commas.
 #[tactic(auto, using(crate::proofs::Items::disks_from))]
 fn read_disks<'a>(alloc: Global, place: &mut Place<'a>) -> Result<List<NewDisk>, ReadError>
-    ensures { GivesPart (λ ds. ds) result place.new (reads (g.listed g.disk) (λ v. items_of new_disk_of v) place.old) }
+    ensures { GivesPart (λ ds. ds) result place.new
+        (reads (g.listed g.disk) (λ v. items_of new_disk_of v) place.old) }
 {
     let mut disks = List::new(alloc);
     let disk = read_disk(alloc, place)?;
@@ -144,7 +150,8 @@ fn disks_of_group<'a>(
     quorum: bool,
     place: &mut Place<'a>,
 ) -> Result<NewFailgroup, ReadError>
-    ensures { GivesPart (λ f. f) result place.new (reads group_name_and_disks (named_in quorum) place.old) }
+    ensures { GivesPart (λ f. f) result place.new
+        (reads group_name_and_disks (named_in quorum) place.old) }
 {
     let name = read_name(alloc, place)?;
     expect(place, b"DISK")?;
@@ -162,7 +169,8 @@ fn disks_behind_kind<'a>(
     quorum: bool,
     place: &mut Place<'a>,
 ) -> Result<NewFailgroup, ReadError>
-    ensures { GivesPart (λ f. f) result place.new (reads group_and_disks (disks_in quorum) place.old) }
+    ensures { GivesPart (λ f. f) result place.new
+        (reads group_and_disks (disks_in quorum) place.old) }
 {
     if takes(place, b"FAILGROUP") {
         return disks_of_group(alloc, quorum, place);
@@ -214,7 +222,8 @@ fn more_failgroups<'a>(
     groups: &mut List<NewFailgroup>,
     place: &mut Place<'a>,
 ) -> Result<(), ReadError>
-    ensures { GivesPart (λ _. groups.new) result place.new (failgroups_after groups.old place.old.rest.now place.old.left) }
+    ensures { GivesPart (λ _. groups.new) result place.new
+        (failgroups_after groups.old place.old.rest.now place.old.left) }
 {
     while let Some(group) = try_failgroup(alloc, place)? {
         push(groups, group)?;
@@ -228,7 +237,8 @@ pub fn failgroups_behind<'a>(
     first: NewFailgroup,
     place: &mut Place<'a>,
 ) -> Result<List<NewFailgroup>, ReadError>
-    ensures { GivesPart (λ fs. fs) result place.new (failgroups_after (first ∷ []) place.old.rest.now place.old.left) }
+    ensures { GivesPart (λ fs. fs) result place.new
+        (failgroups_after (first ∷ []) place.old.rest.now place.old.left) }
 {
     let mut groups = List::new(alloc);
     push(&mut groups, first)?;
@@ -256,7 +266,8 @@ pub fn in_failgroup<'a>(
     alloc: Global,
     place: &mut Place<'a>,
 ) -> Result<(Option<FailgroupKind>, Name), ReadError>
-    ensures { GivesPart kind_and_name result place.new (in_group_at place.old.rest.now place.old.left) }
+    ensures { GivesPart kind_and_name result place.new
+        (in_group_at place.old.rest.now place.old.left) }
 {
     expect(place, b"IN")?;
     let kind = failgroup_kind(place);

@@ -38,7 +38,8 @@ pub fn is_waiting<'a>(place: &mut Place<'a>) -> bool
 
 /// The kind of a failure group, where one is said.
 pub fn failgroup_kind<'a>(place: &mut Place<'a>) -> Option<FailgroupKind>
-    ensures { FindsPart (maybe_kind_said result) place.new (reads (Maybe g.group_word) maybe_kind_of place.old) }
+    ensures { FindsPart (maybe_kind_said result) place.new
+        (reads (Maybe g.group_word) maybe_kind_of place.old) }
 {
     if takes(place, b"QUORUM") {
         return Some(FailgroupKind::Quorum);

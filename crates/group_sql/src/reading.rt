@@ -26,7 +26,8 @@ pub enum ReadError {
 /// A statement without its semicolon.
 #[tactic(auto, unfolding(crate::specs::Choices::statement_at))]
 fn statement<'a>(alloc: Global, place: &mut Place<'a>) -> Result<Statement, asm_grammar::ReadError>
-    ensures { GivesPart statement_said result place.new (statement_at place.old.rest.now place.old.left) }
+    ensures { GivesPart statement_said result place.new
+        (statement_at place.old.rest.now place.old.left) }
 {
     if takes(place, b"CREATE") {
         return created(alloc, place);
@@ -44,7 +45,8 @@ fn statement<'a>(alloc: Global, place: &mut Place<'a>) -> Result<Statement, asm_
 /// A statement and the semicolon that ends the text.
 #[tactic(auto, unfolding(crate::specs::Choices::ended_at))]
 fn ended<'a>(alloc: Global, place: &mut Place<'a>) -> Result<Statement, asm_grammar::ReadError>
-    ensures { GivesPart statement_said result place.new (ended_at place.old.rest.now place.old.left) }
+    ensures { GivesPart statement_said result place.new
+        (ended_at place.old.rest.now place.old.left) }
 {
     let statement = statement(alloc, place)?;
     expect_end(place, b';')?;

@@ -17,7 +17,8 @@ use std::alloc::Global;
 /// A redundancy, and the stripe behind it where one is said.
 #[tactic(auto, unfolding(crate::specs::Choices::stripe_at))]
 fn behind_redundancy<'a>(redundancy: Redundancy, place: &mut Place<'a>) -> TemplateWords
-    ensures { FindsPart result place.new (stripe_at (redundancy_said redundancy) place.old.rest.now place.old.left) }
+    ensures { FindsPart result place.new
+        (stripe_at (redundancy_said redundancy) place.old.rest.now place.old.left) }
 {
     let stripe = if takes(place, b"COARSE") {
         Some(Stripe::Coarse)
@@ -79,7 +80,8 @@ pub fn template<'a>(
     alloc: Global,
     place: &mut Place<'a>,
 ) -> Result<(Name, TemplateWords), ReadError>
-    ensures { GivesPart (λ t. t) result place.new (template_with_words_at place.old.rest.now place.old.left) }
+    ensures { GivesPart (λ t. t) result place.new
+        (template_with_words_at place.old.rest.now place.old.left) }
 {
     let name = read_name(alloc, place)?;
     expect(place, b"ATTRIBUTES")?;

@@ -25,7 +25,8 @@ pub fn takes<'a>(place: &mut Place<'a>, word: &[u8]) -> bool
 
 /// The keyword is next.
 pub fn expect<'a>(place: &mut Place<'a>, word: &[u8]) -> Result<(), ReadError>
-    ensures { GivesPart (λ u. u) result place.new (parse (One (w.Keyword word.now)) place.old.rest.now place.old.left) }
+    ensures { GivesPart (λ u. u) result place.new
+        (parse (One (w.Keyword word.now)) place.old.rest.now place.old.left) }
 {
     *place = key(*place, word)?;
     Ok(())
@@ -42,7 +43,8 @@ pub fn takes_mark<'a>(place: &mut Place<'a>, byte: u8) -> bool
 
 /// The mark is next.
 pub fn expect_mark<'a>(place: &mut Place<'a>, byte: u8) -> Result<(), ReadError>
-    ensures { GivesPart (λ u. u) result place.new (parse (One (w.Mark byte)) place.old.rest.now place.old.left) }
+    ensures { GivesPart (λ u. u) result place.new
+        (parse (One (w.Mark byte)) place.old.rest.now place.old.left) }
 {
     *place = mark(*place, byte)?;
     Ok(())
@@ -50,7 +52,8 @@ pub fn expect_mark<'a>(place: &mut Place<'a>, byte: u8) -> Result<(), ReadError>
 
 /// The mark is next, and nothing behind it.
 pub fn expect_end<'a>(place: &mut Place<'a>, byte: u8) -> Result<(), ReadError>
-    ensures { GivesPart (λ u. u) result place.new (close (w.Mark byte) place.old.rest.now place.old.left) }
+    ensures { GivesPart (λ u. u) result place.new
+        (close (w.Mark byte) place.old.rest.now place.old.left) }
 {
     *place = end(*place, byte)?;
     Ok(())
@@ -59,7 +62,8 @@ pub fn expect_end<'a>(place: &mut Place<'a>, byte: u8) -> Result<(), ReadError>
 /// A name is next.
 #[tactic(auto, using(crate::proofs::Names::name_is))]
 pub fn read_name<'a>(alloc: Global, place: &mut Place<'a>) -> Result<Name, ReadError>
-    ensures { GivesPart (λ n. n) result place.new (parse (One w.Name) place.old.rest.now place.old.left) }
+    ensures { GivesPart (λ n. n) result place.new
+        (parse (One w.Name) place.old.rest.now place.old.left) }
 {
     let (bytes, next) = name(*place)?;
     *place = next;
@@ -72,7 +76,8 @@ pub fn read_name<'a>(alloc: Global, place: &mut Place<'a>) -> Result<Name, ReadE
 
 /// A path or a text in quotes is next.
 pub fn read_text<'a>(alloc: Global, place: &mut Place<'a>) -> Result<Text, ReadError>
-    ensures { GivesPart (λ t. t) result place.new (parse (One w.Quoted) place.old.rest.now place.old.left) }
+    ensures { GivesPart (λ t. t) result place.new
+        (parse (One w.Quoted) place.old.rest.now place.old.left) }
 {
     let (bytes, next) = quoted(*place)?;
     *place = next;
@@ -84,7 +89,8 @@ pub fn read_text<'a>(alloc: Global, place: &mut Place<'a>) -> Result<Text, ReadE
 
 /// A number is next.
 pub fn read_number<'a>(place: &mut Place<'a>) -> Result<u64, ReadError>
-    ensures { GivesPart (λ n. n) result place.new (parse (One w.Number) place.old.rest.now place.old.left) }
+    ensures { GivesPart (λ n. n) result place.new
+        (parse (One w.Number) place.old.rest.now place.old.left) }
 {
     let (number, next) = number(*place)?;
     *place = next;
@@ -93,7 +99,8 @@ pub fn read_number<'a>(place: &mut Place<'a>) -> Result<u64, ReadError>
 
 /// A size is next; it is given in bytes.
 pub fn read_size<'a>(place: &mut Place<'a>) -> Result<u64, ReadError>
-    ensures { GivesPart (λ n. n) result place.new (parse (One w.Size) place.old.rest.now place.old.left) }
+    ensures { GivesPart (λ n. n) result place.new
+        (parse (One w.Size) place.old.rest.now place.old.left) }
 {
     let (size, next) = size(*place)?;
     *place = next;
@@ -102,7 +109,8 @@ pub fn read_size<'a>(place: &mut Place<'a>) -> Result<u64, ReadError>
 
 /// A time is next; it is given in minutes.
 pub fn read_minutes<'a>(place: &mut Place<'a>) -> Result<u64, ReadError>
-    ensures { GivesPart (λ n. n) result place.new (parse (One w.Minutes) place.old.rest.now place.old.left) }
+    ensures { GivesPart (λ n. n) result place.new
+        (parse (One w.Minutes) place.old.rest.now place.old.left) }
 {
     let (minutes, next) = minutes(*place)?;
     *place = next;

@@ -24,7 +24,8 @@ pub fn drop_expired<B: Bay>(
     requires takes { Takes m.old (B.state bay.old) }
     requires mounted { IsMounted m.old }
     ensures idle { OnIdle result ((m.new ≡ m.old) × (bay.new ≡ bay.old)) }
-    ensures lets { OnWork result (IsMounted m.old × LetsGo m.old m.new (B.state bay.old) (B.state bay.new)) }
+    ensures lets { OnWork result (IsMounted m.old
+        × LetsGo m.old m.new (B.state bay.old) (B.state bay.new)) }
     ensures line { OnEvent result (IsLineOf m.old.name BeforeText line.new) }
 {
     if expiring(m.catalog(), m.status(), now).is_none() {

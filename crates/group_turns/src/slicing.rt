@@ -153,7 +153,8 @@ pub fn resync_slice<B: Bay>(
     requires takes { Takes m.old (B.state bay.old) }
     requires mounted { IsMounted m.old }
     ensures idle { OnIdle result ((m.new ≡ m.old) × (bay.new ≡ bay.old)) }
-    ensures lets { OnWork result (IsMounted m.old × LetsGo m.old m.new (B.state bay.old) (B.state bay.new)) }
+    ensures lets { OnWork result (IsMounted m.old
+        × LetsGo m.old m.new (B.state bay.old) (B.state bay.new)) }
     ensures line { OnEvent result (IsLineOf m.old.name AfterReply line.new) }
 {
     match syncing_disk(m) {
@@ -175,7 +176,8 @@ pub fn rebalance_slice<B: Bay>(
     requires takes { Takes m.old (B.state bay.old) }
     requires mounted { IsMounted m.old }
     ensures idle { OnIdle result ((m.new ≡ m.old) × (bay.new ≡ bay.old)) }
-    ensures lets { OnWork result (IsMounted m.old × LetsGo m.old m.new (B.state bay.old) (B.state bay.new)) }
+    ensures lets { OnWork result (IsMounted m.old
+        × LetsGo m.old m.new (B.state bay.old) (B.state bay.new)) }
     ensures line { OnEvent result (IsLineOf m.old.name AfterReply line.new) }
     ensures moved { OnEvent result (IsMovedLine m.new line.new) }
 {

@@ -43,7 +43,8 @@ pub fn take_turn<B: Bay>(
 ) -> Turned
     requires takes { Takes m.old (B.state bay.old) }
     ensures idle { OnIdle result ((m.new ≡ m.old) × (bay.new ≡ bay.old)) }
-    ensures lets { OnWork result (IsMounted m.old × LetsGo m.old m.new (B.state bay.old) (B.state bay.new)) }
+    ensures lets { OnWork result (IsMounted m.old
+        × LetsGo m.old m.new (B.state bay.old) (B.state bay.new)) }
     ensures line { OnEvent result (IsLineOf m.old.name (when_of turn) line.new) }
 {
     if !m.is_mounted() {

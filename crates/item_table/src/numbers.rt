@@ -23,7 +23,8 @@ impl<T: Listed<u32>> KeyTable<u32, T> {
     /// The least number that isn't below `least` and that is free, or None where there is none.
     pub fn free_from(&self, least: u32) -> Option<u32>
         ensures found { IfSome result (IsFreeNumberFrom self.now least) }
-        ensures none { IfNone result ((k : ℕ) → least ≤ k → k < 2 ^ 32 → IsTrue (has_number self.now k)) }
+        ensures none { IfNone result ((k : ℕ) → least ≤ k → k < 2 ^ 32
+            → IsTrue (has_number self.now k)) }
     {
         let mut free = least;
         while self.get(free).is_some() {

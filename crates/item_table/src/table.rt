@@ -78,7 +78,8 @@ impl<K: Ord + Copy + Drop, T: Listed<K>> KeyTable<K, T> {
         requires { IsTrue (is_item (T.item_of (key, kept))) }
         ensures ok { OnOk result (self.new ≡ with_key K.cmp self.old key kept) }
         // Other keys keep what they have.
-        ensures at { OnOk result ((k : K) → at_key K.cmp self.new k ≡ (if is_at (K.cmp key) k then Some kept else at_key K.cmp self.old k)) }
+        ensures at { OnOk result ((k : K) → at_key K.cmp self.new k
+            ≡ (if is_at (K.cmp key) k then Some kept else at_key K.cmp self.old k)) }
         ensures err { OnErr result (self.new ≡ self.old) }
     {
         match self.map.insert(key, kept) {
@@ -91,7 +92,8 @@ impl<K: Ord + Copy + Drop, T: Listed<K>> KeyTable<K, T> {
     pub fn remove(&mut self, key: K) -> bool
         ensures there { result ≡ has_key K.cmp self.old key }
         ensures after { self.new ≡ without_key K.cmp self.old key }
-        ensures at { (k : K) → at_key K.cmp self.new k ≡ (if is_at (K.cmp key) k then None else at_key K.cmp self.old k) }
+        ensures at { (k : K) → at_key K.cmp self.new k
+            ≡ (if is_at (K.cmp key) k then None else at_key K.cmp self.old k) }
     {
         self.map.remove(&key).is_some()
     }
@@ -116,7 +118,8 @@ impl<K: Ord + Copy + Drop, T: Listed<K>> KeyTable<K, T> {
     /// Takes the record of a key away, where it is there.
     #[tactic(auto, using(crate::proofs::Laws::record_gone))]
     pub fn remove_record(&mut self, key: K)
-        ensures { (k : K) → bytes_at K.cmp T.item_of self.new k ≡ (if is_at (K.cmp key) k then None else bytes_at K.cmp T.item_of self.old k) }
+        ensures { (k : K) → bytes_at K.cmp T.item_of self.new k
+            ≡ (if is_at (K.cmp key) k then None else bytes_at K.cmp T.item_of self.old k) }
     {
         let _ = self.remove(key);
     }
@@ -139,16 +142,20 @@ impl<K: Ord + Copy + Drop, T: Listed<K>> KeyTable<K, T> {
         records: &Records,
     ) -> Result<Option<KeyTable<K, T>>, NoMemory>
         // What is read is a table that has these records.
-        ensures found { IfOk result (λ read. IfSome read (λ t. IsTable K.cmp T.item_of t × (of_kinds T.is_mine records.now ≡ map (record_of T.item_of) t))) }
+        ensures found { IfOk result (λ read. IfSome read
+            (λ t. IsTable K.cmp T.item_of t
+            × (of_kinds T.is_mine records.now ≡ map (record_of T.item_of) t))) }
         // A table that has these records is read.
-        ensures only { IfOk result (λ read. (t : Items (K × T)) → IsTable K.cmp T.item_of t → of_kinds T.is_mine records.now ≡ map (record_of T.item_of) t → read ≡ Some t) }
+        ensures only { IfOk result (λ read. (t : Items (K × T)) → IsTable K.cmp T.item_of t
+            → of_kinds T.is_mine records.now ≡ map (record_of T.item_of) t → read ≡ Some t) }
     {
         KeyTable::read(alloc, records)
     }
 
     #[tactic(auto, using(asm_base::proofs::Tables::read_taken, asm_base::proofs::Tables::read_refused), unfolding(asm_base::specs::Records::read_from))]
     fn read(alloc: Global, records: &Records) -> Result<Option<KeyTable<K, T>>, NoMemory>
-        ensures { IfOk result (λ read. read ≡ read_from T.is_mine (add_record K.cmp T.entry_of) [] records.now) }
+        ensures { IfOk result (λ read. read
+            ≡ read_from T.is_mine (add_record K.cmp T.entry_of) [] records.now) }
     {
         let mut table = KeyTable::new(alloc);
         for (key, value) in records.iter() {

@@ -20,7 +20,8 @@ pub trait Recorded<K: Ord + Copy>: Listed<K> {
 impl<K: Ord + Copy + Drop, T: Recorded<K>> KeyTable<K, T> {
     /// Puts the table's records into a change. After an `Err` some of them may stand there.
     pub fn to_records(&self, alloc: Global, change: &mut Change) -> Result<(), NoMemory>
-        ensures put { OnOk result (change.new.put ≡ change.old.put ++ map (record_of T.item_of) self.now) }
+        ensures put { OnOk result (change.new.put
+            ≡ change.old.put ++ map (record_of T.item_of) self.now) }
         ensures gone { change.new.gone ≡ change.old.gone }
     {
         for (key, kept) in self.map.iter() {

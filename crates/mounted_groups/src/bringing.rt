@@ -41,7 +41,8 @@ pub fn named_disks(status: &PstRecord, disks: &[Member]) -> DiskSet
 /// Whether the image of a disk is attached and has a whole directory region.
 fn has_room(m: &Mounted, disk: u8) -> bool
     requires { disk < 64 }
-    ensures { (a : AttachedDisk) → get_or m.now.disks disk None ≡ Some a → result ≡ has_region m.now.catalog.shape.dir_blocks a.size }
+    ensures { (a : AttachedDisk) → get_or m.now.disks disk None ≡ Some a
+        → result ≡ has_region m.now.catalog.shape.dir_blocks a.size }
 {
     match m.size(disk) {
         Some(size) => has_region(m.catalog().shape().dir_blocks, size),
@@ -87,7 +88,8 @@ pub fn bring_all<B: Bay>(
 ) -> Result<(), Refusal>
     requires mounted { IsMounted m.old }
     requires takes { Takes m.old (B.state bay.old) }
-    ensures { BringsCopiesUp B.state disks 64 64 m.old result m.new (B.state bay.old) (B.state bay.new) }
+    ensures { BringsCopiesUp B.state disks 64 64 m.old result m.new (B.state bay.old)
+        (B.state bay.new) }
 {
     for disk in 0..64u8 {
         if disks.has(disk) {

@@ -22,7 +22,8 @@ const LEAST_UNITS: u32 = 25;
 /// The units of the disk that a look has shown, where it can be given to a new group.
 pub fn usable_units(alloc: Global, path: &[u8], disk: &Name, probe: Probe) -> Result<u32, Refusal>
     ensures ok { IfOk result (λ units. IsUsableProbe probe units) }
-    ensures cause { IfErr result (λ refusal. IsUnusable path.now disk.now probe (meaning_of (λ _. []) refusal)) }
+    ensures cause { IfErr result (λ refusal. IsUnusable path.now disk.now probe
+        (meaning_of (λ _. []) refusal)) }
 {
     match probe {
         Probe::Absent => Err(no_disk(alloc, path)),

@@ -40,7 +40,8 @@ fn drop_record<B: Bay>(
     requires mounted { IsMounted m.old }
     requires takes { Takes m.old (B.state bay.old) }
     ensures ends { EndsOn m.old result m.new (B.state bay.old) (B.state bay.new) }
-    ensures dropped { OnOk result (m.new.catalog.tables ≡ without_left_over m.old.register.value.entries m.old.catalog.tables number) }
+    ensures dropped { OnOk result (m.new.catalog.tables
+        ≡ without_left_over m.old.register.value.entries m.old.catalog.tables number) }
 {
     if !is_left_over(m.catalog(), m.status(), number) {
         return Ok(());
@@ -55,7 +56,8 @@ fn drop_records<B: Bay>(alloc: Global, bay: &mut B, m: &mut Mounted) -> Result<(
     requires takes { Takes m.old (B.state bay.old) }
     ensures ends { EndsOn m.old result m.new (B.state bay.old) (B.state bay.new) }
     // Once it is done, just the records that were left over are gone.
-    ensures dropped { OnOk result (HaveDropped m.old.register.value.entries m.old.catalog.tables 64 m.new.catalog.tables) }
+    ensures dropped { OnOk result (HaveDropped m.old.register.value.entries m.old.catalog.tables 64
+        m.new.catalog.tables) }
 {
     for number in 0..64u8 {
         drop_record(alloc, bay, m, number)?;

@@ -24,7 +24,8 @@ pub fn give_directory<B: Bay>(
     requires plan { IsGroupPlan group.now }
     requires copy { IsCopy (B.state bay.old) (first_copy slot) }
     requires shut { NowOnly (B.state bay.old) (AreShut (first_copy slot)) }
-    ensures { GivesStage slot group.now (directory_stage slot group.now) result (B.state bay.old) (B.state bay.new) }
+    ensures { GivesStage slot group.now (directory_stage slot group.now) result (B.state bay.old)
+        (B.state bay.new) }
 {
     let Ok(first) = first_change(alloc, group) else {
         return Err(BayError::NoMemory);

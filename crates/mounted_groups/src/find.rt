@@ -47,8 +47,10 @@ pub fn look_at_all<B: Bay>(
     requires few { length paths.now ≤ 512 }
     requires wanted { wanted < length paths.now }
     requires none { ids.old.items ≡ [] }
-    ensures looks { LooksAtAll (length paths.now) result ids.new.items (B.state bay.old) (B.state bay.new) }
-    ensures shown { IfOk result (λ probe. IsShown wanted probe (counts_of (B.state bay.old)) (counts_of (B.state bay.new))) }
+    ensures looks { LooksAtAll (length paths.now) result ids.new.items (B.state bay.old)
+        (B.state bay.new) }
+    ensures shown { IfOk result (λ probe. IsShown wanted probe (counts_of (B.state bay.old))
+        (counts_of (B.state bay.new))) }
 {
     let mut found = Probe::Absent;
     for (slot, path) in paths.iter().enumerate() {

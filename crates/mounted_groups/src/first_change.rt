@@ -44,7 +44,8 @@ pub fn first_change(alloc: Global, group: &NewGroup) -> Result<Change, NoMemory>
 #[tactic(auto, unfolding(asm_formats::specs::Values::value))]
 fn disk_value(alloc: Global, disk: &Name) -> Result<Value, NoMemory>
     requires { IsTrue (is_name disk.now) }
-    ensures { IfOk result (λ v. v ≡ value (disk_item 0 (record { birth = 1; name = disk.now; failgroup = disk.now }))) }
+    ensures { IfOk result (λ v. v ≡ value
+        (disk_item 0 (record { birth = 1; name = disk.now; failgroup = disk.now }))) }
 {
     let mut block = Block::zeros();
     let mut to = Writer {

@@ -43,7 +43,8 @@ fn give_rest<B: Bay>(
     requires bodies { AreBodies bodies.now group.now }
     requires room { HasRoom slot group.now.units (B.state bay.old) }
     requires headed { NowOnly (B.state bay.old) (IsHeaded slot group.now) }
-    ensures { GivesStage slot group.now (rest_stage slot group.now) result (B.state bay.old) (B.state bay.new) }
+    ensures { GivesStage slot group.now (rest_stage slot group.now) result (B.state bay.old)
+        (B.state bay.new) }
 {
     let store = give_directory(alloc, bay, slot, group)?;
     match give_record(bay, slot, 1024, &bodies.claim.bytes, &bodies.status.bytes) {

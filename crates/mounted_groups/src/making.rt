@@ -32,7 +32,8 @@ fn read_fault(alloc: Global, path: &[u8]) -> Refusal
 /// Whether the image that was looked at may be made anew: it is absent, or has no open header.
 fn check_free(alloc: Global, path: &[u8], looked: Looked) -> Result<(), Refusal>
     ensures free { OnOk result (IsLookFree looked) }
-    ensures cause { IfErr result (λ refusal. IsNotFree path.now looked (meaning_of (λ _. []) refusal)) }
+    ensures cause { IfErr result (λ refusal. IsNotFree path.now looked
+        (meaning_of (λ _. []) refusal)) }
 {
     match looked {
         Looked::Absent => Ok(()),
@@ -58,11 +59,16 @@ pub fn create_disk<B: Bay>(
     held: &[u32],
 ) -> Result<(), Refusal>
     requires few { length paths.now ≤ 512 }
-    ensures cause { IfErr result (λ refusal. MakeCause (map string_bytes paths.now) path.now held.now (meaning_of (λ _. []) refusal) (counts_of (B.state bay.old)) (counts_of (B.state bay.new))) }
-    ensures made { OnOk result (IsImageMade (map string_bytes paths.now) path.now held.now size (B.state bay.old) (B.state bay.new)) }
-    ensures attached { StaysBut (map string_bytes paths.now) path.now held.now (B.state bay.old) (B.state bay.new) }
+    ensures cause { IfErr result (λ refusal. MakeCause (map string_bytes paths.now) path.now
+        held.now (meaning_of (λ _. []) refusal) (counts_of (B.state bay.old))
+        (counts_of (B.state bay.new))) }
+    ensures made { OnOk result (IsImageMade (map string_bytes paths.now) path.now held.now size
+        (B.state bay.old) (B.state bay.new)) }
+    ensures attached { StaysBut (map string_bytes paths.now) path.now held.now (B.state bay.old)
+        (B.state bay.new) }
     // No disk changes but that of the path, and none in a slot that is held.
-    ensures spares { SparesAllBut (map string_bytes paths.now) path.now (length paths.now) (B.state bay.old) (B.state bay.new) }
+    ensures spares { SparesAllBut (map string_bytes paths.now) path.now (length paths.now)
+        (B.state bay.old) (B.state bay.new) }
     ensures held { SparesHeld held.now (length paths.now) (B.state bay.old) (B.state bay.new) }
 {
     let Some(slot) = slot_of(paths, path) else {

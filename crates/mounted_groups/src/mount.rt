@@ -68,7 +68,8 @@ fn take_over<B: Bay>(
     held: &[u32],
 ) -> Result<Taken, MountError>
     requires few { length paths.now ≤ 512 }
-    ensures { TakesOver B.state name.now (length paths.now) held.now option now result (B.state bay.old) (B.state bay.new) }
+    ensures { TakesOver B.state name.now (length paths.now) held.now option now result
+        (B.state bay.old) (B.state bay.new) }
 {
     let searched = Found::find(alloc, bay, paths, name)?;
     let found = searched.without(held);
@@ -94,7 +95,8 @@ fn finish<B: Bay>(
     requires mounted { IsMounted m.old }
     requires takes { Takes m.old (B.state bay.old) }
     // Turns must be left for 64 copies, and for what a stop left undone.
-    ensures brings { BringsCopiesUp B.state named 64 65 m.old result m.new (B.state bay.old) (B.state bay.new) }
+    ensures brings { BringsCopiesUp B.state named 64 65 m.old result m.new (B.state bay.old)
+        (B.state bay.new) }
     ensures ended { OnOk result (m.new.catalog.tables.operations.pending ≡ None) }
 {
     bring_all(alloc, bay, m, named)?;

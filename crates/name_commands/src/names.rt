@@ -74,7 +74,8 @@ fn clause_at(
     path: &[u8],
     kind: AtPath,
 ) -> Result<Option<TreeEdit>, NoMemory>
-    ensures { IfOk result (λ edit. option_map edit_meant edit ≡ on_path (clause_path group.now path.now) (edit_at kind)) }
+    ensures { IfOk result (λ edit. option_map edit_meant edit
+        ≡ on_path (clause_path group.now path.now) (edit_at kind)) }
 {
     match path_in(alloc, group, path)? {
         Some(path) => Ok(Some(edit_at(kind, path))),
@@ -90,7 +91,9 @@ fn clause_between(
     second: &[u8],
     kind: BetweenPaths,
 ) -> Result<Option<TreeEdit>, NoMemory>
-    ensures { IfOk result (λ edit. option_map edit_meant edit ≡ on_paths (clause_path group.now first.now) (clause_path group.now second.now) (edit_between kind)) }
+    ensures { IfOk result (λ edit. option_map edit_meant edit
+        ≡ on_paths (clause_path group.now first.now) (clause_path group.now second.now)
+        (edit_between kind)) }
 {
     let Some(first) = path_in(alloc, group, first)? else {
         return Ok(None);

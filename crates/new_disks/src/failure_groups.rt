@@ -84,7 +84,8 @@ fn is_of_kind(kind: Option<FailgroupKind>, quorum: bool) -> bool
 /// Whether one of the disks is in it.
 #[tactic(auto, using(crate::proofs::Counting::some_in))]
 pub fn has_disks_in(rows: &[DiskRow], kind: Option<FailgroupKind>, name: &Name) -> bool
-    ensures { result ≡ not (length (rows_of_failgroup rows.now (maybe_kind_said kind) name.now) == 0) }
+    ensures { result ≡ not (length (rows_of_failgroup rows.now (maybe_kind_said kind) name.now)
+        == 0) }
 {
     is_one_in(rows, kind, name)
 }

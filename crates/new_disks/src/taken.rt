@@ -51,7 +51,8 @@ fn is_same_bool(a: bool, b: bool) -> bool
 
 /// Whether one of the new disks clashes with one that is there.
 fn any_clashes(rows: &[DiskRow], disks: &[PlannedDisk]) -> bool
-    ensures { result ≡ list_any (λ disk. list_any (λ row. clashes_with disk row) rows.now) disks.now }
+    ensures { result ≡ list_any (λ disk. list_any (λ row. clashes_with disk row) rows.now)
+        disks.now }
 {
     match disks {
         [] => false,

@@ -17,10 +17,12 @@ use std::alloc::Global;
 /// shape isn't one of the formats, which no attribute leaves so.
 fn finished(alloc: Global, creation: Creation) -> Result<Creation, Refusal>
     requires { IsNewCreation creation }
-    ensures given { IfOk result (λ c. created_with (creation_meant creation) [] ≡ Ok (creation_meant c)) }
+    ensures given { IfOk result (λ c. created_with (creation_meant creation) []
+        ≡ Ok (creation_meant c)) }
     ensures new { IfOk result IsNewCreation }
     ensures shape { IfOk result (λ c. IsTrue (is_shape c.shape)) }
-    ensures refused { IfErr result (λ refusal. IsRefusedAs (created_with (creation_meant creation) []) (meaning_of (λ _. []) refusal)) }
+    ensures refused { IfErr result (λ refusal. IsRefusedAs
+        (created_with (creation_meant creation) []) (meaning_of (λ _. []) refusal)) }
 {
     if creation.has_sectors() {
         if !creation.shape.is_allowed() {
@@ -35,9 +37,11 @@ fn finished(alloc: Global, creation: Creation) -> Result<Creation, Refusal>
 /// The creation with the value of one attribute more.
 fn with_one(alloc: Global, creation: &Creation, attribute: &Attribute) -> Result<Creation, Refusal>
     requires { IsNewCreation creation.now }
-    ensures given { IfOk result (λ next. with_creation_attribute (creation_meant creation.now) attribute.now ≡ Some (creation_meant next)) }
+    ensures given { IfOk result (λ next. with_creation_attribute (creation_meant creation.now)
+        attribute.now ≡ Some (creation_meant next)) }
     ensures new { IfOk result IsNewCreation }
-    ensures refused { IfErr result (λ refusal. IsNotTaken (creation_meant creation.now) attribute.now (meaning_of (λ _. []) refusal)) }
+    ensures refused { IfErr result (λ refusal. IsNotTaken (creation_meant creation.now)
+        attribute.now (meaning_of (λ _. []) refusal)) }
 {
     let name = attribute.name.as_slice();
     match creation.with_attribute(alloc, name, attribute.value.as_slice()) {
@@ -54,10 +58,12 @@ fn with_attributes(
     attributes: &[Attribute],
 ) -> Result<Creation, Refusal>
     requires { IsNewCreation creation }
-    ensures given { IfOk result (λ c. created_with (creation_meant creation) attributes.now ≡ Ok (creation_meant c)) }
+    ensures given { IfOk result (λ c. created_with (creation_meant creation) attributes.now
+        ≡ Ok (creation_meant c)) }
     ensures new { IfOk result IsNewCreation }
     ensures shape { IfOk result (λ c. IsTrue (is_shape c.shape)) }
-    ensures refused { IfErr result (λ refusal. IsRefusedAs (created_with (creation_meant creation) attributes.now) (meaning_of (λ _. []) refusal)) }
+    ensures refused { IfErr result (λ refusal. IsRefusedAs
+        (created_with (creation_meant creation) attributes.now) (meaning_of (λ _. []) refusal)) }
 {
     let [first, rest @ ..] = attributes else {
         return finished(alloc, creation);
@@ -78,7 +84,8 @@ pub fn creation_of(
     ensures given { IfOk result (λ c. creation (Some kind) attributes.now ≡ Ok (creation_meant c)) }
     ensures new { IfOk result IsNewCreation }
     ensures shape { IfOk result (λ c. IsTrue (is_shape c.shape)) }
-    ensures refused { IfErr result (λ refusal. IsRefusedAs (creation (Some kind) attributes.now) (meaning_of (λ _. []) refusal)) }
+    ensures refused { IfErr result (λ refusal. IsRefusedAs (creation (Some kind) attributes.now)
+        (meaning_of (λ _. []) refusal)) }
 {
     with_attributes(alloc, Creation::usual(alloc, kind), attributes)
 }

@@ -33,8 +33,10 @@ fn form_ready<B: Bay>(
     requires lists { AreLists ready.draft ready.lists }
     requires free { AreFreeDisks slots held.now ready.draft.disks.items (B.state bay.old) }
     ensures works { Works ready.draft.disks.items (B.state bay.old) (B.state bay.new) }
-    ensures cause { IfErr result (λ refusal. IsFormRefusal ready.draft.disks.items (meaning_of (λ _. []) refusal) (B.state bay.old) (B.state bay.new)) }
-    ensures mounted { IfOk result (λ m. IsNewlyMounted held.now ready.draft.name (Some ready.draft.status.id) m (B.state bay.new)) }
+    ensures cause { IfErr result (λ refusal. IsFormRefusal ready.draft.disks.items
+        (meaning_of (λ _. []) refusal) (B.state bay.old) (B.state bay.new)) }
+    ensures mounted { IfOk result (λ m. IsNewlyMounted held.now ready.draft.name
+        (Some ready.draft.status.id) m (B.state bay.new)) }
 {
     match form(alloc, bay, &ready) {
         Ok(formed) => match mount_formed(alloc, bay, ready.draft, formed) {
@@ -61,14 +63,19 @@ pub fn create_group<B: Bay>(
     requires few { length paths.now ≤ 512 }
     ensures given { OnOk result.1 (IsSome result.0) }
     ensures floor { IfSome result.0 (λ id. known.now.floor ≤ id) }
-    ensures above_read { IfSome result.0 (λ id. id < last_count → All (λ other. other < id) ids.new.items) }
+    ensures above_read { IfSome result.0 (λ id. id < last_count
+        → All (λ other. other < id) ids.new.items) }
     // Why it is refused.
-    ensures cause { IfErr result.1 (λ refusal. IsCreationRefusal (map string_bytes paths.now) asked.now known.now result.0 (meaning_of (λ _. []) refusal) (B.state bay.old) (B.state bay.new)) }
+    ensures cause { IfErr result.1 (λ refusal. IsCreationRefusal (map string_bytes paths.now)
+        asked.now known.now result.0 (meaning_of (λ _. []) refusal) (B.state bay.old)
+        (B.state bay.new)) }
     // The new group takes calls, on disks that no other group holds.
-    ensures mounted { IfOk result.1 (λ m. IsNewlyMounted known.now.held.items asked.now.name result.0 m (B.state bay.new)) }
+    ensures mounted { IfOk result.1 (λ m. IsNewlyMounted known.now.held.items asked.now.name
+        result.0 m (B.state bay.new)) }
     // Of other groups nothing changes: what was attached stays so, and the disks in these slots do.
     ensures attached { StaysAttached (B.state bay.old) (B.state bay.new) }
-    ensures spares { SparesHeld known.now.held.items (length paths.now) (B.state bay.old) (B.state bay.new) }
+    ensures spares { SparesHeld known.now.held.items (length paths.now) (B.state bay.old)
+        (B.state bay.new) }
 {
     match prepare(alloc, bay, paths, asked, known, ids) {
         Ok(ready) => {

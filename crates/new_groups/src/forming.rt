@@ -88,8 +88,10 @@ fn give_directories<B: Bay>(
     requires lists { AreLists draft.now lists.now }
     requires disks { AreDisks draft.now.disks.items (B.state bay.old) }
     ensures works { Works draft.now.disks.items (B.state bay.old) (B.state bay.new) }
-    ensures cause { IfErr result (FormCause draft.now.disks.items (B.state bay.old) (B.state bay.new)) }
-    ensures copies { IfOk result (λ store. store.copies ≡ copy_list draft.now.status.directories draft.now.disks.items) }
+    ensures cause { IfErr result (FormCause draft.now.disks.items (B.state bay.old)
+        (B.state bay.new)) }
+    ensures copies { IfOk result (λ store. store.copies
+        ≡ copy_list draft.now.status.directories draft.now.disks.items) }
     ensures keeps { IfOk result (λ store. Keeps store (B.state bay.new)) }
 {
     if lists.copies.is_empty() {
@@ -110,9 +112,13 @@ fn give_record<B: Bay>(bay: &mut B, draft: &Draft, lists: &Lists) -> Result<Regi
     requires lists { AreLists draft.now lists.now }
     requires disks { AreDisks draft.now.disks.items (B.state bay.old) }
     ensures works { Works draft.now.disks.items (B.state bay.old) (B.state bay.new) }
-    ensures cause { IfErr result (FormCause draft.now.disks.items (B.state bay.old) (B.state bay.new)) }
-    ensures front { Runs (IsSlotIn draft.now.disks.items) (ChangesOnly (FrontOf (member_list draft.now.disks.items))) (B.state bay.old) (B.state bay.new) }
-    ensures register { IfOk result (λ register. register ≡ first_register draft.now.status (member_list draft.now.disks.items)) }
+    ensures cause { IfErr result (FormCause draft.now.disks.items (B.state bay.old)
+        (B.state bay.new)) }
+    ensures front { Runs (IsSlotIn draft.now.disks.items)
+        (ChangesOnly (FrontOf (member_list draft.now.disks.items))) (B.state bay.old)
+        (B.state bay.new) }
+    ensures register { IfOk result (λ register. register
+        ≡ first_register draft.now.status (member_list draft.now.disks.items)) }
     ensures ready { IfOk result (λ register. IsRegisterReady register (B.state bay.new)) }
 {
     match claim_first(bay, draft.status.id, 1, &lists.holders) {
@@ -127,9 +133,13 @@ fn write_record<B: Bay>(bay: &mut B, draft: &Draft, lists: &Lists) -> Result<Reg
     requires lists { AreLists draft.now lists.now }
     requires disks { AreDisks draft.now.disks.items (B.state bay.old) }
     ensures works { Works draft.now.disks.items (B.state bay.old) (B.state bay.new) }
-    ensures cause { IfErr result (FormCause draft.now.disks.items (B.state bay.old) (B.state bay.new)) }
-    ensures front { Runs (IsSlotIn draft.now.disks.items) (ChangesOnly (FrontOf (member_list draft.now.disks.items))) (B.state bay.old) (B.state bay.new) }
-    ensures register { IfOk result (λ register. register ≡ first_register draft.now.status (member_list draft.now.disks.items)) }
+    ensures cause { IfErr result (FormCause draft.now.disks.items (B.state bay.old)
+        (B.state bay.new)) }
+    ensures front { Runs (IsSlotIn draft.now.disks.items)
+        (ChangesOnly (FrontOf (member_list draft.now.disks.items))) (B.state bay.old)
+        (B.state bay.new) }
+    ensures register { IfOk result (λ register. register
+        ≡ first_register draft.now.status (member_list draft.now.disks.items)) }
     ensures ready { IfOk result (λ register. IsRegisterReady register (B.state bay.new)) }
 {
     match Register::first(bay, &draft.status, &lists.members) {
@@ -156,7 +166,8 @@ fn give_rest<B: Bay>(
     requires lists { AreLists draft.now lists.now }
     requires disks { AreDisks draft.now.disks.items (B.state bay.old) }
     ensures works { Works draft.now.disks.items (B.state bay.old) (B.state bay.new) }
-    ensures cause { IfErr result (FormCause draft.now.disks.items (B.state bay.old) (B.state bay.new)) }
+    ensures cause { IfErr result (FormCause draft.now.disks.items (B.state bay.old)
+        (B.state bay.new)) }
     ensures formed { IfOk result (λ formed. IsFormed draft.now formed (B.state bay.new)) }
 {
     let store = match give_directories(alloc, bay, draft, lists) {
@@ -183,7 +194,8 @@ fn give_parts<B: Bay>(
     requires lists { AreLists draft.now lists.now }
     requires disks { AreDisks draft.now.disks.items (B.state bay.old) }
     ensures works { Works draft.now.disks.items (B.state bay.old) (B.state bay.new) }
-    ensures cause { IfErr result (FormCause draft.now.disks.items (B.state bay.old) (B.state bay.new)) }
+    ensures cause { IfErr result (FormCause draft.now.disks.items (B.state bay.old)
+        (B.state bay.new)) }
     ensures formed { IfOk result (λ formed. IsFormed draft.now formed (B.state bay.new)) }
 {
     match give_headers(bay, &draft.disks, draft.shape) {
@@ -222,7 +234,8 @@ pub fn form<B: Bay>(alloc: Global, bay: &mut B, ready: &Ready) -> Result<Formed,
     requires disks { AreDisks ready.now.draft.disks.items (B.state bay.old) }
     ensures works { Works ready.now.draft.disks.items (B.state bay.old) (B.state bay.new) }
     ensures formed { IfOk result (λ formed. IsFormed ready.now.draft formed (B.state bay.new)) }
-    ensures cause { IfErr result (λ refusal. IsFormRefusal ready.now.draft.disks.items (meaning_of (λ _. []) refusal) (B.state bay.old) (B.state bay.new)) }
+    ensures cause { IfErr result (λ refusal. IsFormRefusal ready.now.draft.disks.items
+        (meaning_of (λ _. []) refusal) (B.state bay.old) (B.state bay.new)) }
 {
     match give_parts(alloc, bay, &ready.draft, &ready.lists) {
         Ok(formed) => Ok(formed),

@@ -38,7 +38,8 @@ fn mounted_of<B: Bay>(bay: &B, draft: Draft, formed: Formed, catalog: Catalog) -
     requires reached { Reaches formed.register.members formed.register.value }
     requires catalog { IsCatalogOf formed.store.table.records draft.status.entries catalog }
     requires shape { catalog.shape ≡ draft.shape }
-    ensures made { result ≡ group_of_parts draft.name catalog formed.store formed.register (by_number (disk_list draft.disks.items)) }
+    ensures made { result ≡ group_of_parts draft.name catalog formed.store formed.register
+        (by_number (disk_list draft.disks.items)) }
     ensures whole { IsWhole result }
 {
     let _bay = bay;

@@ -105,9 +105,13 @@ fn put_places(
     places: &mut Vec<Place>,
 ) -> Result<(), Refusal>
     requires few { length paths.now ≤ 512 }
-    ensures places { OnOk result (places.new.items ≡ places.old.items ++ places_at (map string_bytes paths.now) looked.now disks.now) }
-    ensures all { OnOk result (first_refused (missing_refusal (map string_bytes paths.now) looked.now) disks.now ≡ None) }
-    ensures refused { IfErr result (λ refusal. IsThisRefusal (first_refused (missing_refusal (map string_bytes paths.now) looked.now) disks.now) (meaning_of (λ _. []) refusal)) }
+    ensures places { OnOk result (places.new.items
+        ≡ places.old.items ++ places_at (map string_bytes paths.now) looked.now disks.now) }
+    ensures all { OnOk result (first_refused
+        (missing_refusal (map string_bytes paths.now) looked.now) disks.now ≡ None) }
+    ensures refused { IfErr result (λ refusal. IsThisRefusal
+        (first_refused (missing_refusal (map string_bytes paths.now) looked.now) disks.now)
+        (meaning_of (λ _. []) refusal)) }
 {
     let [disk, rest @ ..] = disks else {
         return Ok(());
@@ -130,9 +134,13 @@ pub fn find_places(
     disks: &[PlannedDisk],
 ) -> Result<Vec<Place>, Refusal>
     requires few { length paths.now ≤ 512 }
-    ensures places { IfOk result (λ places. places.items ≡ places_at (map string_bytes paths.now) looked.now disks.now) }
-    ensures all { OnOk result (first_refused (missing_refusal (map string_bytes paths.now) looked.now) disks.now ≡ None) }
-    ensures refused { IfErr result (λ refusal. IsThisRefusal (first_refused (missing_refusal (map string_bytes paths.now) looked.now) disks.now) (meaning_of (λ _. []) refusal)) }
+    ensures places { IfOk result (λ places. places.items
+        ≡ places_at (map string_bytes paths.now) looked.now disks.now) }
+    ensures all { OnOk result (first_refused
+        (missing_refusal (map string_bytes paths.now) looked.now) disks.now ≡ None) }
+    ensures refused { IfErr result (λ refusal. IsThisRefusal
+        (first_refused (missing_refusal (map string_bytes paths.now) looked.now) disks.now)
+        (meaning_of (λ _. []) refusal)) }
 {
     let mut places = Vec::new(alloc);
     match put_places(alloc, paths, looked, disks, &mut places) {
@@ -192,8 +200,11 @@ fn check_free(
     terms: Terms,
     place: Place,
 ) -> Result<(), Refusal>
-    ensures free { OnOk result (taken_refusal known.now (creation_disk disk.now terms place) ≡ None) }
-    ensures refused { IfErr result (λ refusal. IsThisRefusal (taken_refusal known.now (creation_disk disk.now terms place)) (meaning_of (λ _. []) refusal)) }
+    ensures free { OnOk result (taken_refusal known.now (creation_disk disk.now terms place)
+        ≡ None) }
+    ensures refused { IfErr result (λ refusal. IsThisRefusal
+        (taken_refusal known.now (creation_disk disk.now terms place))
+        (meaning_of (λ _. []) refusal)) }
 {
     if is_unread(place.shown) {
         return Err(write_fault(alloc, &disk.name));
@@ -214,8 +225,11 @@ pub fn check_all_free(
     terms: &[Terms],
     places: &[Place],
 ) -> Result<(), Refusal>
-    ensures free { OnOk result (first_refused (taken_refusal known.now) (creation_disks disks.now terms.now places.now) ≡ None) }
-    ensures refused { IfErr result (λ refusal. IsThisRefusal (first_refused (taken_refusal known.now) (creation_disks disks.now terms.now places.now)) (meaning_of (λ _. []) refusal)) }
+    ensures free { OnOk result (first_refused (taken_refusal known.now)
+        (creation_disks disks.now terms.now places.now) ≡ None) }
+    ensures refused { IfErr result (λ refusal. IsThisRefusal
+        (first_refused (taken_refusal known.now) (creation_disks disks.now terms.now places.now))
+        (meaning_of (λ _. []) refusal)) }
 {
     let [disk, disks @ ..] = disks else {
         return Ok(());

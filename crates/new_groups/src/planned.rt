@@ -138,7 +138,8 @@ fn put_disks(
     planned: &mut Vec<PlannedDisk>,
 ) -> Result<(), NoMemory>
     requires few { number + length disks.now < 2 ^ 64 }
-    ensures { OnOk result (planned.new.items ≡ planned.old.items ++ planned_in group.now number failgroup.now disks.now) }
+    ensures { OnOk result (planned.new.items
+        ≡ planned.old.items ++ planned_in group.now number failgroup.now disks.now) }
 {
     let [first, rest @ ..] = disks else {
         return Ok(());
@@ -157,7 +158,8 @@ fn put_groups(
     planned: &mut Vec<PlannedDisk>,
 ) -> Result<(), NoMemory>
     requires few { number + disk_count groups.now < 2 ^ 64 }
-    ensures { OnOk result (planned.new.items ≡ planned.old.items ++ planned_after group.now number groups.now) }
+    ensures { OnOk result (planned.new.items
+        ≡ planned.old.items ++ planned_after group.now number groups.now) }
 {
     let [first, rest @ ..] = groups else {
         return Ok(());
@@ -206,7 +208,8 @@ pub fn disks_within(groups: &[NewFailgroup], most: usize) -> bool
 
 fn all_planned(alloc: Global, group: &Name, groups: &[NewFailgroup]) -> Result<Planned, NoMemory>
     requires few { disk_count groups.now ≤ 64 }
-    ensures disks { IfOk result (λ planned. planned.disks.items ≡ planned_after group.now 0 groups.now) }
+    ensures disks { IfOk result (λ planned. planned.disks.items
+        ≡ planned_after group.now 0 groups.now) }
     ensures terms { IfOk result (λ planned. planned.terms.items ≡ terms_of groups.now) }
 {
     let mut disks = Vec::new(alloc);
@@ -222,9 +225,11 @@ pub fn planned_disks(
     group: &Name,
     groups: &[NewFailgroup],
 ) -> Result<Planned, Refusal>
-    ensures planned { IfOk result (λ planned. planned.disks.items ≡ planned_after group.now 0 groups.now) }
+    ensures planned { IfOk result (λ planned. planned.disks.items
+        ≡ planned_after group.now 0 groups.now) }
     ensures terms { IfOk result (λ planned. planned.terms.items ≡ terms_of groups.now) }
-    ensures refused { IfErr result (λ refusal. IsTooMany groups.now (meaning_of (λ _. []) refusal)) }
+    ensures refused { IfErr result (λ refusal. IsTooMany groups.now
+        (meaning_of (λ _. []) refusal)) }
 {
     if !disks_within(groups, MOST_DISKS as usize) {
         return Err(Refusal::TooMany {

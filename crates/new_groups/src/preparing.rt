@@ -50,7 +50,8 @@ fn next_id(floor: u64, ids: &[u64]) -> u64
 /// Whether names, paths and failure groups don't clash.
 fn check_names(disks: &[PlannedDisk]) -> Result<(), Refusal>
     ensures none { OnOk result (clash_refusal disks.now ≡ None) }
-    ensures refused { IfErr result (λ refusal. IsThisRefusal (clash_refusal disks.now) (meaning_of (λ _. []) refusal)) }
+    ensures refused { IfErr result (λ refusal. IsThisRefusal (clash_refusal disks.now)
+        (meaning_of (λ _. []) refusal)) }
 {
     if is_name_taken(&[], disks) {
         Err(Refusal::NameTaken)
@@ -62,7 +63,8 @@ fn check_names(disks: &[PlannedDisk]) -> Result<(), Refusal>
 /// Whether there are as many regular failure groups as the kind needs.
 fn check_groups(kind: GroupKind, disks: &[PlannedDisk]) -> Result<(), Refusal>
     ensures none { OnOk result (groups_refusal kind disks.now ≡ None) }
-    ensures refused { IfErr result (λ refusal. IsThisRefusal (groups_refusal kind disks.now) (meaning_of (λ _. []) refusal)) }
+    ensures refused { IfErr result (λ refusal. IsThisRefusal (groups_refusal kind disks.now)
+        (meaning_of (λ _. []) refusal)) }
 {
     let need = needed_groups(kind);
     let have = regular_groups(disks);
@@ -85,9 +87,14 @@ fn free_places(
     planned: &Planned,
 ) -> Result<Vec<Place>, Refusal>
     requires few { length paths.now ≤ 512 }
-    ensures places { IfOk result (λ places. places.items ≡ places_at (map string_bytes paths.now) looked.now planned.now.disks.items) }
-    ensures none { OnOk result (first_refusal (image_refusals known.now (map string_bytes paths.now) looked.now planned.now.disks.items planned.now.terms.items) ≡ None) }
-    ensures refused { IfErr result (λ refusal. IsThisRefusal (first_refusal (image_refusals known.now (map string_bytes paths.now) looked.now planned.now.disks.items planned.now.terms.items)) (meaning_of (λ _. []) refusal)) }
+    ensures places { IfOk result (λ places. places.items
+        ≡ places_at (map string_bytes paths.now) looked.now planned.now.disks.items) }
+    ensures none { OnOk result (first_refusal
+        (image_refusals known.now (map string_bytes paths.now) looked.now planned.now.disks.items
+        planned.now.terms.items) ≡ None) }
+    ensures refused { IfErr result (λ refusal. IsThisRefusal
+        (first_refusal (image_refusals known.now (map string_bytes paths.now) looked.now
+        planned.now.disks.items planned.now.terms.items)) (meaning_of (λ _. []) refusal)) }
 {
     let places = match find_places(alloc, paths, looked, &planned.disks) {
         Ok(places) => places,
@@ -107,7 +114,9 @@ fn right_units(
     places: &[Place],
 ) -> Result<Vec<u32>, Refusal>
     requires shape { IsTrue (is_shape shape.now) }
-    ensures refused { IfErr result (λ refusal. IsThisRefusal (first_refusal (shape_refusals shape.now planned.now.disks.items planned.now.terms.items places.now)) (meaning_of (λ _. []) refusal)) }
+    ensures refused { IfErr result (λ refusal. IsThisRefusal
+        (first_refusal (shape_refusals shape.now planned.now.disks.items planned.now.terms.items
+        places.now)) (meaning_of (λ _. []) refusal)) }
 {
     match check_names(&planned.disks) {
         Ok(()) => {}
@@ -175,7 +184,9 @@ fn planned_group(
     requires few { length paths.now ≤ 512 }
     requires shape { IsTrue (is_shape creation.now.shape) }
     ensures prepared { IfOk result (IsPrepared looked.now known.now.held.items asked.now.name id) }
-    ensures refused { IfErr result (λ refusal. IsThisRefusal (look_refusal known.now creation.now.shape (map string_bytes paths.now) looked.now planned.now.disks.items planned.now.terms.items) (meaning_of (λ _. []) refusal)) }
+    ensures refused { IfErr result (λ refusal. IsThisRefusal
+        (look_refusal known.now creation.now.shape (map string_bytes paths.now) looked.now
+        planned.now.disks.items planned.now.terms.items) (meaning_of (λ _. []) refusal)) }
 {
     let places = match free_places(alloc, paths, known, looked, planned) {
         Ok(places) => places,
@@ -208,9 +219,11 @@ fn look<B: Bay>(
     ids: &mut Vec<u64>,
 ) -> Result<Vec<Looked>, NoMemory>
     requires few { length paths.now ≤ 512 }
-    ensures looks { Looks (λ slot. slot < length paths.now) (4 * length paths.now) (B.state bay.old) (B.state bay.new) }
+    ensures looks { Looks (λ slot. slot < length paths.now) (4 * length paths.now) (B.state bay.old)
+        (B.state bay.new) }
     ensures count { IfOk result (λ found. length found.items ≡ length paths.now) }
-    ensures each { IfOk result (λ found. AreLooked found.items (B.state bay.old) (B.state bay.new)) }
+    ensures each { IfOk result (λ found. AreLooked found.items (B.state bay.old)
+        (B.state bay.new)) }
 {
     let looked = look_at_images(alloc, bay, paths)?;
     put_ids(&looked, ids)?;
@@ -228,14 +241,18 @@ pub fn prepare<B: Bay>(
     ids: &mut Vec<u64>,
 ) -> Result<Ready, Refusal>
     requires few { length paths.now ≤ 512 }
-    ensures looks { Looks (λ slot. slot < length paths.now) (4 * length paths.now) (B.state bay.old) (B.state bay.new) }
+    ensures looks { Looks (λ slot. slot < length paths.now) (4 * length paths.now) (B.state bay.old)
+        (B.state bay.new) }
     ensures name { IfOk result (λ ready. ready.draft.name ≡ asked.now.name) }
     ensures agrees { IfOk result (λ ready. HasAgreeingParts ready.draft) }
     ensures lists { IfOk result (λ ready. AreLists ready.draft ready.lists) }
-    ensures free { IfOk result (λ ready. AreFreeDisks (length paths.now) known.now.held.items ready.draft.disks.items (B.state bay.new)) }
+    ensures free { IfOk result (λ ready. AreFreeDisks (length paths.now) known.now.held.items
+        ready.draft.disks.items (B.state bay.new)) }
     ensures floor { IfOk result (λ ready. known.now.floor ≤ ready.draft.status.id) }
-    ensures above { IfOk result (λ ready. ready.draft.status.id < last_count → All (λ other. other < ready.draft.status.id) ids.new.items) }
-    ensures cause { IfErr result (λ refusal. IsPrepareRefusal (map string_bytes paths.now) asked.now known.now (meaning_of (λ _. []) refusal) (B.state bay.old) (B.state bay.new)) }
+    ensures above { IfOk result (λ ready. ready.draft.status.id < last_count
+        → All (λ other. other < ready.draft.status.id) ids.new.items) }
+    ensures cause { IfErr result (λ refusal. IsPrepareRefusal (map string_bytes paths.now) asked.now
+        known.now (meaning_of (λ _. []) refusal) (B.state bay.old) (B.state bay.new)) }
 {
     let creation = match creation_of(alloc, asked.kind, asked.attributes.as_slice()) {
         Ok(creation) => creation,

@@ -34,8 +34,11 @@ fn units_for(
     place: Place,
 ) -> Result<u32, Refusal>
     requires shape { IsTrue (is_shape shape.now) }
-    ensures fit { OnOk result (small_refusal shape.now (creation_disk disk.now terms place) ≡ None) }
-    ensures refused { IfErr result (λ refusal. IsThisRefusal (small_refusal shape.now (creation_disk disk.now terms place)) (meaning_of (λ _. []) refusal)) }
+    ensures fit { OnOk result (small_refusal shape.now (creation_disk disk.now terms place)
+        ≡ None) }
+    ensures refused { IfErr result (λ refusal. IsThisRefusal
+        (small_refusal shape.now (creation_disk disk.now terms place))
+        (meaning_of (λ _. []) refusal)) }
 {
     let units = units_asked(shape, terms.size, place.size);
     if units_in(shape, place.size) < units {
@@ -58,8 +61,11 @@ pub fn all_units(
     units: &mut Vec<u32>,
 ) -> Result<(), Refusal>
     requires shape { IsTrue (is_shape shape.now) }
-    ensures fit { OnOk result (first_refused (small_refusal shape.now) (creation_disks disks.now terms.now places.now) ≡ None) }
-    ensures refused { IfErr result (λ refusal. IsThisRefusal (first_refused (small_refusal shape.now) (creation_disks disks.now terms.now places.now)) (meaning_of (λ _. []) refusal)) }
+    ensures fit { OnOk result (first_refused (small_refusal shape.now)
+        (creation_disks disks.now terms.now places.now) ≡ None) }
+    ensures refused { IfErr result (λ refusal. IsThisRefusal
+        (first_refused (small_refusal shape.now) (creation_disks disks.now terms.now places.now))
+        (meaning_of (λ _. []) refusal)) }
 {
     let [disk, disks @ ..] = disks else {
         return Ok(());

@@ -18,7 +18,9 @@ impl OperationTable {
     #[tactic(auto, using(crate::proofs::ChangeLaws::operation_put, crate::proofs::ChangeLaws::operation_table))]
     pub fn put_record(&mut self, key: Key, value: &Value) -> bool
         requires { key.kind ≡ operations_kind }
-        ensures put { OnTrue result ((k : FormatKey) → k.kind ≡ operations_kind → operation_value_at self.new k ≡ (if is_same_key key k then Some value.now else operation_value_at self.old k)) }
+        ensures put { OnTrue result ((k : FormatKey) → k.kind ≡ operations_kind
+            → operation_value_at self.new k
+            ≡ (if is_same_key key k then Some value.now else operation_value_at self.old k)) }
         ensures refused { OnFalse result (entry_of_record operation_of (key, value.now) ≡ None) }
         ensures stays { OnFalse result (self.new ≡ self.old) }
         ensures table { IsOperationTable self.old → IsOperationTable self.new }
@@ -43,7 +45,9 @@ impl OperationTable {
     #[tactic(auto, using(crate::proofs::ChangeLaws::rebalance_gone, crate::proofs::ChangeLaws::pending_gone, crate::proofs::ChangeLaws::other_gone, crate::proofs::ChangeLaws::no_rebalance, crate::proofs::ChangeLaws::no_pending))]
     pub fn remove_record(&mut self, key: Key)
         requires { key.kind ≡ operations_kind }
-        ensures gone { (k : FormatKey) → k.kind ≡ operations_kind → operation_value_at self.new k ≡ (if is_same_key key k then None else operation_value_at self.old k) }
+        ensures gone { (k : FormatKey) → k.kind ≡ operations_kind
+            → operation_value_at self.new k
+            ≡ (if is_same_key key k then None else operation_value_at self.old k) }
         ensures table { IsOperationTable self.old → IsOperationTable self.new }
     {
         if key.b != 0 {

@@ -68,7 +68,8 @@ impl OperationTable {
 
     /// Puts the table's records into a change. After an `Err` some of them may stand there.
     pub fn to_records(&self, alloc: Global, change: &mut Change) -> Result<(), NoMemory>
-        ensures put { OnOk result (change.new.put ≡ change.old.put ++ records_of_operations self.now) }
+        ensures put { OnOk result (change.new.put
+            ≡ change.old.put ++ records_of_operations self.now) }
         ensures gone { change.new.gone ≡ change.old.gone }
     {
         if let Some(power) = self.rebalance {
@@ -83,9 +84,12 @@ impl OperationTable {
     /// The table whose records these are, or None where a record of its kind isn't of the formats. It takes no memory.
     pub fn from_records(records: &Records) -> Result<Option<OperationTable>, NoMemory>
         // What is read is a table that has these records.
-        ensures found { IfOk result (λ read. IfSome read (λ t. IsOperationTable t × (of_kinds is_operation records.now ≡ records_of_operations t))) }
+        ensures found { IfOk result (λ read. IfSome read
+            (λ t. IsOperationTable t × (of_kinds is_operation records.now
+            ≡ records_of_operations t))) }
         // A table that has these records is read.
-        ensures only { IfOk result (λ read. (t : Operations) → IsOperationTable t → of_kinds is_operation records.now ≡ records_of_operations t → read ≡ Some t) }
+        ensures only { IfOk result (λ read. (t : Operations) → IsOperationTable t
+            → of_kinds is_operation records.now ≡ records_of_operations t → read ≡ Some t) }
         ensures ok { IsOk result }
     {
         Ok(OperationTable::read(records))

@@ -77,7 +77,8 @@ fn new_keys(
 ) -> Result<(), NoMemory>
     requires empty { keys.old.entries ≡ [] }
     ensures count { OnOk result (length keys.new.entries ≡ new_in map.now put.now) }
-    ensures keys { OnOk result ((k : FormatKey) → is_some (lookup (is_key k) keys.new.entries) ≡ (is_new map.now k && is_put put.now k)) }
+    ensures keys { OnOk result ((k : FormatKey)
+        → is_some (lookup (is_key k) keys.new.entries) ≡ (is_new map.now k && is_put put.now k)) }
 {
     let [first, rest @ ..] = put else {
         return Ok(());
@@ -161,9 +162,11 @@ pub(crate) fn put_block(
     page: u32,
     block: Block,
 ) -> Result<(), NoMemory>
-    ensures blocks { OnOk result ((p : ℕ) → block_at pages.new.entries p ≡ (if p == page then Some block.bytes else block_at pages.old.entries p)) }
+    ensures blocks { OnOk result ((p : ℕ) → block_at pages.new.entries p
+        ≡ (if p == page then Some block.bytes else block_at pages.old.entries p)) }
     ensures count { OnOk result (length pages.new.entries ≤ length pages.old.entries + 1) }
-    ensures more { OnOk result (block_at pages.old.entries page ≡ None → length pages.new.entries ≡ length pages.old.entries + 1) }
+    ensures more { OnOk result (block_at pages.old.entries page ≡ None
+        → length pages.new.entries ≡ length pages.old.entries + 1) }
 {
     match pages.insert(page, block) {
         Ok(_) => Ok(()),
@@ -192,7 +195,8 @@ pub(crate) fn listed(
     pages: BTreeMap<u32, Block>,
 ) -> Result<Vec<(u32, Block)>, NoMemory>
     ensures pages { IfOk result (λ list. list.items ≡ pages.entries) }
-    ensures ascend { IfOk result (λ list. IsStrictlySortedBy nat_cmp (map_list page_number list.items)) }
+    ensures ascend { IfOk result (λ list. IsStrictlySortedBy nat_cmp
+        (map_list page_number list.items)) }
 {
     // `len` says that the pages ascend.
     let _ = pages.len();
@@ -234,7 +238,8 @@ fn add_new(
 
 /// Gives the keys of these records, which are all there, their values. Of two with one key the later counts.
 fn set_all(map: &mut PageMap, values: &mut Vec<(Key, Value)>)
-    requires there { (k : FormatKey) → is_put values.old.items k ≡ true → is_some (place_at map.old.places k) ≡ true }
+    requires there { (k : FormatKey) → is_put values.old.items k ≡ true
+        → is_some (place_at map.old.places k) ≡ true }
     ensures { SetsAll map.old map.new values.old.items }
 {
     let Some(last) = values.pop() else {

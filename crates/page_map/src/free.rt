@@ -44,7 +44,9 @@ impl FreePages {
     /// Takes the least free page. None, with nothing changed, where none is free.
     pub fn take(&mut self) -> Option<u32>
         ensures least { IfSome result (IsLeastFreePage self.old) }
-        ensures taken { IfSome result (λ p. (page : ℕ) → is_page_free self.new page ≡ (if page == p then false else is_page_free self.old page)) }
+        ensures taken { IfSome result (λ p. (page : ℕ)
+            → is_page_free self.new page
+            ≡ (if page == p then false else is_page_free self.old page)) }
         ensures count { self.new.units ≡ self.old.units }
         ensures none { IfNone result (self.new ≡ self.old) }
     {
@@ -54,7 +56,8 @@ impl FreePages {
     /// Takes a page that is free.
     pub fn mark(&mut self, page: u32)
         requires { is_page_free self.old page ≡ true }
-        ensures taken { (k : ℕ) → is_page_free self.new k ≡ (if k == page then false else is_page_free self.old k) }
+        ensures taken { (k : ℕ) → is_page_free self.new k
+            ≡ (if k == page then false else is_page_free self.old k) }
         ensures count { self.new.units ≡ self.old.units }
     {
         self.units.mark(page, 1);
@@ -64,7 +67,8 @@ impl FreePages {
     pub fn give(&mut self, page: u32)
         requires inside { page < self.old.units }
         requires taken { is_page_free self.old page ≡ false }
-        ensures given { (k : ℕ) → is_page_free self.new k ≡ (if k == page then true else is_page_free self.old k) }
+        ensures given { (k : ℕ) → is_page_free self.new k
+            ≡ (if k == page then true else is_page_free self.old k) }
         ensures count { self.new.units ≡ self.old.units }
     {
         self.units.give(page, 1);

@@ -44,7 +44,8 @@ impl PageMap {
     pub fn new(alloc: Global, pages: u32) -> Result<PageMap, NoMemory>
         requires { pages ≤ 16384 }
         ensures records { IfOk result (λ m. (k : FormatKey) → record_at m.records k ≡ None) }
-        ensures free { IfOk result (λ m. (page : ℕ) → page < pages → is_page_free m.free page ≡ true) }
+        ensures free { IfOk result (λ m. (page : ℕ) → page < pages
+            → is_page_free m.free page ≡ true) }
         ensures count { IfOk result (λ m. m.free.units ≡ pages) }
     {
         let free = FreePages::new(alloc, pages)?;
@@ -127,7 +128,8 @@ impl PageMap {
     /// Gives a key that is there another value.
     pub(crate) fn set(&mut self, key: Key, value: Value)
         requires there { is_some (place_at self.old.places key) ≡ true }
-        ensures records { (k : FormatKey) → record_at self.new.records k ≡ (if is_key key k then Some value else record_at self.old.records k) }
+        ensures records { (k : FormatKey) → record_at self.new.records k
+            ≡ (if is_key key k then Some value else record_at self.old.records k) }
         ensures places { self.new.places ≡ self.old.places }
         ensures free { self.new.free ≡ self.old.free }
     {
@@ -157,12 +159,19 @@ fn insert_both(
     page: u32,
     value: Value,
 ) -> Result<(), NoMemory>
-    ensures record { OnOk result ((k : FormatKey) → record_at records.new k ≡ (if is_key key k then Some value else record_at records.old k)) }
-    ensures place { OnOk result ((k : FormatKey) → place_at places.new.entries k ≡ (if is_key key k then Some page else place_at places.old.entries k)) }
-    ensures count { OnOk result (place_at places.old.entries key ≡ None → length places.new.entries ≡ length places.old.entries + 1) }
+    ensures record { OnOk result ((k : FormatKey)
+        → record_at records.new k ≡ (if is_key key k then Some value
+        else record_at records.old k)) }
+    ensures place { OnOk result ((k : FormatKey)
+        → place_at places.new.entries k
+        ≡ (if is_key key k then Some page else place_at places.old.entries k)) }
+    ensures count { OnOk result (place_at places.old.entries key ≡ None
+        → length places.new.entries ≡ length places.old.entries + 1) }
     ensures records { OnErr result (records.new ≡ records.old) }
-    ensures places { OnErr result (place_at places.old.entries key ≡ None → (k : FormatKey) → place_at places.new.entries k ≡ place_at places.old.entries k) }
-    ensures length { OnErr result (place_at places.old.entries key ≡ None → length places.new.entries ≡ length places.old.entries) }
+    ensures places { OnErr result (place_at places.old.entries key ≡ None → (k : FormatKey)
+        → place_at places.new.entries k ≡ place_at places.old.entries k) }
+    ensures length { OnErr result (place_at places.old.entries key ≡ None
+        → length places.new.entries ≡ length places.old.entries) }
 {
     let Ok(_) = places.insert(key, page) else {
         return Err(NoMemory);

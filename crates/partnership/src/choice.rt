@@ -59,7 +59,8 @@ impl Choice {
 pub fn in_rounds(quorum: &[PstEntry], regular: &[PstEntry], rounds: usize, count: usize) -> Choice
     requires quorum_numbers { FitInSet quorum.now }
     requires numbers { FitInSet regular.now }
-    ensures { result ≡ fold with_disk (none_of count) (in_rounds rounds (by_group quorum.now ++ by_group regular.now)) }
+    ensures { result ≡ fold with_disk (none_of count)
+        (in_rounds rounds (by_group quorum.now ++ by_group regular.now)) }
 {
     let mut choice = Choice::none_of(count);
     for k in 0..rounds {

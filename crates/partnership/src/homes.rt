@@ -24,7 +24,8 @@ pub fn choose_homes(disks: &[PstEntry], units: &[Units], copies: u8, n: u32) -> 
     requires { 0 < n }
     ensures chosen { result ≡ chosen_homes (candidates n disks.now units.now) copies }
     // Where the units are those of a group's records, the homes are those of their placement.
-    ensures placement { (s : Shape) (items : List Item) → AreUnitsOf s items disks.now units.now → result ≡ option_map three (homes_for s items disks.now copies n) }
+    ensures placement { (s : Shape) (items : List Item) → AreUnitsOf s items disks.now units.now
+        → result ≡ option_map three (homes_for s items disks.now copies n) }
 {
     chosen_homes(disks, &Room::of(units, n), copies)
 }
@@ -46,7 +47,9 @@ fn chosen_homes(disks: &[PstEntry], room: &Room, copies: u8) -> Option<Homes>
 /// The disk of the first copy.
 #[tactic(auto, using(crate::proofs::Turns::tried_from, crate::proofs::Turns::tried_start))]
 fn first_disk(disks: &[PstEntry], room: &Room, copies: u8) -> Option<Candidate>
-    ensures { result ≡ candidate_tried_first (among (may_be_first_candidate (candidates room.now.n disks.now room.now.maps) copies) (candidates room.now.n disks.now room.now.maps)) }
+    ensures { result ≡ candidate_tried_first
+        (among (may_be_first_candidate (candidates room.now.n disks.now room.now.maps) copies)
+        (candidates room.now.n disks.now room.now.maps)) }
 {
     let mut best = None;
     for i in (0..disks.len()).rev() {
@@ -64,7 +67,8 @@ fn first_candidate(
     copies: u8,
     disk: &PstEntry,
 ) -> Option<Candidate>
-    ensures { result ≡ candidate_if (may_be_first_candidate (candidates room.now.n disks.now room.now.maps) copies) room.now.n disk.now room.now.maps }
+    ensures { result ≡ candidate_if (may_be_first_candidate
+        (candidates room.now.n disks.now room.now.maps) copies) room.now.n disk.now room.now.maps }
 {
     let found = room.candidate(disk)?;
     if may_be_first(disks, room, copies, disk.partners) {
@@ -76,7 +80,8 @@ fn first_candidate(
 
 /// Whether the partners that may take copies lie in failure groups enough for the other copies.
 fn may_be_first(disks: &[PstEntry], room: &Room, copies: u8, partners: DiskSet) -> bool
-    ensures { result ≡ nat_le copies (group_count (among (is_disk_in_set partners) (candidates room.now.n disks.now room.now.maps)) + 1) }
+    ensures { result ≡ nat_le copies (group_count
+        (among (is_disk_in_set partners) (candidates room.now.n disks.now room.now.maps)) + 1) }
 {
     copies as usize <= group_count(disks, room, partners) + 1
 }
@@ -84,7 +89,8 @@ fn may_be_first(disks: &[PstEntry], room: &Room, copies: u8, partners: DiskSet) 
 /// In how many failure groups those of a set lie that may take copies.
 #[tactic(auto, using(crate::proofs::Groups::count_from, crate::proofs::Groups::count_start))]
 fn group_count(disks: &[PstEntry], room: &Room, set: DiskSet) -> usize
-    ensures count { result ≡ group_count (among (is_disk_in_set set) (candidates room.now.n disks.now room.now.maps)) }
+    ensures count { result ≡ group_count (among (is_disk_in_set set)
+        (candidates room.now.n disks.now room.now.maps)) }
     ensures few { result ≤ length disks.now }
 {
     let mut count = 0;
@@ -111,7 +117,8 @@ fn member(set: DiskSet, disk: &PstEntry, room: &Room) -> Option<Candidate>
 
 /// Whether the disk is there, and lies in a failure group in which none of the others lies.
 fn is_new_group(disks: &[PstEntry], room: &Room, set: DiskSet, next: Option<Candidate>) -> bool
-    ensures { result ≡ is_new_group (among (is_disk_in_set set) (candidates room.now.n disks.now room.now.maps)) next }
+    ensures { result ≡ is_new_group (among (is_disk_in_set set)
+        (candidates room.now.n disks.now room.now.maps)) next }
 {
     match next {
         Some(disk) => !has_member_in(disks, room, set, disk.disk.failgroup),
@@ -122,7 +129,8 @@ fn is_new_group(disks: &[PstEntry], room: &Room, set: DiskSet, next: Option<Cand
 /// Whether one of the set that may take a copy lies in the failure group.
 #[tactic(auto, using(crate::proofs::Groups::any_from, crate::proofs::Groups::any_end))]
 fn has_member_in(disks: &[PstEntry], room: &Room, set: DiskSet, failgroup: u8) -> bool
-    ensures { result ≡ list_any (is_candidate_of_failgroup failgroup) (among (is_disk_in_set set) (candidates room.now.n disks.now room.now.maps)) }
+    ensures { result ≡ list_any (is_candidate_of_failgroup failgroup)
+        (among (is_disk_in_set set) (candidates room.now.n disks.now room.now.maps)) }
 {
     for i in 0..disks.len() {
         if is_member_in(set, failgroup, &disks[i], room) {
@@ -134,7 +142,8 @@ fn has_member_in(disks: &[PstEntry], room: &Room, set: DiskSet, failgroup: u8) -
 
 #[tactic(auto, using(crate::proofs::Groups::one_of_disk))]
 fn is_member_in(set: DiskSet, failgroup: u8, disk: &PstEntry, room: &Room) -> bool
-    ensures { result ≡ has_candidate_of_failgroup failgroup (candidate_if (is_disk_in_set set) room.now.n disk.now room.now.maps) }
+    ensures { result ≡ has_candidate_of_failgroup failgroup
+        (candidate_if (is_disk_in_set set) room.now.n disk.now room.now.maps) }
 {
     disk.failgroup == failgroup && member(set, disk, room).is_some()
 }
@@ -142,7 +151,8 @@ fn is_member_in(set: DiskSet, failgroup: u8, disk: &PstEntry, room: &Room) -> bo
 /// The disk of the second copy, where there is one.
 #[tactic(auto, unfolding(crate::specs::Steps::second_of))]
 fn second_disk(disks: &[PstEntry], room: &Room, copies: u8, first: &Candidate) -> Option<Candidate>
-    ensures { result ≡ second_of (among (is_disk_in_set first.now.entry.partners) (candidates room.now.n disks.now room.now.maps)) first.now.entry.failgroup copies }
+    ensures { result ≡ second_of (among (is_disk_in_set first.now.entry.partners)
+        (candidates room.now.n disks.now room.now.maps)) first.now.entry.failgroup copies }
 {
     if copies < 2 {
         return None;
@@ -160,7 +170,9 @@ fn third_disk(
     first: &Candidate,
     second: &Option<Candidate>,
 ) -> Option<Candidate>
-    ensures { result ≡ third_of (among (is_disk_in_set first.now.entry.partners) (candidates room.now.n disks.now room.now.maps)) first.now.entry.failgroup copies second.now }
+    ensures { result ≡ third_of (among (is_disk_in_set first.now.entry.partners)
+        (candidates room.now.n disks.now room.now.maps)) first.now.entry.failgroup copies
+        second.now }
 {
     if copies < 3 {
         return None;
@@ -173,7 +185,9 @@ fn third_disk(
 /// The first disk in order of a set that may take a copy and lies outside of the failure groups that are taken.
 #[tactic(auto, using(crate::proofs::Turns::tried_from, crate::proofs::Turns::tried_start, crate::proofs::Turns::both_tests))]
 fn next_disk(disks: &[PstEntry], room: &Room, set: DiskSet, taken: &[u8]) -> Option<Candidate>
-    ensures { result ≡ candidate_tried_first (among (is_outside taken.now) (among (is_disk_in_set set) (candidates room.now.n disks.now room.now.maps))) }
+    ensures { result ≡ candidate_tried_first
+        (among (is_outside taken.now)
+        (among (is_disk_in_set set) (candidates room.now.n disks.now room.now.maps))) }
 {
     let mut best = None;
     for i in (0..disks.len()).rev() {
@@ -185,7 +199,8 @@ fn next_disk(disks: &[PstEntry], room: &Room, set: DiskSet, taken: &[u8]) -> Opt
 
 #[tactic(auto, unfolding(crate::specs::Steps::candidate_if))]
 fn free_member(set: DiskSet, taken: &[u8], disk: &PstEntry, room: &Room) -> Option<Candidate>
-    ensures { result ≡ candidate_if (is_free_partner set taken.now) room.now.n disk.now room.now.maps }
+    ensures { result ≡ candidate_if (is_free_partner set taken.now) room.now.n disk.now
+        room.now.maps }
 {
     if set.has(disk.number) && !is_among(taken, disk.failgroup) {
         room.candidate(disk)

@@ -27,9 +27,11 @@ const MOST_PARTNERS: usize = 8;
 /// and lie in different failure groups are taken in ascending order, in two passes, as long as both disks have fewer
 /// than eight partners.
 pub fn partners(alloc: Global, disks: &[PstEntry]) -> Result<Vec<DiskSet>, NoMemory>
-    ensures sets { IfOk result (λ sets. sets.items ≡ map (λ (e : Entry). partner_set disks.now e.number) disks.now) }
+    ensures sets { IfOk result (λ sets. sets.items
+        ≡ map (λ (e : Entry). partner_set disks.now e.number) disks.now) }
     // Given to the entries by place, the sets are their partners.
-    ensures entries { IfOk result (λ sets. entries_with_partners disks.now sets.items ≡ with_partners disks.now) }
+    ensures entries { IfOk result (λ sets. entries_with_partners disks.now sets.items
+        ≡ with_partners disks.now) }
 {
     let table = partner_table(alloc, disks)?;
     partner_sets(alloc, &table, disks)
@@ -64,7 +66,8 @@ fn add_pairs_from(
     later: &[PstEntry],
     pass: Pass,
 ) -> Result<(), NoMemory>
-    ensures { OnOk result (fold (step pass) table.new (pairs (table_disks later.now)) ≡ fold (step pass) table.old (pairs (table_disks (disk.now ∷ later.now)))) }
+    ensures { OnOk result (fold (step pass) table.new (pairs (table_disks later.now))
+        ≡ fold (step pass) table.old (pairs (table_disks (disk.now ∷ later.now)))) }
 {
     if is_table_disk(disk) {
         add_pairs_of(table, disk, later, pass)
@@ -130,8 +133,10 @@ fn is_wanted(table: &Table, a: &PstEntry, b: &PstEntry, pass: Pass) -> bool
 #[tactic(auto, using(crate::proofs::Tables::set_is, crate::proofs::Tables::sets_more, crate::proofs::Tables::given))]
 fn partner_sets(alloc: Global, table: &Table, disks: &[PstEntry]) -> Result<Vec<DiskSet>, NoMemory>
     requires { table.now ≡ partners disks.now }
-    ensures sets { IfOk result (λ sets. sets.items ≡ map (λ (e : Entry). partner_set disks.now e.number) disks.now) }
-    ensures entries { IfOk result (λ sets. entries_with_partners disks.now sets.items ≡ with_partners disks.now) }
+    ensures sets { IfOk result (λ sets. sets.items
+        ≡ map (λ (e : Entry). partner_set disks.now e.number) disks.now) }
+    ensures entries { IfOk result (λ sets. entries_with_partners disks.now sets.items
+        ≡ with_partners disks.now) }
 {
     let mut sets = List::new(alloc);
     for disk in disks {

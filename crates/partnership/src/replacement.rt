@@ -21,7 +21,9 @@ use status_table::PstEntry;
 pub fn eligible(disks: &[PstEntry], kept: &[Home], holders: &[Home], d: u8) -> bool
     ensures value { result ≡ may_take_at disks.now kept.now holders.now (entry_of disks.now d) }
     // Where the homes are those of an extent of which one copy is to be replaced, the disk is eligible for that.
-    ensures placement { (replaced : ℕ) (homes : Homes) → AreHomesOf disks.now replaced homes kept.now holders.now → result ≡ is_eligible_at disks.now replaced homes (entry_of disks.now d) }
+    ensures placement { (replaced : ℕ) (homes : Homes)
+        → AreHomesOf disks.now replaced homes kept.now holders.now
+        → result ≡ is_eligible_at disks.now replaced homes (entry_of disks.now d) }
 {
     may_take_at(disks, kept, holders, d)
 }
@@ -46,9 +48,13 @@ pub fn choose_copy(
     n: u32,
 ) -> Option<Home>
     requires { 0 < n }
-    ensures chosen { result ≡ chosen_copy disks.now kept.now holders.now (candidates n disks.now units.now) }
+    ensures chosen { result ≡ chosen_copy disks.now kept.now holders.now
+        (candidates n disks.now units.now) }
     // Where the units are those of a group's records, and the homes those of an extent, the home takes a copy's place.
-    ensures placement { (s : Shape) (items : List Item) (replaced : ℕ) (homes : Homes) → AreUnitsOf s items disks.now units.now → AreHomesOf disks.now replaced homes kept.now holders.now → result ≡ replacement s disks.now items n replaced homes }
+    ensures placement { (s : Shape) (items : List Item) (replaced : ℕ) (homes : Homes)
+        → AreUnitsOf s items disks.now units.now
+        → AreHomesOf disks.now replaced homes kept.now holders.now
+        → result ≡ replacement s disks.now items n replaced homes }
 {
     chosen_copy_of(disks, units, kept, holders, &None, n)
 }
@@ -64,9 +70,13 @@ pub fn choose_copy_on(
     n: u32,
 ) -> Option<Home>
     requires { 0 < n }
-    ensures chosen { result ≡ chosen_copy_of (Some on) disks.now kept.now holders.now (candidates n disks.now units.now) }
+    ensures chosen { result ≡ chosen_copy_of (Some on) disks.now kept.now holders.now
+        (candidates n disks.now units.now) }
     // Where the units are those of a group's records, and the homes those of an extent, the home takes a copy's place.
-    ensures placement { (s : Shape) (items : List Item) (replaced : ℕ) (homes : Homes) → AreUnitsOf s items disks.now units.now → AreHomesOf disks.now replaced homes kept.now holders.now → result ≡ replacement_on (is_disk_in_set on) s disks.now items n replaced homes }
+    ensures placement { (s : Shape) (items : List Item) (replaced : ℕ) (homes : Homes)
+        → AreUnitsOf s items disks.now units.now
+        → AreHomesOf disks.now replaced homes kept.now holders.now
+        → result ≡ replacement_on (is_disk_in_set on) s disks.now items n replaced homes }
 {
     chosen_copy_of(disks, units, kept, holders, &Some(on), n)
 }
@@ -80,7 +90,8 @@ fn chosen_copy_of(
     n: u32,
 ) -> Option<Home>
     requires { 0 < n }
-    ensures { result ≡ chosen_copy_of on.now disks.now kept.now holders.now (candidates n disks.now units.now) }
+    ensures { result ≡ chosen_copy_of on.now disks.now kept.now holders.now
+        (candidates n disks.now units.now) }
 {
     home_of(first_eligible(disks, units, kept, holders, on, n))
 }
@@ -95,7 +106,9 @@ fn first_eligible(
     n: u32,
 ) -> Option<Candidate>
     requires { 0 < n }
-    ensures { result ≡ candidate_tried_first (among (may_take_of on.now disks.now kept.now holders.now) (candidates n disks.now units.now)) }
+    ensures { result ≡ candidate_tried_first
+        (among (may_take_of on.now disks.now kept.now holders.now)
+        (candidates n disks.now units.now)) }
 {
     let mut best = None;
     for i in (0..disks.len()).rev() {
@@ -116,7 +129,8 @@ fn eligible_candidate(
     n: u32,
 ) -> Option<Candidate>
     requires { 0 < n }
-    ensures { result ≡ candidate_if (may_take_of on.now disks.now kept.now holders.now) n disk.now units.now }
+    ensures { result ≡ candidate_if (may_take_of on.now disks.now kept.now holders.now) n disk.now
+        units.now }
 {
     if is_allowed(on, disk) && may_take(disks, kept, holders, disk) {
         candidate_on(disk, units, n)

@@ -27,8 +27,11 @@ pub fn choose_row(
     requires few { first + length row.old < 2 ^ 63 }
     ensures places { length row.new ≡ length row.old }
     ensures within { result ≤ length row.new }
-    ensures row { IsRow (record { entries = disks.now; copies = copies; step = step }) first units.old (take result row.new) units.new }
-    ensures no_space { result < length row.new → homes_for_extent (record { entries = disks.now; copies = copies; step = step }) units.new (first + result) ≡ None }
+    ensures row { IsRow (record { entries = disks.now; copies = copies; step = step }) first
+        units.old (take result row.new) units.new }
+    ensures no_space { result < length row.new → homes_for_extent
+        (record { entries = disks.now; copies = copies; step = step }) units.new (first + result)
+        ≡ None }
 {
     for place in 0..row.len() {
         match choose_next(disks, units, copies, units_of(step, first + place as u64)) {
@@ -70,7 +73,8 @@ fn use_three(
     n: u32,
 ) -> bool
     requires { 0 < n }
-    ensures { homes_used n units.old (first ∷ second ∷ third ∷ []) ≡ (if result then Some units.new else None) }
+    ensures { homes_used n units.old (first ∷ second ∷ third ∷ [])
+        ≡ (if result then Some units.new else None) }
 {
     if !use_home(units, first, n) {
         return false;

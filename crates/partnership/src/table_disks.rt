@@ -96,7 +96,9 @@ fn due_set(kind: GroupKind, status: &PstRecord) -> DiskSet
 
 /// Whether the tables are to move to the set that is due.
 fn is_move_due(status: &PstRecord, due: DiskSet) -> bool
-    ensures { result ≡ ((has_leaving status.now.entries status.now.holders || nat_lt (length (elements status.now.holders)) (length (elements due))) && nat_lt 0 (length (elements due))) }
+    ensures { result ≡ ((has_leaving status.now.entries status.now.holders
+        || nat_lt (length (elements status.now.holders)) (length (elements due)))
+        && nat_lt 0 (length (elements due))) }
 {
     let holders = status.holders;
     (has_leaving(status.entries(), holders) || holders.count() < due.count()) && due.count() > 0
@@ -151,7 +153,9 @@ pub fn directory_target(kind: GroupKind, status: &PstRecord) -> Option<u8>
 
 /// The least disk that may take a copy and lies in another failure group than each of the disks that hold one.
 fn first_outside(disks: &[PstEntry], holding: &[PstEntry]) -> Option<u8>
-    ensures { result ≡ option_map (λ (e : Entry). e.number) (find (λ (e : Entry). is_target e && not (is_among (distinct_failgroups holding.now) e.failgroup)) disks.now) }
+    ensures { result ≡ option_map (λ (e : Entry). e.number)
+        (find (λ (e : Entry). is_target e
+        && not (is_among (distinct_failgroups holding.now) e.failgroup)) disks.now) }
 {
     for disk in disks {
         if is_outside(disk, holding) {
@@ -163,7 +167,8 @@ fn first_outside(disks: &[PstEntry], holding: &[PstEntry]) -> Option<u8>
 
 #[tactic(auto, using(crate::proofs::FailureGroups::groups_any))]
 fn is_outside(disk: &PstEntry, holding: &[PstEntry]) -> bool
-    ensures { result ≡ (is_target disk.now && not (is_among (distinct_failgroups holding.now) disk.now.failgroup)) }
+    ensures { result ≡ (is_target disk.now
+        && not (is_among (distinct_failgroups holding.now) disk.now.failgroup)) }
 {
     Which::Targets.has(disk) && !has_group(holding, disk.failgroup)
 }

@@ -41,7 +41,8 @@ pub fn with_alias(head: &FileHead, alias: u32) -> Result<FileHead, NoMemory>
 
 /// The keys of a file's head and of the nodes of its names.
 pub fn keys_of_file(alloc: Global, file: u32, head: &FileHead) -> Result<List<Key>, NoMemory>
-    ensures { IfOk result (λ keys. keys ≡ file_key file ∷ node_key head.now.system ∷ (if head.now.alias == 0 then [] else node_key head.now.alias ∷ [])) }
+    ensures { IfOk result (λ keys. keys ≡ file_key file ∷ node_key head.now.system
+        ∷ (if head.now.alias == 0 then [] else node_key head.now.alias ∷ [])) }
 {
     let mut keys = List::new(alloc);
     keys.push(file_key(file))?;

@@ -62,7 +62,8 @@ pub fn system_path(
     incarnation: u64,
 ) -> Result<Path, NoMemory>
     requires { HasParts (name_meant name) }
-    ensures path { IfOk result (λ path. path.parts ≡ new_path (name_meant name.entry) file incarnation) }
+    ensures path { IfOk result (λ path. path.parts
+        ≡ new_path (name_meant name.entry) file incarnation) }
     ensures file { file < 2 ^ 32 }
     ensures incarnation { incarnation < 2 ^ 64 }
 {

@@ -69,23 +69,28 @@ impl Cursor {
     pub fn follow(&mut self, catalog: &Catalog, status: &PstRecord, extent: ExtentId)
         requires tables { AreTables catalog.now.tables }
         // It is a cursor after each change by which all chunks but the extent's stay as they were.
-        ensures follows { IsFollowed (extent.file, extent.index / 256) self.old catalog.now status.now self.new }
+        ensures follows { IsFollowed (extent.file, extent.index / 256) self.old catalog.now
+            status.now self.new }
         // No place goes back further than it must.
-        ensures places { self.new ≡ places_after status.now.entries catalog.now (sums_at catalog.now.units status.now.entries) self.old (extent.file, extent.index / 256) }
+        ensures places { self.new ≡ places_after status.now.entries catalog.now
+            (sums_at catalog.now.units status.now.entries) self.old
+            (extent.file, extent.index / 256) }
     {
         *self = self.followed(catalog, status, (extent.file, extent.index / 256));
     }
 
     fn followed(&self, catalog: &Catalog, status: &PstRecord, at: (u32, u32)) -> Cursor
         requires { AreTables catalog.now.tables }
-        ensures { result ≡ places_after status.now.entries catalog.now (sums_at catalog.now.units status.now.entries) self.now at }
+        ensures { result ≡ places_after status.now.entries catalog.now
+            (sums_at catalog.now.units status.now.entries) self.now at }
     {
         self.followed_by(&Search::of(catalog, status), at)
     }
 
     fn followed_by(&self, search: &Search<'_>, at: (u32, u32)) -> Cursor
         requires { AreTables search.now.catalog.now.tables }
-        ensures { result ≡ places_after search.now.disks.now search.now.catalog.now search.now.shares self.now at }
+        ensures { result ≡ places_after search.now.disks.now search.now.catalog.now
+            search.now.shares self.now at }
     {
         Cursor {
             recopy: place_after(search, Stage::Recopy, at, self.recopy),
@@ -106,7 +111,8 @@ fn place_after(
     place: Option<(u32, u32)>,
 ) -> Option<(u32, u32)>
     requires { AreTables search.now.catalog.now.tables }
-    ensures { result ≡ place_after (is_due_in stage search.now.disks.now search.now.catalog.now search.now.shares) search.now.catalog.now.tables.extents at place }
+    ensures { result ≡ place_after (is_due_in stage search.now.disks.now search.now.catalog.now
+        search.now.shares) search.now.catalog.now.tables.extents at place }
 {
     if is_passed(place, at) && is_due_there(search, stage, at) {
         Some(at)
@@ -128,7 +134,8 @@ fn is_passed(place: Option<(u32, u32)>, at: (u32, u32)) -> bool
 /// Whether something is due in a chunk, where it is there.
 fn is_due_there(search: &Search<'_>, stage: Stage, at: (u32, u32)) -> bool
     requires { AreTables search.now.catalog.now.tables }
-    ensures { result ≡ passes_at (is_due_in stage search.now.disks.now search.now.catalog.now search.now.shares) search.now.catalog.now.tables.extents at }
+    ensures { result ≡ passes_at (is_due_in stage search.now.disks.now search.now.catalog.now
+        search.now.shares) search.now.catalog.now.tables.extents at }
 {
     match search.catalog.chunks_from(at).next() {
         Some((first, chunk)) => {

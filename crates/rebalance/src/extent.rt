@@ -15,7 +15,8 @@ use partnership::PstEntry;
 
 /// The extent of a file with so many copies, as a catalog has it.
 pub fn extent_of(catalog: &Catalog, id: ExtentId, copies: u8, homes: &Homes) -> Extent
-    ensures is { result ≡ extent_in_tables catalog.now.shape catalog.now.tables id.file copies id.index homes.now }
+    ensures is { result ≡ extent_in_tables catalog.now.shape catalog.now.tables id.file copies
+        id.index homes.now }
     ensures long { 0 < result.units }
 {
     Extent {
@@ -55,7 +56,8 @@ fn is_forced(disks: &[PstEntry], extent: &Extent, copy: u8) -> bool
 /// Whether the copy is there and stale, and its disk is Online.
 pub fn is_stale_online(disks: &[PstEntry], extent: &Extent, copy: u8) -> bool
     requires { copy < 3 }
-    ensures { result ≡ (is_marked_at extent.now copy && is_on is_online disks.now (copy_of extent.now copy)) }
+    ensures { result ≡ (is_marked_at extent.now copy
+        && is_on is_online disks.now (copy_of extent.now copy)) }
 {
     extent.home(copy).is_some() && extent.has_mark(copy) && extent.is_on_online(disks, copy)
 }

@@ -33,7 +33,8 @@ use partnership::PstRecord;
 /// nothing to say.
 pub fn next_move(catalog: &Catalog, status: &PstRecord) -> Next
     requires { IsStatusOf catalog.now status.now }
-    ensures is_next { (items : List Item) → AreItemsOf catalog.now.tables items → next_meant result ≡ next catalog.now.shape status.now items }
+    ensures is_next { (items : List Item) → AreItemsOf catalog.now.tables items
+        → next_meant result ≡ next catalog.now.shape status.now items }
     ensures falls { Falls catalog.now status.now (next_meant result) }
 {
     let mut cursor = Cursor::start();
@@ -46,10 +47,12 @@ pub fn next_move(catalog: &Catalog, status: &PstRecord) -> Next
 pub fn next_move_from(catalog: &Catalog, status: &PstRecord, cursor: &mut Cursor) -> Next
     requires status { IsStatusOf catalog.now status.now }
     requires cursor { IsCursor catalog.now status.now cursor.old }
-    ensures is_next { (items : List Item) → AreItemsOf catalog.now.tables items → next_meant result ≡ next catalog.now.shape status.now items }
+    ensures is_next { (items : List Item) → AreItemsOf catalog.now.tables items
+        → next_meant result ≡ next catalog.now.shape status.now items }
     ensures falls { Falls catalog.now status.now (next_meant result) }
     ensures cursor { IsCursor catalog.now status.now cursor.new }
-    ensures gone_on { HasGoneOn status.now.entries catalog.now status.now (sums_at catalog.now.units status.now.entries) cursor.new }
+    ensures gone_on { HasGoneOn status.now.entries catalog.now status.now
+        (sums_at catalog.now.units status.now.entries) cursor.new }
 {
     next_in(catalog, status, cursor)
 }
@@ -57,7 +60,9 @@ pub fn next_move_from(catalog: &Catalog, status: &PstRecord, cursor: &mut Cursor
 /// The share of disk d in the used units of the Online regular disks, in units.
 pub fn share(catalog: &Catalog, status: &PstRecord, disk: u8) -> u32
     requires { IsStatusOf catalog.now status.now }
-    ensures share { (items : List Item) (e : Entry) → AreItemsOf catalog.now.tables items → entry_of status.now.entries disk ≡ Some e → result ≡ share catalog.now.shape items status.now.entries e }
+    ensures share { (items : List Item) (e : Entry) → AreItemsOf catalog.now.tables items
+        → entry_of status.now.entries disk ≡ Some e
+        → result ≡ share catalog.now.shape items status.now.entries e }
 {
     let units = catalog.units();
     Shares::of(status, units).share(units, disk)
@@ -69,7 +74,8 @@ fn next_in(catalog: &Catalog, status: &PstRecord, cursor: &mut Cursor) -> Next
     ensures next { next_meant result ≡ next_in catalog.now status.now }
     ensures rules { IsCatalog catalog.now }
     ensures cursor { IsCursor catalog.now status.now cursor.new }
-    ensures gone_on { HasGoneOn status.now.entries catalog.now status.now (sums_at catalog.now.units status.now.entries) cursor.new }
+    ensures gone_on { HasGoneOn status.now.entries catalog.now status.now
+        (sums_at catalog.now.units status.now.entries) cursor.new }
 {
     let search = Search::of(catalog, status);
     or_done(all_said(&search, status, cursor))
@@ -89,10 +95,14 @@ fn or_done(next: Option<Next>) -> Next
 fn all_said(search: &Search<'_>, status: &PstRecord, cursor: &mut Cursor) -> Option<Next>
     requires status { IsTrue (is_status status.now) }
     requires tables { AreTables search.now.catalog.now.tables }
-    requires cursor { AreClear search.now.disks.now search.now.catalog.now search.now.shares cursor.old }
-    ensures said { option_map next_meant result ≡ all_said search.now.catalog.now status.now search.now.disks.now search.now.shares }
-    ensures cursor { AreClear search.now.disks.now search.now.catalog.now search.now.shares cursor.new }
-    ensures gone_on { HasGoneOn search.now.disks.now search.now.catalog.now status.now search.now.shares cursor.new }
+    requires cursor { AreClear search.now.disks.now search.now.catalog.now search.now.shares
+        cursor.old }
+    ensures said { option_map next_meant result
+        ≡ all_said search.now.catalog.now status.now search.now.disks.now search.now.shares }
+    ensures cursor { AreClear search.now.disks.now search.now.catalog.now search.now.shares
+        cursor.new }
+    ensures gone_on { HasGoneOn search.now.disks.now search.now.catalog.now status.now
+        search.now.shares cursor.new }
 {
     let recopy = or_said(None, search, Stage::Recopy, &mut cursor.recopy);
     let fill = or_said(recopy, search, Stage::Fill, &mut cursor.fill);
@@ -106,7 +116,8 @@ fn all_said(search: &Search<'_>, status: &PstRecord, cursor: &mut Cursor) -> Opt
 /// What was said, or else the move of a directory copy, or of the status tables.
 fn or_tables(said: Option<Next>, catalog: &Catalog, status: &PstRecord) -> Option<Next>
     requires { IsTrue (is_status status.now) }
-    ensures { option_map next_meant result ≡ option_or (option_map next_meant said) (tables_said catalog.now status.now) }
+    ensures { option_map next_meant result
+        ≡ option_or (option_map next_meant said) (tables_said catalog.now status.now) }
 {
     match said {
         Some(next) => Some(next),
@@ -130,10 +141,16 @@ fn or_said(
     place: &mut Option<(u32, u32)>,
 ) -> Option<Next>
     requires tables { AreTables search.now.catalog.now.tables }
-    requires clear { IsClearBefore stage search.now.disks.now search.now.catalog.now search.now.shares place.old }
-    ensures said { option_map next_meant result ≡ option_or (option_map next_meant said) (group_says stage search.now.disks.now search.now.catalog.now search.now.shares) }
-    ensures clear { IsClearBefore stage search.now.disks.now search.now.catalog.now search.now.shares place.new }
-    ensures place { option_map next_meant said ≡ None → place.new ≡ first_due stage search.now.disks.now search.now.catalog.now search.now.shares }
+    requires clear { IsClearBefore stage search.now.disks.now search.now.catalog.now
+        search.now.shares place.old }
+    ensures said { option_map next_meant result
+        ≡ option_or (option_map next_meant said)
+        (group_says stage search.now.disks.now search.now.catalog.now search.now.shares) }
+    ensures clear { IsClearBefore stage search.now.disks.now search.now.catalog.now
+        search.now.shares place.new }
+    ensures place { option_map next_meant said ≡ None
+        → place.new ≡ first_due stage search.now.disks.now search.now.catalog.now
+        search.now.shares }
 {
     match said {
         Some(next) => Some(next),
@@ -147,9 +164,12 @@ fn or_said(
 /// The first chunk in which something is due.
 fn due_from(search: &Search<'_>, stage: Stage, place: Option<(u32, u32)>) -> Option<(u32, u32)>
     requires tables { AreTables search.now.catalog.now.tables }
-    requires clear { IsClearBefore stage search.now.disks.now search.now.catalog.now search.now.shares place }
-    ensures first { result ≡ first_due stage search.now.disks.now search.now.catalog.now search.now.shares }
-    ensures clear { IsClearBefore stage search.now.disks.now search.now.catalog.now search.now.shares result }
+    requires clear { IsClearBefore stage search.now.disks.now search.now.catalog.now
+        search.now.shares place }
+    ensures first { result ≡ first_due stage search.now.disks.now search.now.catalog.now
+        search.now.shares }
+    ensures clear { IsClearBefore stage search.now.disks.now search.now.catalog.now
+        search.now.shares result }
 {
     let first = place?;
     search.first_due(stage, first)
@@ -158,8 +178,10 @@ fn due_from(search: &Search<'_>, stage: Stage, place: Option<(u32, u32)>) -> Opt
 /// What the first extent from a place on says, before which nothing is due.
 fn said_from(search: &Search<'_>, stage: Stage, place: Option<(u32, u32)>) -> Option<Next>
     requires tables { AreTables search.now.catalog.now.tables }
-    requires clear { IsClearBefore stage search.now.disks.now search.now.catalog.now search.now.shares place }
-    ensures { option_map next_meant result ≡ group_says stage search.now.disks.now search.now.catalog.now search.now.shares }
+    requires clear { IsClearBefore stage search.now.disks.now search.now.catalog.now
+        search.now.shares place }
+    ensures { option_map next_meant result
+        ≡ group_says stage search.now.disks.now search.now.catalog.now search.now.shares }
 {
     let first = place?;
     search.first_said(stage, first)

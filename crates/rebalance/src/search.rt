@@ -62,7 +62,8 @@ impl<'a> Search<'a> {
 impl Search<'_> {
     /// The first chunk from one on in which something is due at a stage.
     pub fn first_due(&self, stage: Stage, first: (u32, u32)) -> Option<(u32, u32)>
-        ensures due { result ≡ first_due_of stage self.now.disks.now self.now.catalog.now self.now.shares (chunks_from self.now.catalog.now.tables.extents first) }
+        ensures due { result ≡ first_due_of stage self.now.disks.now self.now.catalog.now
+            self.now.shares (chunks_from self.now.catalog.now.tables.extents first) }
     {
         let found = self.first_from(Asked::Due(stage), first)?;
         Some(found.at)
@@ -70,7 +71,9 @@ impl Search<'_> {
 
     /// What the first extent of the chunks from one on says at a stage.
     pub fn first_said(&self, stage: Stage, first: (u32, u32)) -> Option<Next>
-        ensures said { option_map next_meant result ≡ says_of stage self.now.disks.now self.now.catalog.now self.now.shares (chunks_from self.now.catalog.now.tables.extents first) }
+        ensures said { option_map next_meant result
+            ≡ says_of stage self.now.disks.now self.now.catalog.now self.now.shares
+            (chunks_from self.now.catalog.now.tables.extents first) }
     {
         let found = self.first_from(Asked::Says(stage), first)?;
         self.asked_of(&found.extent).first_said(stage)
@@ -79,14 +82,16 @@ impl Search<'_> {
     /// Whether something is due in a chunk, where its file has a head. Where nothing is due, nothing is said.
     pub fn is_due_in(&self, stage: Stage, at: (u32, u32), extents: &[Homes]) -> bool
         requires { length extents.now ≤ 256 }
-        ensures { result ≡ is_due_in stage self.now.disks.now self.now.catalog.now self.now.shares (at, extents.now) }
+        ensures { result ≡ is_due_in stage self.now.disks.now self.now.catalog.now self.now.shares
+            (at, extents.now) }
     {
         self.first_in(Asked::Due(stage), at, extents).is_some()
     }
 
     /// The first extent of the chunks from one on of which it is so.
     fn first_from(&self, asked: Asked, first: (u32, u32)) -> Option<Found>
-        ensures found { result ≡ found_from asked self.now.disks.now self.now.catalog.now self.now.shares (chunks_from self.now.catalog.now.tables.extents first) }
+        ensures found { result ≡ found_from asked self.now.disks.now self.now.catalog.now
+            self.now.shares (chunks_from self.now.catalog.now.tables.extents first) }
         ensures whole { IfSome result (λ found. IsWholeExtent found.extent) }
     {
         for (at, chunk) in self.catalog.chunks_from(first) {
@@ -100,7 +105,8 @@ impl Search<'_> {
     /// The first extent of a chunk, where its file has a head.
     fn first_in(&self, asked: Asked, at: (u32, u32), extents: &[Homes]) -> Option<Extent>
         requires { length extents.now ≤ 256 }
-        ensures found { result ≡ found_in_chunk asked self.now.disks.now self.now.catalog.now self.now.shares (at, extents.now) }
+        ensures found { result ≡ found_in_chunk asked self.now.disks.now self.now.catalog.now
+            self.now.shares (at, extents.now) }
         ensures whole { IfSome result IsWholeExtent }
     {
         match self.catalog.copies_of(at.0) {
@@ -120,7 +126,9 @@ impl Search<'_> {
     ) -> Option<Extent>
         requires copies { copies ≤ 3 }
         requires numbers { first + length extents.now < 2 ^ 63 }
-        ensures found { result ≡ found_of_extents (is_as_asked asked self.now.disks.now self.now.catalog.now.units self.now.shares) self.now.catalog.now.shape self.now.catalog.now.tables file copies first extents.now }
+        ensures found { result ≡ found_of_extents
+            (is_as_asked asked self.now.disks.now self.now.catalog.now.units self.now.shares)
+            self.now.catalog.now.shape self.now.catalog.now.tables file copies first extents.now }
         ensures whole { IfSome result IsWholeExtent }
     {
         let mut index = first;
@@ -144,7 +152,9 @@ impl Search<'_> {
         homes: &Homes,
     ) -> Option<Extent>
         requires { copies ≤ 3 }
-        ensures found { result ≡ found_there (is_as_asked asked self.now.disks.now self.now.catalog.now.units self.now.shares) self.now.catalog.now.shape self.now.catalog.now.tables file copies index homes.now }
+        ensures found { result ≡ found_there (is_as_asked asked self.now.disks.now
+            self.now.catalog.now.units self.now.shares) self.now.catalog.now.shape
+            self.now.catalog.now.tables file copies index homes.now }
         ensures whole { IfSome result IsWholeExtent }
     {
         // An extent that is there has a number of 32 bits, since it has units of its own.
@@ -167,7 +177,8 @@ impl Search<'_> {
     #[tactic(auto, using(crate::proofs::Finding::said_some))]
     fn passes(&self, asked: Asked, extent: &Extent) -> bool
         requires { IsWholeExtent extent.now }
-        ensures { result ≡ is_as_asked asked self.now.disks.now self.now.catalog.now.units self.now.shares extent.now }
+        ensures { result ≡ is_as_asked asked self.now.disks.now self.now.catalog.now.units
+            self.now.shares extent.now }
     {
         match asked {
             Asked::Due(stage) => self.asked_of(extent).is_due(stage),

@@ -43,7 +43,9 @@ impl Shares {
     pub fn of(status: &PstRecord, units: &[Units]) -> Shares
         ensures value { result ≡ sums_at units.now status.now.entries }
         // Where the units are those of a group's records, the sums are those of its placement.
-        ensures placement { (s : Shape) (items : List Item) → AreUnitsOf s items status.now.entries units.now → result ≡ sums_of s items status.now.entries }
+        ensures placement { (s : Shape) (items : List Item)
+            → AreUnitsOf s items status.now.entries units.now
+            → result ≡ sums_of s items status.now.entries }
     {
         sums(status.entries(), units)
     }
@@ -71,7 +73,10 @@ impl Shares {
 
     fn with_map(self, map: &Units) -> Shares
         requires { self.units + 2 ^ 32 ≤ 2 ^ 64 }
-        ensures sums { result ≡ record { used = self.used + used_of map.now; units = self.units + total_of map.now } }
+        ensures sums { result ≡ record {
+          used = self.used + used_of map.now;
+          units = self.units + total_of map.now;
+        } }
         ensures small { result.units ≤ self.units + 2 ^ 32 }
     {
         Shares {
@@ -85,7 +90,9 @@ impl Shares {
     pub fn share(&self, units: &[Units], d: u8) -> u32
         ensures value { result ≡ share_at self.now (slice_get units.now d) }
         // Where the units and the sums are those of a group's records, it is the disk's share of the placement.
-        ensures placement { (s : Shape) (items : List Item) (es : List Entry) (e : Entry) → AreUnitsOf s items es units.now → self.now ≡ sums_of s items es → entry_of es d ≡ Some e → result ≡ share s items es e }
+        ensures placement { (s : Shape) (items : List Item) (es : List Entry) (e : Entry)
+            → AreUnitsOf s items es units.now → self.now ≡ sums_of s items es
+            → entry_of es d ≡ Some e → result ≡ share s items es e }
     {
         self.share_at(units, d)
     }
@@ -116,7 +123,9 @@ impl Shares {
     pub fn is_above(&self, units: &[Units], d: u8, n: u32) -> bool
         ensures value { result ≡ is_above_at self.now n (slice_get units.now d) }
         // Where the units and the sums are those of a group's records, so it is by the placement.
-        ensures placement { (s : Shape) (items : List Item) (es : List Entry) (e : Entry) → AreUnitsOf s items es units.now → self.now ≡ sums_of s items es → entry_of es d ≡ Some e → result ≡ is_above s items es n e }
+        ensures placement { (s : Shape) (items : List Item) (es : List Entry) (e : Entry)
+            → AreUnitsOf s items es units.now → self.now ≡ sums_of s items es
+            → entry_of es d ≡ Some e → result ≡ is_above s items es n e }
     {
         self.is_above_at(units, d, n)
     }
@@ -135,7 +144,9 @@ impl Shares {
     pub fn is_below(&self, units: &[Units], d: u8, n: u32) -> bool
         ensures value { result ≡ is_below_at self.now n (slice_get units.now d) }
         // Where the units and the sums are those of a group's records, so it is by the placement.
-        ensures placement { (s : Shape) (items : List Item) (es : List Entry) (e : Entry) → AreUnitsOf s items es units.now → self.now ≡ sums_of s items es → entry_of es d ≡ Some e → result ≡ is_below s items es n e }
+        ensures placement { (s : Shape) (items : List Item) (es : List Entry) (e : Entry)
+            → AreUnitsOf s items es units.now → self.now ≡ sums_of s items es
+            → entry_of es d ≡ Some e → result ≡ is_below s items es n e }
     {
         self.is_below_at(units, d, n)
     }

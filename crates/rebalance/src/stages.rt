@@ -46,14 +46,18 @@ pub enum Stage {
 #[tactic(auto, using(crate::proofs::TableMoves::table_said))]
 pub fn said_by_tables(kind: GroupKind, status: &PstRecord) -> Option<Next>
     requires { IsTrue (is_status status.now) }
-    ensures { (s : Shape) → s.kind ≡ kind → option_map next_meant result ≡ option_or (next_directory s status.now) (next_tables s status.now) }
+    ensures { (s : Shape) → s.kind ≡ kind
+        → option_map next_meant result
+        ≡ option_or (next_directory s status.now) (next_tables s status.now) }
 {
     table_move(kind, status)
 }
 
 fn table_move(kind: GroupKind, status: &PstRecord) -> Option<Next>
     requires { IsTrue (is_status status.now) }
-    ensures { option_map next_meant result ≡ option_or (option_map (λ d. move (directory d)) (directory_target kind status.now)) (option_map (λ to. move (tables to)) (status_target kind status.now)) }
+    ensures { option_map next_meant result
+        ≡ option_or (option_map (λ d. move (directory d)) (directory_target kind status.now))
+        (option_map (λ to. move (tables to)) (status_target kind status.now)) }
 {
     if let Some(to) = directory_target(kind, status) {
         return Some(Next::Move(Move::Directory { to }));
@@ -72,7 +76,9 @@ pub fn said_first(
 ) -> Option<Next>
     requires copies { extent.now.copies ≤ 3 }
     requires long { 0 < extent.now.units }
-    ensures { option_map next_meant result ≡ first_from (copy_says stage disks.now units.now shares.now extent.now) 0 extent.now.copies }
+    ensures { option_map next_meant result
+        ≡ first_from (copy_says stage disks.now units.now shares.now extent.now) 0
+        extent.now.copies }
 {
     let asked = AskedExtent {
         disks,
@@ -97,7 +103,8 @@ impl AskedExtent<'_> {
     #[tactic(auto, using(crate::proofs::Verdicts::any_more, crate::proofs::Verdicts::any_found, crate::proofs::Verdicts::any_start, crate::proofs::Verdicts::any_end))]
     pub fn is_due(&self, stage: Stage) -> bool
         requires { IsWholeExtent self.now.extent.now }
-        ensures { result ≡ is_due stage self.now.disks.now self.now.units.now self.now.shares.now self.now.extent.now }
+        ensures { result ≡ is_due stage self.now.disks.now self.now.units.now self.now.shares.now
+            self.now.extent.now }
     {
         for copy in 0..self.extent.copies {
             if self.is_due_at(stage, copy) {
@@ -111,7 +118,9 @@ impl AskedExtent<'_> {
     #[tactic(auto, using(crate::proofs::Verdicts::said_more, crate::proofs::Verdicts::said_found, crate::proofs::Verdicts::said_start, crate::proofs::Verdicts::said_end))]
     pub fn first_said(&self, stage: Stage) -> Option<Next>
         requires { IsWholeExtent self.now.extent.now }
-        ensures { option_map next_meant result ≡ extent_says stage self.now.disks.now self.now.units.now self.now.shares.now self.now.extent.now }
+        ensures { option_map next_meant result
+            ≡ extent_says stage self.now.disks.now self.now.units.now self.now.shares.now
+            self.now.extent.now }
     {
         for copy in 0..self.extent.copies {
             let next = self.said_by(stage, copy);
@@ -126,7 +135,9 @@ impl AskedExtent<'_> {
     fn said_by(&self, stage: Stage, copy: u8) -> Option<Next>
         requires number { copy < 3 }
         requires whole { IsWholeExtent self.now.extent.now }
-        ensures { option_map next_meant result ≡ copy_says stage self.now.disks.now self.now.units.now self.now.shares.now self.now.extent.now copy }
+        ensures { option_map next_meant result
+            ≡ copy_says stage self.now.disks.now self.now.units.now self.now.shares.now
+            self.now.extent.now copy }
     {
         if self.is_due_at(stage, copy) {
             self.answer(stage, copy)
@@ -139,7 +150,8 @@ impl AskedExtent<'_> {
     fn is_due_at(&self, stage: Stage, copy: u8) -> bool
         requires number { copy < 3 }
         requires whole { IsWholeExtent self.now.extent.now }
-        ensures { result ≡ is_due_at stage self.now.disks.now self.now.units.now self.now.shares.now self.now.extent.now copy }
+        ensures { result ≡ is_due_at stage self.now.disks.now self.now.units.now self.now.shares.now
+            self.now.extent.now copy }
     {
         let disks = self.disks;
         let extent = self.extent;
@@ -158,7 +170,9 @@ impl AskedExtent<'_> {
     /// What is said of a copy of which something is due.
     fn answer(&self, stage: Stage, copy: u8) -> Option<Next>
         requires { IsWholeExtent self.now.extent.now }
-        ensures { option_map next_meant result ≡ answer_at stage self.now.disks.now self.now.units.now self.now.shares.now self.now.extent.now copy }
+        ensures { option_map next_meant result
+            ≡ answer_at stage self.now.disks.now self.now.units.now self.now.shares.now
+            self.now.extent.now copy }
     {
         let x = self.extent.id;
         match stage {
@@ -204,7 +218,8 @@ impl AskedExtent<'_> {
     /// The home to which a copy shifts to balance the disks, where its own is on a disk above its share: on one below.
     fn balancing(&self, copy: u8) -> Option<Home>
         requires { 0 < self.now.extent.now.units }
-        ensures { result ≡ balancing_at self.now.disks.now self.now.units.now self.now.shares.now self.now.extent.now copy }
+        ensures { result ≡ balancing_at self.now.disks.now self.now.units.now self.now.shares.now
+            self.now.extent.now copy }
     {
         let extent = self.extent;
         let disk = entry_at(self.disks, extent.home(copy))?;
@@ -217,7 +232,8 @@ impl AskedExtent<'_> {
     /// The home that a copy gets on a disk below its share.
     fn home_below(&self, copy: u8) -> Option<Home>
         requires { 0 < self.now.extent.now.units }
-        ensures { result ≡ home_below self.now.disks.now self.now.units.now self.now.shares.now self.now.extent.now copy }
+        ensures { result ≡ home_below self.now.disks.now self.now.units.now self.now.shares.now
+            self.now.extent.now copy }
     {
         let disks = self.disks;
         let units = self.units;

@@ -25,7 +25,8 @@ impl Refusal {
     /// The last line of the refused reply, without its line feed. A disk that is named by its
     /// number has the name `disk`.
     pub fn line(&self, alloc: Global, disk: &[u8]) -> Result<Vec<u8>, NoMemory>
-        ensures { IfOk result (λ text. text.items ≡ refusal_line (meaning_of (λ _. disk.now) self.now)) }
+        ensures { IfOk result (λ text. text.items
+            ≡ refusal_line (meaning_of (λ _. disk.now) self.now)) }
     {
         let (number, name) = self.number_and_name();
         let (first, second) = self.arguments(disk);
@@ -38,7 +39,8 @@ impl Refusal {
     /// The cause's number and its name.
     #[tactic(auto, unfolding(crate::specs::Refusals::meaning_of))]
     fn number_and_name(&self) -> (u8, &'static [u8])
-        ensures { (names : ℕ → Bytes) → refused result.0 result.1.now [] ≡ take 3 (refusal_words (meaning_of names self.now)) }
+        ensures { (names : ℕ → Bytes) → refused result.0 result.1.now []
+            ≡ take 3 (refusal_words (meaning_of names self.now)) }
     {
         match self {
             Refusal::Syntax { .. } => (1, b"Syntax"),
@@ -87,7 +89,8 @@ impl Refusal {
     /// The cause's arguments, where there are two, one or none.
     #[tactic(auto, unfolding(crate::specs::Refusals::meaning_of))]
     fn arguments<'a>(&'a self, disk: &'a [u8]) -> (Argument<'a>, Argument<'a>)
-        ensures { argument_words result.0 ++ argument_words result.1 ≡ drop 3 (refusal_words (meaning_of (λ _. disk.now) self.now)) }
+        ensures { argument_words result.0 ++ argument_words result.1
+            ≡ drop 3 (refusal_words (meaning_of (λ _. disk.now) self.now)) }
     {
         match self {
             Refusal::Syntax { at: n } | Refusal::BadPower { n } => {
@@ -191,7 +194,8 @@ pub fn mode_text(mode: Mode) -> &'static [u8]
 
 /// The line with the argument after a space at its end, or as it is where there is none.
 fn with(line: Vec<u8>, argument: Argument<'_>) -> Result<Vec<u8>, NoMemory>
-    ensures { IfOk result (λ longer. longer.items ≡ line.items ++ flat_map (λ word. 32 ∷ word) (argument_words argument.entry)) }
+    ensures { IfOk result (λ longer. longer.items
+        ≡ line.items ++ flat_map (λ word. 32 ∷ word) (argument_words argument.entry)) }
 {
     match argument {
         Argument::Nothing => Ok(line),

@@ -150,7 +150,8 @@ fn commit_flight<B: Bay>(m: &mut Mounted, alloc: Global, bay: &mut B) -> Result<
 /// The change by which a move is made all of whose bytes are copied: the mark of the copy in place goes, or the copy has its new home.
 /// It changes the chunk of the extent alone.
 fn plan_of(catalog: &Catalog, alloc: Global, flight: Flight) -> Result<Change, Refusal>
-    ensures { IfOk result (λ change. IsPlanIn (flight.x.file, flight.x.index / 256) catalog.now change.put change.gone) }
+    ensures { IfOk result (λ change. IsPlanIn (flight.x.file, flight.x.index / 256) catalog.now
+        change.put change.gone) }
 {
     planned_moves_change_one_chunk();
     let Flight { x, copy, to, .. } = flight;

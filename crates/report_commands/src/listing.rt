@@ -38,7 +38,8 @@ fn names_before(name: &Name, names: &[Name]) -> usize
 
 /// Puts a name among others, which are in folded order.
 fn put_in_order(names: &mut Vec<Name>, name: Name) -> Result<(), NoMemory>
-    ensures { OnOk result (names.new.items ≡ insert names.old.items (names_before name names.old.items) name) }
+    ensures { OnOk result (names.new.items
+        ≡ insert names.old.items (names_before name names.old.items) name) }
 {
     let at = names_before(&name, names);
     names.insert(at, name).map_err(|_| NoMemory)
@@ -80,14 +81,16 @@ fn names_matching(session: &Session, alloc: Global, pattern: &[u8]) -> Result<Ve
 
 /// The rows of these groups.
 fn rows_matching(session: &Session, alloc: Global, pattern: &[u8]) -> Result<Vec<LsRow>, NoMemory>
-    ensures { IfOk result (λ rows. rows.items ≡ rows_of_names (names_matching pattern.now session.now.entries)) }
+    ensures { IfOk result (λ rows. rows.items
+        ≡ rows_of_names (names_matching pattern.now session.now.entries)) }
 {
     let names = names_matching(session, alloc, pattern)?;
     directory_rows(alloc, &names)
 }
 
 fn rows_of_groups(session: &Session, alloc: Global, pattern: &[u8]) -> Result<Vec<LsRow>, Refusal>
-    ensures rows { IfOk result (λ rows. rows.items ≡ rows_of_names (names_matching pattern.now session.now.entries)) }
+    ensures rows { IfOk result (λ rows. rows.items
+        ≡ rows_of_names (names_matching pattern.now session.now.entries)) }
     ensures cause { IfErr result (λ refusal. refusal ≡ cause.NoMemory) }
 {
     match rows_matching(session, alloc, pattern) {
@@ -110,8 +113,11 @@ fn rows_at(session: &Session, alloc: Global, parts: &[Text]) -> Result<Vec<LsRow
 
 /// The rows at one part: of a pattern the mounted groups that match, else those in the group of the name.
 fn rows_of_one(session: &Session, alloc: Global, name: &[u8]) -> Result<Vec<LsRow>, Refusal>
-    ensures rows { IfOk result (λ rows. MatchBool (has_star name.now) (rows.items ≡ rows_of_names (names_matching name.now session.now.entries)) (AreRowsOfGroup session.now name.now [] rows.items)) }
-    ensures cause { IfErr result (λ refusal. (refusal ≡ cause.NoMemory) ⊎ ((has_star name.now ≡ false) × IsRefusedIn session.now name.now [] refusal)) }
+    ensures rows { IfOk result (λ rows. MatchBool (has_star name.now)
+        (rows.items ≡ rows_of_names (names_matching name.now session.now.entries))
+        (AreRowsOfGroup session.now name.now [] rows.items)) }
+    ensures cause { IfErr result (λ refusal. (refusal ≡ cause.NoMemory)
+        ⊎ ((has_star name.now ≡ false) × IsRefusedIn session.now name.now [] refusal)) }
 {
     if has_star(name) {
         rows_of_groups(session, alloc, name)
@@ -129,7 +135,8 @@ fn is_same_text(text: &[u8], other: &[u8]) -> bool
 
 /// The name under which the session has a group, by a text, which may be no name.
 fn name_in<'a>(session: &'a Session, text: &[u8]) -> Option<&'a Name>
-    ensures { option_copied result ≡ option_map (λ e. e.name) (entry_among session.now.entries text.now) }
+    ensures { option_copied result ≡ option_map (λ e. e.name)
+        (entry_among session.now.entries text.now) }
 {
     for (key, _) in session.groups().iter() {
         if is_same_text(key.name.as_bytes(), text) {
@@ -147,7 +154,8 @@ fn rows_in_group(
     parts: &[Text],
 ) -> Result<Vec<LsRow>, Refusal>
     ensures rows { IfOk result (λ rows. AreRowsOfGroup session.now name.now parts.now rows.items) }
-    ensures cause { IfErr result (λ refusal. (refusal ≡ cause.NoMemory) ⊎ IsRefusedIn session.now name.now parts.now refusal) }
+    ensures cause { IfErr result (λ refusal. (refusal ≡ cause.NoMemory)
+        ⊎ IsRefusedIn session.now name.now parts.now refusal) }
 {
     let Some(name) = name_in(session, name) else {
         return Err(Refusal::NoGroup);
@@ -161,7 +169,8 @@ fn rows_in_group(
 /// The rows in a group, by tables that keep their rules.
 fn rows_of(alloc: Global, m: &Mounted, parts: &[Text]) -> Result<Vec<LsRow>, Refusal>
     ensures rules { KeepsRules m.now.catalog.shape m.now.catalog.tables }
-    ensures rows { IfOk result (λ rows. AreRowsAt m.now.catalog.tables m.now.name parts.now rows.items) }
+    ensures rows { IfOk result (λ rows. AreRowsAt m.now.catalog.tables m.now.name parts.now
+        rows.items) }
     ensures cause { IfErr result (IsListCause m.now.catalog.tables parts.now) }
 {
     // Its clause shows that the rules hold.

@@ -59,7 +59,9 @@ fn place_of(alloc: Global, m: &Mounted, node: u32) -> Result<List<Name>, NoMemor
 /// The place of a directory in a group.
 fn place_at(alloc: Global, m: &Mounted, path: &Path) -> Result<List<Name>, Refusal>
     ensures place { IfOk result (IsDirectoryOf m.now path.now.parts) }
-    ensures cause { IfErr result (λ refusal. (directory_at m.now.catalog.tables path.now.parts ≡ Err refusal) ⊎ (refusal ≡ WantOfMemory)) }
+    ensures cause { IfErr result (λ refusal.
+        (directory_at m.now.catalog.tables path.now.parts ≡ Err refusal)
+        ⊎ (refusal ≡ WantOfMemory)) }
 {
     let node = directory_at(m.catalog(), path)?;
     match place_of(alloc, m, node) {
@@ -83,7 +85,8 @@ fn led(session: &Session, alloc: Global, path: &[u8]) -> Result<List<Name>, Refu
 /// The same of the parts from the top.
 fn led_by(session: &Session, alloc: Global, parts: List<Name>) -> Result<List<Name>, Refusal>
     ensures led { IfOk result (IsLedBy session.now (Some parts)) }
-    ensures cause { IfErr result (λ refusal. (refusal ≡ WantOfMemory) ⊎ IsGoingCauseBy session.now (Some parts) refusal) }
+    ensures cause { IfErr result (λ refusal. (refusal ≡ WantOfMemory)
+        ⊎ IsGoingCauseBy session.now (Some parts) refusal) }
 {
     let Some(path) = parts_in_group(parts) else {
         return Ok(List::new(alloc));

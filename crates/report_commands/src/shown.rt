@@ -89,7 +89,8 @@ pub fn told(
     name: &Name,
     report: Report,
 ) -> Result<List<Text>, Refusal>
-    ensures told { IfOk result (λ lines. IsInGroup session.now name.now (λ m. lines ≡ report_lines report m)) }
+    ensures told { IfOk result (λ lines. IsInGroup session.now name.now
+        (λ m. lines ≡ report_lines report m)) }
     ensures cause { IfErr result (IsOutCause session.now.entries name.now) }
 {
     match session.mounted(alloc, name) {
@@ -104,7 +105,8 @@ pub fn directory_led(
     place: &[Name],
     path: &Option<Text>,
 ) -> Result<Option<Path>, NoMemory>
-    ensures { IfOk result (λ led. option_map (λ p. (p.group, p.parts)) led ≡ parts_of (resolved_or_here place.now path.now)) }
+    ensures { IfOk result (λ led. option_map (λ p. (p.group, p.parts)) led
+        ≡ parts_of (resolved_or_here place.now path.now)) }
 {
     match path {
         Some(path) => target(alloc, place, path.as_slice()),
@@ -124,7 +126,9 @@ fn usage_of(alloc: Global, m: &Mounted, dir: &[Name]) -> Result<List<Text>, NoMe
 /// The same of the directory at a path.
 fn usage_at(alloc: Global, m: &Mounted, path: &Path) -> Result<List<Text>, Refusal>
     ensures used { IfOk result (IsUsageIn m.now path.now.parts) }
-    ensures cause { IfErr result (λ refusal. (directory_at m.now.catalog.tables path.now.parts ≡ Err refusal) ⊎ (refusal ≡ WantOfMemory)) }
+    ensures cause { IfErr result (λ refusal.
+        (directory_at m.now.catalog.tables path.now.parts ≡ Err refusal)
+        ⊎ (refusal ≡ WantOfMemory)) }
 {
     // Its clause shows that the rules hold.
     let _group = m.catalog().shape();
@@ -137,7 +141,8 @@ fn usage_at(alloc: Global, m: &Mounted, path: &Path) -> Result<List<Text>, Refus
 
 /// What du tells of the directory at a path. Its refusals in order: NoGroup, Dismounted, NoName, NotDirectory.
 pub fn used(session: &Session, alloc: Global, path: &Path) -> Result<List<Text>, Refusal>
-    ensures used { IfOk result (λ lines. IsInGroup session.now path.now.group (λ m. IsUsageIn m path.now.parts lines)) }
+    ensures used { IfOk result (λ lines. IsInGroup session.now path.now.group
+        (λ m. IsUsageIn m path.now.parts lines)) }
     ensures cause { IfErr result (IsPathCause session.now path.now.group path.now.parts) }
 {
     match session.mounted(alloc, &path.group) {
@@ -162,7 +167,9 @@ fn found_of(
 /// The same of the directory at a path.
 fn found_at(alloc: Global, m: &Mounted, path: &Path, pattern: &[u8]) -> Result<List<Text>, Refusal>
     ensures found { IfOk result (AreFoundLines m.now path.now.parts pattern.now) }
-    ensures cause { IfErr result (λ refusal. (directory_at m.now.catalog.tables path.now.parts ≡ Err refusal) ⊎ (refusal ≡ WantOfMemory)) }
+    ensures cause { IfErr result (λ refusal.
+        (directory_at m.now.catalog.tables path.now.parts ≡ Err refusal)
+        ⊎ (refusal ≡ WantOfMemory)) }
 {
     // Its clause shows that the rules hold.
     let _group = m.catalog().shape();
@@ -180,7 +187,8 @@ pub fn found(
     path: &Path,
     pattern: &[u8],
 ) -> Result<List<Text>, Refusal>
-    ensures found { IfOk result (λ lines. IsInGroup session.now path.now.group (λ m. AreFoundLines m path.now.parts pattern.now lines)) }
+    ensures found { IfOk result (λ lines. IsInGroup session.now path.now.group
+        (λ m. AreFoundLines m path.now.parts pattern.now lines)) }
     ensures cause { IfErr result (IsPathCause session.now path.now.group path.now.parts) }
 {
     match session.mounted(alloc, &path.group) {

@@ -75,7 +75,8 @@ pub fn sync_slice<B: Bay>(
     requires takes { Takes m.old (B.state bay.old) }
     // The group's parts agree, it takes the next call, and the disks of others stay.
     ensures keeps { KeepsGroup m.old m.new (B.state bay.old) (B.state bay.new) }
-    ensures cause { IfErr result.0 (SyncCause m.old disk m.new (B.state bay.old) (B.state bay.new)) }
+    ensures cause { IfErr result.0 (SyncCause m.old disk m.new (B.state bay.old)
+        (B.state bay.new)) }
     ensures steps { result.1 ≤ 64 }
 {
     match m.takes_calls() {
@@ -94,7 +95,8 @@ fn sync_mounted<B: Bay>(
     requires mounted { IsMounted m.old }
     requires takes { Takes m.old (B.state bay.old) }
     ensures keeps { KeepsGroup m.old m.new (B.state bay.old) (B.state bay.new) }
-    ensures cause { IfErr result.0 (SyncCause m.old disk m.new (B.state bay.old) (B.state bay.new)) }
+    ensures cause { IfErr result.0 (SyncCause m.old disk m.new (B.state bay.old)
+        (B.state bay.new)) }
     ensures steps { result.1 ≤ 64 }
 {
     if !is_back(m, disk) {
@@ -123,7 +125,8 @@ fn sync_from<B: Bay>(
     requires mounted { IsMounted m.old }
     requires takes { Takes m.old (B.state bay.old) }
     ensures keeps { KeepsGroup m.old m.new (B.state bay.old) (B.state bay.new) }
-    ensures cause { IfErr result.0 (SyncCause m.old disk m.new (B.state bay.old) (B.state bay.new)) }
+    ensures cause { IfErr result.0 (SyncCause m.old disk m.new (B.state bay.old)
+        (B.state bay.new)) }
     ensures steps { result.1 ≤ 64 }
 {
     let mut search = search;

@@ -27,11 +27,15 @@ pub fn make_move(
     copy: u8,
     to: Home,
 ) -> Result<bool, NoMemory>
-    ensures moved { IfOk result (λ moved. OnTrue moved (catalog.new.tables ≡ with_move catalog.old.tables x.file x.index copy to)) }
+    ensures moved { IfOk result (λ moved. OnTrue moved
+        (catalog.new.tables ≡ with_move catalog.old.tables x.file x.index copy to)) }
     ensures shape { catalog.new.shape ≡ catalog.old.shape }
-    ensures units { (entries : Items StatusEntry) → HasUnits catalog.old.shape entries catalog.old.tables catalog.old.units → HasUnits catalog.new.shape entries catalog.new.tables catalog.new.units }
+    ensures units { (entries : Items StatusEntry)
+        → HasUnits catalog.old.shape entries catalog.old.tables catalog.old.units
+        → HasUnits catalog.new.shape entries catalog.new.tables catalog.new.units }
     // No home lies on a quorum disk then, where none did and the new one doesn't.
-    ensures regular { (entries : Items StatusEntry) → AreOnRegular entries catalog.old.tables → IsTrue (is_on_regular entries (Some to)) → AreOnRegular entries catalog.new.tables }
+    ensures regular { (entries : Items StatusEntry) → AreOnRegular entries catalog.old.tables
+        → IsTrue (is_on_regular entries (Some to)) → AreOnRegular entries catalog.new.tables }
 {
     if !catalog.may_move(x, copy, to) {
         return Ok(false);
@@ -57,10 +61,13 @@ pub fn is_regular(disks: &[PstEntry], home: Home) -> bool
 /// Takes the memory for a planned change, and applies it.
 fn make(alloc: Global, catalog: &mut Catalog, change: &Change) -> Result<(), NoMemory>
     requires { (u : Tables) × IsPlan catalog.old change.now.put change.now.gone u }
-    ensures after { OnOk result (IsAfter catalog.old.tables change.now.put change.now.gone catalog.new.tables) }
+    ensures after { OnOk result (IsAfter catalog.old.tables change.now.put change.now.gone
+        catalog.new.tables) }
     ensures stays { OnErr result (catalog.new.tables ≡ catalog.old.tables) }
     ensures shape { catalog.new.shape ≡ catalog.old.shape }
-    ensures units { (entries : Items StatusEntry) → HasUnits catalog.old.shape entries catalog.old.tables catalog.old.units → HasUnits catalog.new.shape entries catalog.new.tables catalog.new.units }
+    ensures units { (entries : Items StatusEntry)
+        → HasUnits catalog.old.shape entries catalog.old.tables catalog.old.units
+        → HasUnits catalog.new.shape entries catalog.new.tables catalog.new.units }
 {
     catalog.ready(alloc, change)?;
     catalog.apply(change);

@@ -222,8 +222,11 @@ impl Cutter {
     pub fn without_gap(self) -> Cutter
         requires { self.start ≤ self.at }
         ensures start { result.start ≡ 0 }
-        ensures stands { (bytes : List ℕ) → IsCutterOf bytes self → IsCutterOf (drop self.start bytes) result }
-        ensures same { (bytes : List ℕ) → IsCutterOf bytes self → Leads (place_of_state self.from) bytes [] (place_of_state result.from) (drop self.start bytes) }
+        ensures stands { (bytes : List ℕ) → IsCutterOf bytes self
+            → IsCutterOf (drop self.start bytes) result }
+        ensures same { (bytes : List ℕ) → IsCutterOf bytes self
+            → Leads (place_of_state self.from) bytes [] (place_of_state result.from)
+            (drop self.start bytes) }
     {
         Cutter {
             from: opening(self.state),
@@ -253,7 +256,8 @@ pub fn goes_on_with_more()
 fn rest_of(bytes: &[u8], start: usize) -> Option<Span>
     requires { start ≤ length bytes.now }
     ensures within { IfSome result (λ span. span.at + span.len ≡ length bytes.now) }
-    ensures found { IfSome result (λ span. last_command (drop start bytes.now) ≡ take span.len (drop span.at bytes.now) ∷ []) }
+    ensures found { IfSome result (λ span. last_command (drop start bytes.now)
+        ≡ take span.len (drop span.at bytes.now) ∷ []) }
     ensures progress { IfSome result (λ span. 0 < span.len) }
     ensures none { IfNone result (last_command (drop start bytes.now) ≡ []) }
 {

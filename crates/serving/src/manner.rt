@@ -46,7 +46,8 @@ pub fn tell_reply<K: Sink>(
     reply: Reply,
 ) -> (Reply, Result<(), Fault>)
     ensures reply { IsReplyOrNoMemory (reply_view reply) (reply_view result.0) }
-    ensures bytes { AppendsAll (K.taken sink.old) (K.taken sink.new) result.1 (reply_in (reply_style manner) (reply_view result.0)) }
+    ensures bytes { AppendsAll (K.taken sink.old) (K.taken sink.new) result.1
+        (reply_in (reply_style manner) (reply_view result.0)) }
     ensures later { K.faults sink.old ≤ K.faults sink.new }
     ensures cause { OnErr result.1 (Rose (K.faults sink.old) (K.faults sink.new)) }
 {
@@ -60,7 +61,8 @@ pub fn tell_reply<K: Sink>(
 /// Prints the last reply of the generator's commands: in full, behind the bytes of those before it.
 fn print_last<K: Sink>(alloc: Global, sink: &mut K, reply: Reply) -> (Reply, Result<(), Fault>)
     ensures reply { IsReplyOrNoMemory (reply_view reply) (reply_view result.0) }
-    ensures bytes { AppendsAll (K.taken sink.old) (K.taken sink.new) result.1 (10 ∷ reply_text (reply_view result.0)) }
+    ensures bytes { AppendsAll (K.taken sink.old) (K.taken sink.new) result.1
+        (10 ∷ reply_text (reply_view result.0)) }
     ensures later { K.faults sink.old ≤ K.faults sink.new }
     ensures cause { OnErr result.1 (Rose (K.faults sink.old) (K.faults sink.new)) }
 {
@@ -73,7 +75,8 @@ fn print_last<K: Sink>(alloc: Global, sink: &mut K, reply: Reply) -> (Reply, Res
 /// Prints the byte of a reply.
 fn print_mark<K: Sink>(sink: &mut K, reply: Reply) -> (Reply, Result<(), Fault>)
     ensures reply { result.0 ≡ reply }
-    ensures bytes { AppendsAll (K.taken sink.old) (K.taken sink.new) result.1 (short_text (reply_view reply)) }
+    ensures bytes { AppendsAll (K.taken sink.old) (K.taken sink.new) result.1
+        (short_text (reply_view reply)) }
     ensures later { K.faults sink.old ≤ K.faults sink.new }
     ensures cause { OnErr result.1 (Rose (K.faults sink.old) (K.faults sink.new)) }
 {
@@ -94,7 +97,8 @@ fn mark_of(reply: &Reply) -> u8
 
 /// Prints the line of an event in this manner.
 pub fn tell_event<K: Sink>(sink: &mut K, manner: Manner, line: &[u8]) -> Result<(), Fault>
-    ensures bytes { AppendsAll (K.taken sink.old) (K.taken sink.new) result (line_in manner line.now) }
+    ensures bytes { AppendsAll (K.taken sink.old) (K.taken sink.new) result
+        (line_in manner line.now) }
     ensures later { K.faults sink.old ≤ K.faults sink.new }
     ensures cause { OnErr result (Rose (K.faults sink.old) (K.faults sink.new)) }
 {

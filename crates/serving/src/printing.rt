@@ -20,7 +20,8 @@ use std::alloc::Global;
 /// Prints a reply, or the refusal for want of memory alone where there is none for the text of one.
 pub fn print_reply<K: Sink>(alloc: Global, sink: &mut K, reply: Reply) -> (Reply, Result<(), Fault>)
     ensures reply { IsReplyOrNoMemory (reply_view reply) (reply_view result.0) }
-    ensures bytes { AppendsAll (K.taken sink.old) (K.taken sink.new) result.1 (reply_text (reply_view result.0)) }
+    ensures bytes { AppendsAll (K.taken sink.old) (K.taken sink.new) result.1
+        (reply_text (reply_view result.0)) }
     ensures later { K.faults sink.old ≤ K.faults sink.new }
     ensures cause { OnErr result.1 (Rose (K.faults sink.old) (K.faults sink.new)) }
 {
@@ -40,8 +41,10 @@ fn print_refusal<K: Sink>(
     sink: &mut K,
     refusal: Refusal,
 ) -> (Reply, Result<(), Fault>)
-    ensures reply { IsReplyOrNoMemory (Refused [] (meaning_of (λ _. []) refusal)) (reply_view result.0) }
-    ensures bytes { AppendsAll (K.taken sink.old) (K.taken sink.new) result.1 (reply_text (reply_view result.0)) }
+    ensures reply { IsReplyOrNoMemory (Refused [] (meaning_of (λ _. []) refusal))
+        (reply_view result.0) }
+    ensures bytes { AppendsAll (K.taken sink.old) (K.taken sink.new) result.1
+        (reply_text (reply_view result.0)) }
     ensures later { K.faults sink.old ≤ K.faults sink.new }
     ensures cause { OnErr result.1 (Rose (K.faults sink.old) (K.faults sink.new)) }
 {
@@ -58,8 +61,10 @@ fn print_after<K: Sink>(
     lines: List<Text>,
     refusal: Refusal,
 ) -> (Reply, Result<(), Fault>)
-    ensures reply { IsReplyOrNoMemory (Refused lines (meaning_of (λ _. []) refusal)) (reply_view result.0) }
-    ensures bytes { AppendsAll (K.taken sink.old) (K.taken sink.new) result.1 (reply_text (reply_view result.0)) }
+    ensures reply { IsReplyOrNoMemory (Refused lines (meaning_of (λ _. []) refusal))
+        (reply_view result.0) }
+    ensures bytes { AppendsAll (K.taken sink.old) (K.taken sink.new) result.1
+        (reply_text (reply_view result.0)) }
     ensures later { K.faults sink.old ≤ K.faults sink.new }
     ensures cause { OnErr result.1 (Rose (K.faults sink.old) (K.faults sink.new)) }
 {
@@ -78,7 +83,8 @@ fn print_after<K: Sink>(
 /// Prints the refusal for want of memory, which takes none.
 fn print_no_memory<K: Sink>(sink: &mut K) -> (Reply, Result<(), Fault>)
     ensures reply { reply_view result.0 ≡ Refused [] r.NoMemory }
-    ensures bytes { AppendsAll (K.taken sink.old) (K.taken sink.new) result.1 (reply_text (reply_view result.0)) }
+    ensures bytes { AppendsAll (K.taken sink.old) (K.taken sink.new) result.1
+        (reply_text (reply_view result.0)) }
     ensures later { K.faults sink.old ≤ K.faults sink.new }
     ensures cause { OnErr result.1 (Rose (K.faults sink.old) (K.faults sink.new)) }
 {
@@ -90,7 +96,8 @@ fn print_no_memory<K: Sink>(sink: &mut K) -> (Reply, Result<(), Fault>)
 
 /// Prints lines, and behind them a text that has its line feed.
 fn print_lines<K: Sink>(sink: &mut K, lines: &[Text], last: &[u8]) -> Result<(), Fault>
-    ensures bytes { AppendsAll (K.taken sink.old) (K.taken sink.new) result (ended lines.now ++ last.now) }
+    ensures bytes { AppendsAll (K.taken sink.old) (K.taken sink.new) result
+        (ended lines.now ++ last.now) }
     ensures later { K.faults sink.old ≤ K.faults sink.new }
     ensures cause { OnErr result (Rose (K.faults sink.old) (K.faults sink.new)) }
 {
@@ -111,7 +118,8 @@ fn print_line<K: Sink>(sink: &mut K, line: &[u8]) -> Result<(), Fault>
 
 /// The line of a refusal. A refusal that comes yet spells each disk that it names.
 fn refusal_text(alloc: Global, refusal: &Refusal) -> Result<Vec<u8>, NoMemory>
-    ensures { IfOk result (λ text. text.items ≡ reply_text (Refused [] (meaning_of (λ _. []) refusal.now))) }
+    ensures { IfOk result (λ text. text.items
+        ≡ reply_text (Refused [] (meaning_of (λ _. []) refusal.now))) }
 {
     let mut text = refusal.line(alloc, b"")?;
     text.push(b'\n').map_err(|_| NoMemory)?;
@@ -141,7 +149,8 @@ pub fn is_no_memory(reply: &Reply) -> bool
 }
 
 fn is_want_of_memory(refusal: &Refusal) -> bool
-    ensures { MatchBool result (meaning_of (λ _. []) refusal.now ≡ r.NoMemory) (meaning_of (λ _. []) refusal.now ≢ r.NoMemory) }
+    ensures { MatchBool result (meaning_of (λ _. []) refusal.now ≡ r.NoMemory)
+        (meaning_of (λ _. []) refusal.now ≢ r.NoMemory) }
 {
     match refusal {
         Refusal::NoMemory => true,

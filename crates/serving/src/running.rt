@@ -63,7 +63,8 @@ impl<B: Bay, H: Host, K: Sink, C: Clock> Program<B, H, K, C> {
         requires ready { AreReady self.old.desk.session.groups (B.state self.old.desk.bay) }
         ensures ready { AreReady self.new.desk.session.groups (B.state self.new.desk.bay) }
         ensures paths { paths_on self.new.desk ≡ paths_on self.old.desk }
-        ensures host { is_copy_command (command_of text.now) ≡ false → self.new.desk.host ≡ self.old.desk.host }
+        ensures host { is_copy_command (command_of text.now) ≡ false
+            → self.new.desk.host ≡ self.old.desk.host }
         ensures answers { EachWorld self.old (AnswersOne result text.now self.old self.new) }
         ensures cause { StopsByOutput result (K.faults self.old.sink) (K.faults self.new.sink) }
     {
@@ -96,7 +97,8 @@ impl<B: Bay, H: Host, K: Sink, C: Clock> Program<B, H, K, C> {
         requires ready { AreReady self.old.desk.session.groups (B.state self.old.desk.bay) }
         ensures ready { AreReady self.new.desk.session.groups (B.state self.new.desk.bay) }
         ensures paths { paths_on self.new.desk ≡ paths_on self.old.desk }
-        ensures host { is_copy_command (command_of text.now) ≡ false → self.new.desk.host ≡ self.old.desk.host }
+        ensures host { is_copy_command (command_of text.now) ≡ false
+            → self.new.desk.host ≡ self.old.desk.host }
         ensures runs { EachWorld self.old (RunsOne result text.now self.old self.new) }
         ensures cause { StopsByOutput result (K.faults self.old.sink) (K.faults self.new.sink) }
     {

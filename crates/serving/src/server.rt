@@ -55,7 +55,8 @@ impl<B: Bay, H: Host, K: Sink, C: Clock> Program<B, H, K, C> {
         ensures serves { EachWorld self.old (ServesAll result
             (S.left source.old) (S.left source.new) self.old self.new) }
         ensures input { StopsByInput result (S.faults source.old) (S.faults source.new) }
-        ensures output { IsErrOf result Stop.WriteFault → Rose (K.faults self.old.sink) (K.faults self.new.sink) }
+        ensures output { IsErrOf result Stop.WriteFault
+            → Rose (K.faults self.old.sink) (K.faults self.new.sink) }
     {
         let mut pending = Vec::new(self.desk.alloc);
         let mut cutter = Cutter::new();
@@ -82,7 +83,8 @@ impl<B: Bay, H: Host, K: Sink, C: Clock> Program<B, H, K, C> {
         ensures answers { EachWorld self.old (AnswersEnded result
             (place_of_state cutter.old.from) (place_of_state cutter.new.from) pending.old.items pending.new.items self.old self.new) }
         ensures stands { OnOk result (IsCutterOf pending.new.items cutter.new) }
-        ensures none { OnOk result (cut false (place_of_state cutter.new.from) pending.new.items ≡ []) }
+        ensures none { OnOk result (cut false (place_of_state cutter.new.from) pending.new.items
+            ≡ []) }
         ensures cause { StopsByOutput result (K.faults self.old.sink) (K.faults self.new.sink) }
     {
         let mut done = 0;

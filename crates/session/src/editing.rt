@@ -51,7 +51,9 @@ impl Session {
         edit: &GroupEdit,
     ) -> Result<(), Refusal>
         requires ready { AreReady self.old.groups (B.state bay.old) }
-        ensures edits { IsMountedName self.old name.now → EditsGroup name.now edit.now result self.old self.new (B.state bay.old) (B.state bay.new) }
+        ensures edits { IsMountedName self.old name.now
+            → EditsGroup name.now edit.now result self.old self.new (B.state bay.old)
+            (B.state bay.new) }
         ensures carries { CarriesOn self.old self.new (B.state bay.old) (B.state bay.new) }
         ensures apart { AreNamesApart self.old.entries }
         ensures paired { length self.old.groups ≡ length self.old.entries }

@@ -28,7 +28,8 @@ pub fn put_slots(disks: &[Option<Attached>], slots: &mut Vec<u32>) -> Result<(),
 
 /// Puts the disks of a record's entries behind others.
 fn put_taken(status: &PstRecord, taken: &mut Vec<Taken>) -> Result<(), NoMemory>
-    ensures { OnOk result (taken.new.items ≡ taken.old.items ++ map (taken_of status.now.id) status.now.entries) }
+    ensures { OnOk result (taken.new.items
+        ≡ taken.old.items ++ map (taken_of status.now.id) status.now.entries) }
 {
     for entry in status.entries() {
         put_disk(taken, taken_of(status.id, entry))?;

@@ -104,7 +104,8 @@ fn join_mounted<B: Bay, J: Attaching + Drop>(
     requires few { length paths.now ≤ 512 }
     requires takes { Takes m.old (B.state bay.old) }
     requires mounted { IsMounted m.old }
-    ensures keeps { TakesIn (others_of m.old.disks known.held.items) m.old m.new (B.state bay.old) (B.state bay.new) }
+    ensures keeps { TakesIn (others_of m.old.disks known.held.items) m.old m.new (B.state bay.old)
+        (B.state bay.new) }
 {
     match known_beside(alloc, m.disks(), known) {
         Ok(known) => {
@@ -127,7 +128,8 @@ fn join_on<B: Bay, J: Attaching + Drop>(
 ) -> Result<DiskSet, Refusal>
     requires few { length paths.now ≤ 512 }
     requires takes { Takes m.old (B.state bay.old) }
-    ensures keeps { IsMounted m.old → TakesIn (others_of m.old.disks known.held.items) m.old m.new (B.state bay.old) (B.state bay.new) }
+    ensures keeps { IsMounted m.old → TakesIn (others_of m.old.disks known.held.items) m.old m.new
+        (B.state bay.old) (B.state bay.new) }
     ensures idle { (IsMounted m.old → ⊥) → (m.new ≡ m.old) × (bay.new ≡ bay.old) }
     ensures found { OnOk result (IsMounted m.old) }
     ensures shut { IfErr result (λ refusal. IsMounted m.old ⊎ IsShut m.old.access refusal) }

@@ -49,7 +49,8 @@ fn work_on<B: Bay, W: GroupWork + Drop>(
     ensures keeps { IsMounted m.old → LetsGo m.old m.new (B.state bay.old) (B.state bay.new) }
     ensures idle { (IsMounted m.old → ⊥) → (m.new ≡ m.old) × (bay.new ≡ bay.old) }
     ensures found { OnOk result (IsMounted m.old) }
-    ensures does { IsMounted m.old → W.does work m.old result m.new (B.state bay.old) (B.state bay.new) }
+    ensures does { IsMounted m.old → W.does work m.old result m.new (B.state bay.old)
+        (B.state bay.new) }
     ensures shut { IfErr result (λ refusal. IsMounted m.old ⊎ IsShut m.old.access refusal) }
 {
     match m.takes_calls() {
@@ -62,7 +63,8 @@ impl Session {
     /// The mounted group of a name. NoGroup where it isn't in the session, and Dismounted where it is so.
     pub fn mounted(&self, alloc: Global, name: &Name) -> Result<&Mounted, Refusal>
         ensures found { IfOk result (λ m. IsGroupOf self.now name.now m.now) }
-        ensures entered { OnOk result (is_mounted_as (entry_among self.now.entries name.now) ≡ true) }
+        ensures entered { OnOk result (is_mounted_as (entry_among self.now.entries name.now)
+            ≡ true) }
         ensures cause { IfErr result (IsOutCause self.now.entries name.now) }
     {
         let Some(entry) = self.groups.get(SoughtName { name }) else {
@@ -83,7 +85,8 @@ impl Session {
         work: W,
     ) -> Result<W::Given, Refusal>
         requires ready { AreReady self.old.groups (B.state bay.old) }
-        ensures { WorksOn name.now (W.does work) result self.old self.new (B.state bay.old) (B.state bay.new) }
+        ensures { WorksOn name.now (W.does work) result self.old self.new (B.state bay.old)
+            (B.state bay.new) }
     {
         self.shows_names();
         let Some(entry) = self.groups.get_mut(SoughtName { name }) else {

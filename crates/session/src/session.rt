@@ -182,9 +182,12 @@ impl Session {
         requires mounted { IsMounted group }
         ensures given { self.new.given ≡ given_after self.old.given made }
         ensures place { self.new.place ≡ self.old.place }
-        ensures entered { OnOk result (self.new.entries ≡ self.old.entries ++ entries_of name made) }
-        ensures groups { OnOk result (self.new.groups ≡ self.old.groups ++ new_group_if_any made group) }
-        ensures refused { OnErr result ((self.new.entries ≡ self.old.entries) × (self.new.groups ≡ self.old.groups)) }
+        ensures entered { OnOk result (self.new.entries
+            ≡ self.old.entries ++ entries_of name made) }
+        ensures groups { OnOk result (self.new.groups
+            ≡ self.old.groups ++ new_group_if_any made group) }
+        ensures refused { OnErr result ((self.new.entries ≡ self.old.entries)
+            × (self.new.groups ≡ self.old.groups)) }
     {
         self.gave(made);
         match made {
@@ -202,9 +205,13 @@ impl Session {
         requires mounted { IsMounted group }
         ensures place { self.new.place ≡ self.old.place }
         ensures given { OnOk result (self.old.given ≤ self.new.given) }
-        ensures entered { OnOk result (self.new.entries ≡ without_entry self.old.entries group.name ++ mounted_entry group.name group.register.value.id ∷ []) }
-        ensures groups { OnOk result (self.new.groups ≡ without_groups self.old.entries self.old.groups group.name ++ group ∷ []) }
-        ensures refused { OnErr result ((self.new.groups ≡ self.old.groups) ⊎ (self.new.groups ≡ without_groups self.old.entries self.old.groups group.name)) }
+        ensures entered { OnOk result (self.new.entries
+            ≡ without_entry self.old.entries group.name
+            ++ mounted_entry group.name group.register.value.id ∷ []) }
+        ensures groups { OnOk result (self.new.groups
+            ≡ without_groups self.old.entries self.old.groups group.name ++ group ∷ []) }
+        ensures refused { OnErr result ((self.new.groups ≡ self.old.groups)
+            ⊎ (self.new.groups ≡ without_groups self.old.entries self.old.groups group.name)) }
     {
         match group.name().copy() {
             Ok(name) => {
@@ -236,9 +243,11 @@ impl Session {
         requires mounted { IsMounted group }
         ensures given { self.new.given ≡ self.old.given }
         ensures place { self.new.place ≡ self.old.place }
-        ensures entered { OnOk result (self.new.entries ≡ self.old.entries ++ mounted_entry name id ∷ []) }
+        ensures entered { OnOk result (self.new.entries
+            ≡ self.old.entries ++ mounted_entry name id ∷ []) }
         ensures groups { OnOk result (self.new.groups ≡ self.old.groups ++ group ∷ []) }
-        ensures refused { OnErr result ((self.new.entries ≡ self.old.entries) × (self.new.groups ≡ self.old.groups)) }
+        ensures refused { OnErr result ((self.new.entries ≡ self.old.entries)
+            × (self.new.groups ≡ self.old.groups)) }
     {
         let key = GroupName { name };
         match put(&mut self.groups, key, Entry { id, group }) {
@@ -251,7 +260,8 @@ impl Session {
     pub fn leave(&mut self, name: &Name) -> bool
         ensures found { result ≡ is_some (entry_among self.old.entries name.now) }
         ensures left { self.new.entries ≡ without_entry self.old.entries name.now }
-        ensures groups { self.new.groups ≡ without_groups self.old.entries self.old.groups name.now }
+        ensures groups { self.new.groups ≡ without_groups self.old.entries self.old.groups
+            name.now }
         ensures paired { length self.old.groups ≡ length self.old.entries }
         ensures place { self.new.place ≡ self.old.place }
         ensures given { self.new.given ≡ self.old.given }

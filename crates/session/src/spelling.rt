@@ -26,7 +26,8 @@ fn spelt_disk(alloc: Global, m: &Mounted, disk: DiskRef) -> Result<DiskRef, NoMe
 }
 
 fn spelt_refusal(alloc: Global, m: &Mounted, refusal: Refusal) -> Result<Refusal, NoMemory>
-    ensures { IfOk result (λ spelt. meaning_of (λ _. []) spelt ≡ meaning_of (disk_name m.now) refusal) }
+    ensures { IfOk result (λ spelt. meaning_of (λ _. []) spelt
+        ≡ meaning_of (disk_name m.now) refusal) }
 {
     Ok(match refusal {
         Refusal::NoDisk { text } => Refusal::NoDisk {
@@ -64,7 +65,8 @@ fn spelt_refusal(alloc: Global, m: &Mounted, refusal: Refusal) -> Result<Refusal
 
 /// A refusal of a call on a group, with the names of the disks that it has by number.
 pub fn spelt(alloc: Global, m: &Mounted, refusal: Refusal) -> Refusal
-    ensures { (meaning_of (λ _. []) result ≡ meaning_of (disk_name m.now) refusal) ⊎ (meaning_of (λ _. []) result ≡ WantOfMemory) }
+    ensures { (meaning_of (λ _. []) result ≡ meaning_of (disk_name m.now) refusal)
+        ⊎ (meaning_of (λ _. []) result ≡ WantOfMemory) }
 {
     match spelt_refusal(alloc, m, refusal) {
         Ok(spelt) => spelt,

@@ -27,7 +27,8 @@ impl Session {
     ) -> Turned
         requires ready { AreReady self.old.groups (B.state bay.old) }
         ensures idle { OnIdle result ((self.new ≡ self.old) × (bay.new ≡ bay.old)) }
-        ensures carries { OnWork result (CarriesOn self.old self.new (B.state bay.old) (B.state bay.new)) }
+        ensures carries { OnWork result (CarriesOn self.old self.new (B.state bay.old)
+            (B.state bay.new)) }
         ensures line { OnEvent result (HasLine self.old.groups (when_of turn) line.new) }
     {
         match self.groups.get_index_mut(place) {

@@ -11,7 +11,8 @@ use asm_base::{Key, Value};
 /// The marks that the value of a record spells, or None where it spells none.
 pub(crate) fn marks_in(key: Key, value: &Value) -> Option<Marks>
     requires { IsTrue (is_marks key) }
-    ensures { entry_of_record marks_of_item (key, value.now) ≡ option_map (λ marks. ((key.a, key.b), marks)) result }
+    ensures { entry_of_record marks_of_item (key, value.now)
+        ≡ option_map (λ marks. ((key.a, key.b), marks)) result }
 {
     read_marks(key.b, value.as_bytes())
 }

@@ -67,7 +67,8 @@ fn lost_of(
 ) -> Option<Member>
     requires holders { AreHolders entries.now members.now }
     requires majority { shortfall members.now (disks_of entries.now set ∷ []) ≡ None }
-    ensures { MatchOption result (shortfall took.now (disks_of entries.now set ∷ []) ≡ None) (λ m. IsLostOf members.now took.now (disks_of entries.now set) m) }
+    ensures { MatchOption result (shortfall took.now (disks_of entries.now set ∷ []) ≡ None)
+        (λ m. IsLostOf members.now took.now (disks_of entries.now set) m) }
 {
     match lacking(took, entries, set) {
         Some(_) => first_failed_of(members, took, set),
@@ -85,7 +86,9 @@ fn lost(
 ) -> Option<Member>
     requires holders { AreHolders entries.now members.now }
     requires majority { shortfall members.now (sets_of entries.now holders next_holders) ≡ None }
-    ensures { MatchOption result (shortfall took.now (sets_of entries.now holders next_holders) ≡ None) (λ m. IsLostMember members.now took.now (sets_of entries.now holders next_holders) m) }
+    ensures { MatchOption result (shortfall took.now (sets_of entries.now holders next_holders)
+        ≡ None) (λ m. IsLostMember members.now took.now (sets_of entries.now holders next_holders)
+        m) }
 {
     match lost_of(members, took, entries, holders) {
         Some(member) => Some(member),
@@ -103,7 +106,8 @@ fn lost(
 pub fn lost_disk(members: &[Member], took: &[Member], status: &PstRecord) -> Option<Member>
     requires holders { AreHolders status.now.entries members.now }
     requires majority { missing members.now (Some status.now) ≡ None }
-    ensures { MatchOption result (missing took.now (Some status.now) ≡ None) (λ m. IsLostMember members.now took.now (sets status.now) m) }
+    ensures { MatchOption result (missing took.now (Some status.now) ≡ None)
+        (λ m. IsLostMember members.now took.now (sets status.now) m) }
 {
     lost(
         members,

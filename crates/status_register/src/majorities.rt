@@ -49,7 +49,8 @@ fn count_disk(
     requires seen { presence.seen ≤ presence.all }
     requires all { presence.all ≤ disk }
     requires disk { disk < 64 }
-    ensures seen { result.seen ≡ presence.seen + seen_of members.now (of_disk entries.now set disk) }
+    ensures seen { result.seen ≡ presence.seen
+        + seen_of members.now (of_disk entries.now set disk) }
     ensures all { result.all ≡ presence.all + length (of_disk entries.now set disk) }
     ensures few { result.all ≤ presence.all + 1 }
     ensures fewer { result.seen ≤ result.all }

@@ -38,7 +38,8 @@ fn epoch_of(id: u64, said: &Option<Option<Claim>>) -> u64
 
 /// The greatest epoch of the group's claims in both slots, or 0.
 fn epoch_in_both(id: u64, first: &Option<Option<Claim>>, second: &Option<Option<Claim>>) -> u64
-    ensures { result ≡ greatest_epoch (claims_of_group id (none_or_one first.now ++ none_or_one second.now)) }
+    ensures { result ≡ greatest_epoch (claims_of_group id
+        (none_or_one first.now ++ none_or_one second.now)) }
 {
     epoch_of(id, first).max(epoch_of(id, second))
 }

@@ -123,7 +123,8 @@ impl Register {
         requires slots { HaveSlots (B.state bay.old) members.now }
         requires apart { HaveOwnSlots members.now }
         requires numbers { AreNumbered members.now }
-        requires holders { (h : Holder) → IsAmong (disks_of value.now.entries value.now.holders) h → IsTrue (is_holder_there members.now h) }
+        requires holders { (h : Holder) → IsAmong (disks_of value.now.entries value.now.holders) h
+            → IsTrue (is_holder_there members.now h) }
         ensures { WritesFirst value.now members.now result (B.state bay.old) (B.state bay.new) }
     {
         let places = by_number(members, value.entries());

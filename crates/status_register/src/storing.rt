@@ -60,7 +60,8 @@ fn put_on<B: Bay>(
 ) -> MemberList
     requires slots { HasSlots (B.state bay.old) member.slot member.sector }
     requires room { length took < 512 }
-    ensures takes { TakesMember (next_gate pair id) member body.now.bytes took result (B.state bay.old) (B.state bay.new) }
+    ensures takes { TakesMember (next_gate pair id) member body.now.bytes took result
+        (B.state bay.old) (B.state bay.new) }
     ensures calls { Calls (IsSlot member.slot) (MayPutNext (next_gate pair id) member.slot body.now.bytes)
         (cost 13 (2 * member.sector + 4096)) (B.state bay.old) (B.state bay.new) }
 {
@@ -81,7 +82,8 @@ pub fn put_on_all<B: Bay>(
     requires slots { HaveSlots (B.state bay.old) members.now }
     requires few { length members.now ≤ 512 }
     requires apart { HaveOwnSlots members.now }
-    ensures { PutsOnAll pair id members.now body.now.bytes result (B.state bay.old) (B.state bay.new) }
+    ensures { PutsOnAll pair id members.now body.now.bytes result (B.state bay.old)
+        (B.state bay.new) }
 {
     let mut took = MemberList::empty();
     for member in members {

@@ -52,8 +52,10 @@ pub fn write_on_majorities<B: Bay>(
     requires apart { HaveOwnSlots holders.now }
     requires holders { AreHolders status.now.entries holders.now }
     requires majority { missing holders.now (Some status.now) ≡ None }
-    ensures answer { IsWriteAnswer holders.now status.now result (B.state bay.old) (B.state bay.new) }
-    ensures calls { CallsInOrder (status_gate id) holders.now (status_spelling status.now) (B.state bay.old) (B.state bay.new) }
+    ensures answer { IsWriteAnswer holders.now status.now result (B.state bay.old)
+        (B.state bay.new) }
+    ensures calls { CallsInOrder (status_gate id) holders.now (status_spelling status.now)
+        (B.state bay.old) (B.state bay.new) }
 {
     let body = body_of(status);
     let took = put_on_all(bay, SlotPair::Records, id, holders, &body);
@@ -96,8 +98,10 @@ pub fn write_record<B: Bay>(
     requires slots { HoldSlots (B.state bay.old) places.now }
     requires apart { SlotsDiffer places.now }
     requires majority { missing (attached_to places.now status.now) (Some status.now) ≡ None }
-    ensures answer { IsWriteAnswer (attached_to places.now status.now) status.now result (B.state bay.old) (B.state bay.new) }
-    ensures calls { CallsInOrder (status_gate id) (attached_to places.now status.now) (status_spelling status.now) (B.state bay.old) (B.state bay.new) }
+    ensures answer { IsWriteAnswer (attached_to places.now status.now) status.now result
+        (B.state bay.old) (B.state bay.new) }
+    ensures calls { CallsInOrder (status_gate id) (attached_to places.now status.now)
+        (status_spelling status.now) (B.state bay.old) (B.state bay.new) }
 {
     let holders = attached_to(places, status);
     write_on_majorities(bay, id, holders.members(), status)

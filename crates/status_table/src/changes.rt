@@ -16,7 +16,8 @@ pub fn majority(status: &PstRecord) -> u8
 
 /// How many next holders are more than half of them, and 0 where there are none.
 pub fn next_majority(status: &PstRecord) -> u8
-    ensures { result ≡ (if status.now.next_holders == 0 then 0 else majority_of status.now.next_holders) }
+    ensures { result ≡ (if status.now.next_holders == 0 then 0
+        else majority_of status.now.next_holders) }
 {
     let next = status.next_holders;
     if next.bits() == 0 {
@@ -35,7 +36,8 @@ fn majority_of(set: DiskSet) -> u8
 pub fn with_dirs(status: &PstRecord, dirs: DiskSet) -> PstRecord
     ensures value { result ≡ record status.now { directories = dirs } }
     // A record of the format stays one where each of these disks has an entry.
-    ensures kept { IsTrue (is_status status.now) → IsTrue (have_entries status.now.entries dirs) → IsTrue (is_status result) }
+    ensures kept { IsTrue (is_status status.now) → IsTrue (have_entries status.now.entries dirs)
+        → IsTrue (is_status result) }
 {
     let _bits = dirs.bits();
     with_dirs_only(status, dirs)
@@ -45,7 +47,8 @@ pub fn with_dirs(status: &PstRecord, dirs: DiskSet) -> PstRecord
 pub fn with_next_holders(status: &PstRecord, next: DiskSet) -> PstRecord
     ensures value { result ≡ record status.now { next_holders = next } }
     // A record of the format stays one where each of these disks has an entry.
-    ensures kept { IsTrue (is_status status.now) → IsTrue (have_entries status.now.entries next) → IsTrue (is_status result) }
+    ensures kept { IsTrue (is_status status.now) → IsTrue (have_entries status.now.entries next)
+        → IsTrue (is_status result) }
 {
     let _bits = next.bits();
     with_next_holders_only(status, next)
@@ -55,7 +58,8 @@ pub fn with_next_holders(status: &PstRecord, next: DiskSet) -> PstRecord
 pub fn with_holders(status: &PstRecord, holders: DiskSet) -> PstRecord
     ensures value { result ≡ record status.now { holders = holders; next_holders = 0 } }
     // A record of the format stays one where each of these disks has an entry.
-    ensures kept { IsTrue (is_status status.now) → IsTrue (have_entries status.now.entries holders) → IsTrue (is_status result) }
+    ensures kept { IsTrue (is_status status.now) → IsTrue (have_entries status.now.entries holders)
+        → IsTrue (is_status result) }
 {
     let _bits = holders.bits();
     with_holders_only(status, holders)

@@ -95,7 +95,8 @@ pub fn with_entry(status: &PstRecord, entry: PstEntry) -> PstRecord
     requires room { length status.now.entries < 64 }
     ensures value { result ≡ status_with_entry status.now entry }
     // A record of the format stays one where the entry is one of the format, and no other has its number.
-    ensures kept { IsTrue (is_entry entry) → has_entry status.now.entries entry.number ≡ false → IsTrue (is_status status.now) → IsTrue (is_status result) }
+    ensures kept { IsTrue (is_entry entry) → has_entry status.now.entries entry.number ≡ false
+        → IsTrue (is_status status.now) → IsTrue (is_status result) }
 {
     with_entry_only(status, entry)
 }
@@ -104,7 +105,8 @@ pub fn with_entry(status: &PstRecord, entry: PstEntry) -> PstRecord
 pub fn without_entry(status: &PstRecord, disk: u8) -> PstRecord
     ensures value { result ≡ status_without_entry status.now disk }
     // A record of the format stays one where the disk is in none of its sets.
-    ensures kept { (IsInSomeSet status.now disk → ⊥) → IsTrue (is_status status.now) → IsTrue (is_status result) }
+    ensures kept { (IsInSomeSet status.now disk → ⊥) → IsTrue (is_status status.now)
+        → IsTrue (is_status result) }
 {
     without_entry_only(status, disk)
 }
@@ -129,7 +131,8 @@ pub fn with_entries(status: &PstRecord, count: u8, entries: [PstEntry; 64]) -> P
 }
 
 fn with_change(status: &PstRecord, disk: u8, change: EntryChange) -> PstRecord
-    ensures { result ≡ record status.now { entries = map (entry_with disk change) status.now.entries } }
+    ensures { result ≡ record status.now
+        { entries = map (entry_with disk change) status.now.entries } }
 {
     let entries = status.entries();
     let items = entries_with_change(entries, disk, change);
@@ -181,7 +184,8 @@ fn changed(entry: PstEntry, change: EntryChange) -> PstEntry
 fn with_partners_only(status: &PstRecord, partners: &[DiskSet]) -> PstRecord
     requires { length partners.now ≡ length status.now.entries }
     ensures value { result ≡ status_with_partners status.now partners.now }
-    ensures kept { list_all is_entry status.now.entries ≡ true → list_all is_entry (entries_with_partners status.now.entries partners.now) ≡ true }
+    ensures kept { list_all is_entry status.now.entries ≡ true
+        → list_all is_entry (entries_with_partners status.now.entries partners.now) ≡ true }
 {
     let entries = status.entries();
     let items = entries_with_partners(entries, partners);
@@ -192,8 +196,10 @@ fn with_partners_only(status: &PstRecord, partners: &[DiskSet]) -> PstRecord
 fn entries_with_partners(entries: &[PstEntry], partners: &[DiskSet]) -> [PstEntry; 64]
     requires few { length entries.now ≤ 64 }
     requires same_length { length partners.now ≡ length entries.now }
-    ensures value { take (length entries.now) result ≡ entries_with_partners entries.now partners.now }
-    ensures kept { list_all is_entry entries.now ≡ true → list_all is_entry (take (length entries.now) result) ≡ true }
+    ensures value { take (length entries.now) result
+        ≡ entries_with_partners entries.now partners.now }
+    ensures kept { list_all is_entry entries.now ≡ true
+        → list_all is_entry (take (length entries.now) result) ≡ true }
 {
     let mut changed = [PstEntry::blank(); 64];
     for (i, entry) in entries.iter().enumerate() {
@@ -271,7 +277,8 @@ fn without_entry_only(status: &PstRecord, disk: u8) -> PstRecord
 fn entries_without(entries: &[PstEntry], disk: u8) -> Entries
     requires { length entries.now ≤ 64 }
     ensures few { result.count ≤ 64 }
-    ensures left { take result.count result.items ≡ filter (λ e. not (e.number == disk)) entries.now }
+    ensures left { take result.count result.items
+        ≡ filter (λ e. not (e.number == disk)) entries.now }
 {
     let mut made = Entries {
         count: 0,
@@ -287,7 +294,8 @@ fn entries_without(entries: &[PstEntry], disk: u8) -> Entries
 fn with_other(made: Entries, entry: PstEntry, disk: u8) -> Entries
     requires room { made.count < 64 }
     ensures few { result.count ≤ made.count + 1 }
-    ensures left { take result.count result.items ≡ take made.count made.items ++ filter (λ e. not (e.number == disk)) (entry ∷ []) }
+    ensures left { take result.count result.items
+        ≡ take made.count made.items ++ filter (λ e. not (e.number == disk)) (entry ∷ []) }
 {
     if entry.number != disk {
         let mut items = made.items;

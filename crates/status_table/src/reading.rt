@@ -117,7 +117,8 @@ fn take_next(from: &mut Reader, version: Version) -> Option<DiskSet>
 #[tactic(auto, using(asm_base::proofs::Loops::stores, asm_base::proofs::Loops::fails, asm_base::proofs::Loops::is_done))]
 fn take_entries(from: &mut Reader, count: u8) -> Option<[PstEntry; 64]>
     requires { count ≤ 64 }
-    ensures { ReadsBy (λ xs. take count xs) from.new result (repeated count entry_reading from.old) }
+    ensures { ReadsBy (λ xs. take count xs) from.new result
+        (repeated count entry_reading from.old) }
 {
     let mut entries = [PstEntry::blank(); 64];
     for i in 0..count {

@@ -44,7 +44,8 @@ fn put_record(to: &mut Writer, status: &PstRecord)
 fn put_entries(to: &mut Writer, entries: &[PstEntry])
     requires few { length entries.now ≤ 64 }
     requires room { to.old.at + 1 + 40 * length entries.now ≤ 4096 }
-    ensures puts { PutsField to.old to.new (length entries.now ∷ flat_map entry_fields entries.now) }
+    ensures puts { PutsField to.old to.new (length entries.now
+        ∷ flat_map entry_fields entries.now) }
     ensures at { to.new.at ≡ to.old.at + 1 + 40 * length entries.now }
 {
     put_u8(to, entries.len() as u8);

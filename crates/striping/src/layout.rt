@@ -70,7 +70,8 @@ pub fn extent_of(layout: Layout, offset: u64) -> (u64, u64)
     // It lies nowhere else.
     ensures only { (i q : ℕ) → LaysByteAt layout offset i q → (i ≡ result.0) × (q ≡ result.1) }
     // Whole extents have the bytes before their end, and no others.
-    ensures whole { (n : ℕ) → n % extents_at_once layout.stripe ≡ 0 → (result.0 < n) ↔ (offset < start layout.au layout.step n) }
+    ensures whole { (n : ℕ) → n % extents_at_once layout.stripe ≡ 0 → (result.0 < n)
+        ↔ (offset < start layout.au layout.step n) }
 {
     place_of(layout, offset)
 }
@@ -97,7 +98,8 @@ fn place_of(layout: Layout, offset: u64) -> (u64, u64)
 pub fn extents_for(layout: Layout, size: u64) -> u64
     requires { IsAllowedLayout layout }
     // The file has the extents below this number, and no others.
-    ensures has { (i : ℕ) → (i < result) ↔ IsTrue (has_extent_by_size layout.stripe layout.au layout.step size i) }
+    ensures has { (i : ℕ) → (i < result) ↔ IsTrue
+        (has_extent_by_size layout.stripe layout.au layout.step size i) }
 {
     if size == 0 {
         return 0;

@@ -17,9 +17,13 @@ impl TemplateTable {
     /// is no memory, the table stays.
     #[tactic(auto, using(crate::proofs::ReadingLaws::said_templates_allowed, crate::proofs::ReadingLaws::said_settings_allowed, crate::proofs::ChangeLaws::templates_put, crate::proofs::ChangeLaws::settings_put))]
     pub fn put_record(&mut self, alloc: Global, key: Key, value: &Value) -> Result<bool, NoMemory>
-        ensures put { IfOk result (λ put. OnTrue put ((k : FormatKey) → template_value_at self.new k ≡ (if is_same_key key k then Some value.now else template_value_at self.old k))) }
-        ensures no_templates { IfOk result (λ put. OnFalse put (entry_of_record templates_said (key, value.now) ≡ None)) }
-        ensures no_settings { IfOk result (λ put. OnFalse put (entry_of_record settings_said (key, value.now) ≡ None)) }
+        ensures put { IfOk result (λ put. OnTrue put
+            ((k : FormatKey) → template_value_at self.new k
+            ≡ (if is_same_key key k then Some value.now else template_value_at self.old k))) }
+        ensures no_templates { IfOk result (λ put. OnFalse put
+            (entry_of_record templates_said (key, value.now) ≡ None)) }
+        ensures no_settings { IfOk result (λ put. OnFalse put
+            (entry_of_record settings_said (key, value.now) ≡ None)) }
         ensures stays { IfOk result (λ put. OnFalse put (self.new ≡ self.old)) }
         ensures err { OnErr result (self.new ≡ self.old) }
     {

@@ -55,8 +55,11 @@ impl TemplateTable {
     /// `Err` the table is as it was.
     pub fn edit(&mut self, kind: GroupKind, edit: &TemplateEdit) -> Result<(), Refusal>
         requires { IsTrue (is_template_edit (template_edit_meant edit.now)) }
-        ensures done { OnOk result (templates_edited kind (templates_by_name self.old.templates) (template_edit_meant edit.now) ≡ Ok (templates_by_name self.new.templates)) }
-        ensures refused { IfErr result (IsTemplateEditRefusal (templates_edited kind (templates_by_name self.old.templates) (template_edit_meant edit.now))) }
+        ensures done { OnOk result (templates_edited kind (templates_by_name self.old.templates)
+            (template_edit_meant edit.now) ≡ Ok (templates_by_name self.new.templates)) }
+        ensures refused { IfErr result (IsTemplateEditRefusal
+            (templates_edited kind (templates_by_name self.old.templates)
+            (template_edit_meant edit.now))) }
         ensures unchanged { OnErr result (self.new ≡ self.old) }
         ensures settings { self.new.settings ≡ self.old.settings }
     {
@@ -72,7 +75,8 @@ impl TemplateTable {
     /// Why an edit is refused, or None where it isn't.
     #[tactic(auto, unfolding(refusal_lines::specs::Refusals::meaning_of))]
     fn refusal(&self, kind: GroupKind, edit: &TemplateEdit) -> Option<Refusal>
-        ensures cause { option_map refusal_said result ≡ listed_cause kind self.now.templates (template_edit_meant edit.now) }
+        ensures cause { option_map refusal_said result
+            ≡ listed_cause kind self.now.templates (template_edit_meant edit.now) }
         ensures allowed { is_item (templates_item self.now.templates) ≡ true }
     {
         match edit {
@@ -110,7 +114,9 @@ impl TemplateTable {
     fn apply(&mut self, kind: GroupKind, edit: &TemplateEdit) -> Result<(), NoMemory>
         requires edit { IsTrue (is_template_edit (template_edit_meant edit.now)) }
         requires free { listed_cause kind self.old.templates (template_edit_meant edit.now) ≡ None }
-        ensures ok { OnOk result (templates_by_name self.new.templates ≡ with_template_edit kind (templates_by_name self.old.templates) (template_edit_meant edit.now)) }
+        ensures ok { OnOk result (templates_by_name self.new.templates
+            ≡ with_template_edit kind (templates_by_name self.old.templates)
+            (template_edit_meant edit.now)) }
         ensures err { OnErr result (self.new ≡ self.old) }
         ensures settings { self.new.settings ≡ self.old.settings }
     {
@@ -142,7 +148,9 @@ impl TemplateTable {
     ) -> Result<(), NoMemory>
         requires edit { is_template_edit (Add name.now copies stripe) ≡ true }
         requires free { listed_cause kind self.old.templates (Add name.now copies stripe) ≡ None }
-        ensures ok { OnOk result (templates_by_name self.new.templates ≡ with_template_edit kind (templates_by_name self.old.templates) (Add name.now copies stripe)) }
+        ensures ok { OnOk result (templates_by_name self.new.templates
+            ≡ with_template_edit kind (templates_by_name self.old.templates)
+            (Add name.now copies stripe)) }
         ensures err { OnErr result (self.new ≡ self.old) }
         ensures settings { self.new.settings ≡ self.old.settings }
     {
@@ -160,8 +168,11 @@ impl TemplateTable {
         stripe: Stripe,
     ) -> Result<(), NoMemory>
         requires edit { is_template_edit (Modify name.now copies stripe) ≡ true }
-        requires free { listed_cause kind self.old.templates (Modify name.now copies stripe) ≡ None }
-        ensures ok { OnOk result (templates_by_name self.new.templates ≡ with_template_edit kind (templates_by_name self.old.templates) (Modify name.now copies stripe)) }
+        requires free { listed_cause kind self.old.templates (Modify name.now copies stripe)
+            ≡ None }
+        ensures ok { OnOk result (templates_by_name self.new.templates
+            ≡ with_template_edit kind (templates_by_name self.old.templates)
+            (Modify name.now copies stripe)) }
         ensures err { OnErr result (self.new ≡ self.old) }
         ensures settings { self.new.settings ≡ self.old.settings }
     {
@@ -175,7 +186,8 @@ impl TemplateTable {
 
     #[tactic(auto, using(crate::proofs::EditLaws::dropped_is))]
     fn take_away(&mut self, name: &Name)
-        ensures done { (kind : GroupKind) → templates_by_name self.new.templates ≡ with_template_edit kind (templates_by_name self.old.templates) (Drop name.now) }
+        ensures done { (kind : GroupKind) → templates_by_name self.new.templates
+            ≡ with_template_edit kind (templates_by_name self.old.templates) (Drop name.now) }
         ensures settings { self.new.settings ≡ self.old.settings }
     {
         let _ = self.remove(name);
@@ -196,7 +208,8 @@ fn made(name: Name, copies: u8, stripe: Stripe, system: bool) -> Template
 /// The refusal of one template more, where there are as many as there may be.
 #[tactic(auto, unfolding(refusal_lines::specs::Refusals::meaning_of))]
 fn full(count: usize) -> Option<Refusal>
-    ensures { option_map refusal_said result ≡ (if nat_le 64 count then Some (TooMany Templates 64) else None) }
+    ensures { option_map refusal_said result
+        ≡ (if nat_le 64 count then Some (TooMany Templates 64) else None) }
 {
     if count < MOST_TEMPLATES {
         return None;

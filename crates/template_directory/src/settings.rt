@@ -72,7 +72,8 @@ impl Settings {
 }
 
 fn have_texts(settings: &Settings) -> bool
-    ensures { result ≡ (is_text settings.now.attributes.asm && (is_text settings.now.attributes.rdbms && is_text settings.now.attributes.advm)) }
+    ensures { result ≡ (is_text settings.now.attributes.asm
+        && (is_text settings.now.attributes.rdbms && is_text settings.now.attributes.advm)) }
 {
     is_text(settings.asm.as_slice())
         && is_text(settings.rdbms.as_slice())

@@ -99,7 +99,10 @@ impl TemplateTable {
     pub fn put(&mut self, template: Template) -> Result<(), NoMemory>
         requires allowed { IsTrue (is_template template) }
         requires room { IsTrue (has_room_for_template template.name self.old.templates) }
-        ensures ok { OnOk result (self.new ≡ record { templates = with_template_in_order template self.old.templates; settings = self.old.settings }) }
+        ensures ok { OnOk result (self.new ≡ record {
+          templates = with_template_in_order template self.old.templates;
+          settings = self.old.settings;
+        }) }
         ensures err { OnErr result (self.new ≡ self.old) }
     {
         put_in(&mut self.templates, template)
@@ -109,7 +112,10 @@ impl TemplateTable {
     #[tactic(auto, using(crate::proofs::Listing::ascends, crate::proofs::Listing::without_allowed))]
     pub fn remove(&mut self, name: &Name) -> bool
         ensures there { result ≡ is_some (template_named name.now self.old.templates) }
-        ensures after { self.new ≡ record { templates = without_template name.now self.old.templates; settings = self.old.settings } }
+        ensures after { self.new ≡ record {
+          templates = without_template name.now self.old.templates;
+          settings = self.old.settings;
+        } }
     {
         remove_from(&mut self.templates, name)
     }
@@ -125,7 +131,8 @@ impl TemplateTable {
 
     /// Puts the two records into a change. After an `Err` one of them may stand there.
     pub fn to_records(&self, alloc: Global, change: &mut Change) -> Result<(), NoMemory>
-        ensures put { OnOk result (change.new.put ≡ change.old.put ++ records_of_templates self.now) }
+        ensures put { OnOk result (change.new.put
+            ≡ change.old.put ++ records_of_templates self.now) }
         ensures gone { change.new.gone ≡ change.old.gone }
     {
         let templates = templates_value(alloc, self.list())?;
@@ -140,9 +147,12 @@ impl TemplateTable {
     /// another of their kinds.
     pub fn from_records(alloc: Global, records: &Records) -> Result<Option<TemplateTable>, NoMemory>
         // What is read is a table that has these records.
-        ensures found { IfOk result (λ read. IfSome read (λ t. IsTemplateTable t × (of_kinds is_key_of_templates records.now ≡ records_of_templates t))) }
+        ensures found { IfOk result (λ read. IfSome read
+            (λ t. IsTemplateTable t × (of_kinds is_key_of_templates records.now
+            ≡ records_of_templates t))) }
         // A table that has these records is read.
-        ensures only { IfOk result (λ read. (t : Table) → IsTemplateTable t → of_kinds is_key_of_templates records.now ≡ records_of_templates t → read ≡ Some t) }
+        ensures only { IfOk result (λ read. (t : Table) → IsTemplateTable t
+            → of_kinds is_key_of_templates records.now ≡ records_of_templates t → read ≡ Some t) }
     {
         TemplateTable::read(alloc, records)
     }
@@ -192,7 +202,8 @@ fn only_key(kind: u16) -> Key
 /// The next record of templates or settings.
 fn next_mine<'a>(left: &mut Iter<'a, Key, Value>) -> Option<(Key, &'a Value)>
     ensures none { IfNone result (of_kinds is_key_of_templates left.old ≡ []) }
-    ensures some { IfSome result (λ e. of_kinds is_key_of_templates left.old ≡ (e.0, e.1.now) ∷ of_kinds is_key_of_templates left.new) }
+    ensures some { IfSome result (λ e. of_kinds is_key_of_templates left.old
+        ≡ (e.0, e.1.now) ∷ of_kinds is_key_of_templates left.new) }
 {
     while let Some((key, value)) = left.next() {
         if is_mine(*key) {
@@ -255,7 +266,8 @@ fn has(templates: &[Template], name: &Name) -> bool
 
 fn put_in(templates: &mut Vec<Template>, template: Template) -> Result<(), NoMemory>
     requires { names_ascend templates.old.items ≡ true }
-    ensures ok { OnOk result (templates.new.items ≡ with_template_in_order template templates.old.items) }
+    ensures ok { OnOk result (templates.new.items
+        ≡ with_template_in_order template templates.old.items) }
     ensures err { OnErr result (templates.new.items ≡ templates.old.items) }
 {
     let index = place(templates, template.name());

@@ -47,7 +47,8 @@ fn put_templates(to: &mut Writer, templates: &[Template])
     requires few { length templates.now ≤ 64 }
     requires all { IsTrue (list_all is_template templates.now) }
     requires room { to.old.at + 1 + 34 * length templates.now ≤ 4096 }
-    ensures puts { PutsField to.old to.new (length templates.now ∷ flat_map template_fields templates.now) }
+    ensures puts { PutsField to.old to.new (length templates.now
+        ∷ flat_map template_fields templates.now) }
     ensures at { to.new.at ≡ to.old.at + 1 + 34 * length templates.now }
 {
     put_u8(to, templates.len() as u8);

@@ -188,7 +188,8 @@ pub fn parts_in_group(parts: List<Name>) -> Option<Path>
 /// The group and the path in it to which the path of a verb leads, but of `ls`, `cd`, `du` and `find`. None where a part
 /// isn't one, or the path comes to `+`: it names no group then.
 pub fn target(alloc: Global, place: &[Name], path: &[u8]) -> Result<Option<Path>, NoMemory>
-    ensures { IfOk result (λ led. option_map (λ p. (p.group, p.parts)) led ≡ target_from place.now path.now) }
+    ensures { IfOk result (λ led. option_map (λ p. (p.group, p.parts)) led
+        ≡ target_from place.now path.now) }
 {
     match resolve(alloc, place, path)? {
         Some(parts) => Ok(parts_in_group(parts)),

@@ -68,7 +68,11 @@ impl Line {
 
     /// The bytes of a word, behind a space where one has to stand there.
     fn word(self, word: &[u8]) -> Result<Line, NoMemory>
-        ensures { IfOk result (λ longer. longer ≡ record { bytes = self.bytes ++ (space_unless self.close ++ word.now); close = false }) }
+        ensures { IfOk result (λ longer. longer
+            ≡ record {
+              bytes = self.bytes ++ (space_unless self.close ++ word.now);
+              close = false;
+            }) }
     {
         let text = if self.close {
             self.bytes

@@ -18,7 +18,8 @@ use std::alloc::Global;
 
 /// A group's kind and REDUNDANCY, where one is said.
 fn write_group_kind(line: Line, kind: Option<GroupKind>) -> Result<Line, NoMemory>
-    ensures { IfOk result (λ longer. longer ≡ lines.with_value maybe_redundancy (lines.kind_words kind) line) }
+    ensures { IfOk result (λ longer. longer
+        ≡ lines.with_value maybe_redundancy (lines.kind_words kind) line) }
 {
     let word = match kind {
         Some(GroupKind::External) => b"EXTERNAL".as_slice(),
@@ -31,7 +32,8 @@ fn write_group_kind(line: Line, kind: Option<GroupKind>) -> Result<Line, NoMemor
 
 /// Attributes behind commas.
 fn write_more_attributes(mut line: Line, attributes: &[Attribute]) -> Result<Line, NoMemory>
-    ensures { IfOk result (λ longer. longer ≡ lines.put_more g.attribute attribute_value attributes.now line) }
+    ensures { IfOk result (λ longer. longer
+        ≡ lines.put_more g.attribute attribute_value attributes.now line) }
 {
     for attribute in attributes {
         line = write_attribute(line.mark(b',')?, attribute)?;
@@ -46,7 +48,8 @@ fn write_listed_attributes(
     first: &Attribute,
     others: &[Attribute],
 ) -> Result<Line, NoMemory>
-    ensures { IfOk result (λ longer. longer ≡ lines.with_value maybe_attributes (attributes_value (first.now ∷ others.now)) line) }
+    ensures { IfOk result (λ longer. longer
+        ≡ lines.with_value maybe_attributes (attributes_value (first.now ∷ others.now)) line) }
 {
     let line = write_attribute(line.key(b"ATTRIBUTE")?, first)?;
     write_more_attributes(line, others)
@@ -54,7 +57,8 @@ fn write_listed_attributes(
 
 /// ATTRIBUTE and attributes, where there is one.
 fn write_attributes(line: Line, attributes: &[Attribute]) -> Result<Line, NoMemory>
-    ensures { IfOk result (λ longer. longer ≡ lines.with_value maybe_attributes (attributes_value attributes.now) line) }
+    ensures { IfOk result (λ longer. longer
+        ≡ lines.with_value maybe_attributes (attributes_value attributes.now) line) }
 {
     match attributes {
         [] => Ok(line),
@@ -65,7 +69,8 @@ fn write_attributes(line: Line, attributes: &[Attribute]) -> Result<Line, NoMemo
 /// CREATE DISK.
 #[tactic(auto, unfolding(crate::specs::Lines::statement_line))]
 fn create_disk(line: Line, path: &Text, size: u64) -> Result<Option<Line>, NoMemory>
-    ensures { IfOk result (λ longer. longer ≡ lines.statement_line (s.CreateDisk path.now size) line) }
+    ensures { IfOk result (λ longer. longer
+        ≡ lines.statement_line (s.CreateDisk path.now size) line) }
 {
     let line = line.key(b"CREATE")?.key(b"DISK")?.quoted(path)?;
     let line = line.key(b"SIZE")?.size(size)?;
@@ -79,7 +84,9 @@ fn write_group_rest(
     groups: &[NewFailgroup],
     attributes: &[Attribute],
 ) -> Result<Option<Line>, NoMemory>
-    ensures { IfOk result (λ longer. longer ≡ lines.put_maybe groups_and_attributes (lines.group_rest_value groups.now attributes.now) line) }
+    ensures { IfOk result (λ longer. longer
+        ≡ lines.put_maybe groups_and_attributes (lines.group_rest_value groups.now attributes.now)
+        line) }
 {
     let Some(line) = write_failgroups(line, groups)? else {
         return Ok(None);
@@ -96,7 +103,8 @@ fn create_group(
     groups: &[NewFailgroup],
     attributes: &[Attribute],
 ) -> Result<Option<Line>, NoMemory>
-    ensures { IfOk result (λ longer. longer ≡ lines.statement_line (s.CreateGroup name.now kind groups.now attributes.now) line) }
+    ensures { IfOk result (λ longer. longer
+        ≡ lines.statement_line (s.CreateGroup name.now kind groups.now attributes.now) line) }
 {
     let line = line.key(b"CREATE")?.key(b"DISKGROUP")?.name(name)?;
     write_group_rest(write_group_kind(line, kind)?, groups, attributes)
@@ -105,7 +113,8 @@ fn create_group(
 /// DROP DISKGROUP.
 #[tactic(auto, unfolding(crate::specs::Lines::statement_line))]
 fn drop_group(line: Line, name: &Name, contents: bool) -> Result<Option<Line>, NoMemory>
-    ensures { IfOk result (λ longer. longer ≡ lines.statement_line (s.DropGroup name.now contents) line) }
+    ensures { IfOk result (λ longer. longer
+        ≡ lines.statement_line (s.DropGroup name.now contents) line) }
 {
     let line = line.key(b"DROP")?.key(b"DISKGROUP")?.name(name)?;
     if !contents {
@@ -117,7 +126,8 @@ fn drop_group(line: Line, name: &Name, contents: bool) -> Result<Option<Line>, N
 /// ALTER DISKGROUP. None where the clause has no text.
 #[tactic(auto, using(crate::proofs::Wholes::altered))]
 fn alter_group(line: Line, group: &Name, clause: &Clause) -> Result<Option<Line>, NoMemory>
-    ensures { IfOk result (λ longer. longer ≡ lines.statement_line (s.Alter group.now (clause_said clause.now)) line) }
+    ensures { IfOk result (λ longer. longer
+        ≡ lines.statement_line (s.Alter group.now (clause_said clause.now)) line) }
 {
     let line = line.key(b"ALTER")?.key(b"DISKGROUP")?.name(group)?;
     write_clause(line, clause)
@@ -125,7 +135,8 @@ fn alter_group(line: Line, group: &Name, clause: &Clause) -> Result<Option<Line>
 
 /// The words of a statement. None where a list that has a member in the language has none, or a template has no word.
 fn write_words(line: Line, statement: &Statement) -> Result<Option<Line>, NoMemory>
-    ensures { IfOk result (λ longer. longer ≡ lines.statement_line (statement_said statement.now) line) }
+    ensures { IfOk result (λ longer. longer
+        ≡ lines.statement_line (statement_said statement.now) line) }
 {
     match statement {
         Statement::CreateDisk { path, size } => create_disk(line, path, *size),
@@ -147,8 +158,11 @@ fn write_words(line: Line, statement: &Statement) -> Result<Option<Line>, NoMemo
 /// does, so that reading it gives the same statement. The text is empty where a list has no member or a template no word.
 #[tactic(auto, using(crate::proofs::Texts::no_text, crate::proofs::Texts::whole_text, crate::proofs::Texts::text_says))]
 pub fn write_statement(alloc: Global, statement: &Statement) -> Result<Vec<u8>, NoMemory>
-    ensures written { IfOk result (λ text. text.items ≡ statement_text (statement_said statement.now)) }
-    ensures said { IfOk result (λ text. (other : Items ℕ) → Says other (statement_said statement.now) → Says text.items (statement_said statement.now)) }
+    ensures written { IfOk result (λ text. text.items
+        ≡ statement_text (statement_said statement.now)) }
+    ensures said { IfOk result (λ text. (other : Items ℕ)
+        → Says other (statement_said statement.now)
+        → Says text.items (statement_said statement.now)) }
 {
     let Some(line) = write_words(Line::new(alloc), statement)? else {
         return Ok(Vec::new(alloc));

@@ -19,7 +19,8 @@ use group_sql::{
 };
 
 fn write_redundancy(line: Line, redundancy: Redundancy) -> Result<Line, NoMemory>
-    ensures { IfOk result (λ longer. longer ≡ lines.with_value g.redundancy (redundancy_value (redundancy_said redundancy)) line) }
+    ensures { IfOk result (λ longer. longer
+        ≡ lines.with_value g.redundancy (redundancy_value (redundancy_said redundancy)) line) }
 {
     match redundancy {
         Redundancy::Unprotected => line.key(b"UNPROTECTED"),
@@ -29,7 +30,8 @@ fn write_redundancy(line: Line, redundancy: Redundancy) -> Result<Line, NoMemory
 }
 
 fn write_stripe(line: Line, stripe: Stripe) -> Result<Line, NoMemory>
-    ensures { IfOk result (λ longer. longer ≡ lines.with_value g.stripe (stripe_value stripe) line) }
+    ensures { IfOk result (λ longer. longer
+        ≡ lines.with_value g.stripe (stripe_value stripe) line) }
 {
     match stripe {
         Stripe::Coarse => line.key(b"COARSE"),
@@ -39,7 +41,9 @@ fn write_stripe(line: Line, stripe: Stripe) -> Result<Line, NoMemory>
 
 /// A redundancy before a stripe. None where neither is said.
 fn write_words(line: Line, words: &TemplateWords) -> Result<Option<Line>, NoMemory>
-    ensures { IfOk result (λ longer. longer ≡ lines.put_maybe g.template_words (words_value words.now.redundancy words.now.stripe) line) }
+    ensures { IfOk result (λ longer. longer
+        ≡ lines.put_maybe g.template_words (words_value words.now.redundancy words.now.stripe)
+        line) }
 {
     match (words.redundancy, words.stripe) {
         (Some(redundancy), Some(stripe)) => {
@@ -55,7 +59,8 @@ fn write_words(line: Line, words: &TemplateWords) -> Result<Option<Line>, NoMemo
 /// The words of a template in brackets. None where no word is said.
 #[tactic(auto, using(crate::proofs::Wholes::bracketed_put))]
 fn write_bracketed(line: Line, words: &TemplateWords) -> Result<Option<Line>, NoMemory>
-    ensures { IfOk result (λ longer. longer ≡ lines.put_maybe lines.bracketed_words (lines.bracketed_value words.now) line) }
+    ensures { IfOk result (λ longer. longer
+        ≡ lines.put_maybe lines.bracketed_words (lines.bracketed_value words.now) line) }
 {
     let Some(line) = write_words(line.mark(b'(')?, words)? else {
         return Ok(None);
@@ -66,7 +71,8 @@ fn write_bracketed(line: Line, words: &TemplateWords) -> Result<Option<Line>, No
 /// TEMPLATE, its name and its words. None where no word is said.
 #[tactic(auto, using(crate::proofs::Wholes::template_put))]
 fn write_template(line: Line, name: &Name, words: &TemplateWords) -> Result<Option<Line>, NoMemory>
-    ensures { IfOk result (λ longer. longer ≡ lines.put_maybe g.template (lines.template_value name.now words.now) line) }
+    ensures { IfOk result (λ longer. longer
+        ≡ lines.put_maybe g.template (lines.template_value name.now words.now) line) }
 {
     let line = line.key(b"TEMPLATE")?.name(name)?;
     write_bracketed(line.key(b"ATTRIBUTES")?, words)
@@ -74,7 +80,8 @@ fn write_template(line: Line, name: &Name, words: &TemplateWords) -> Result<Opti
 
 /// An attribute's name and its value.
 pub fn write_attribute(line: Line, attribute: &Attribute) -> Result<Line, NoMemory>
-    ensures { IfOk result (λ longer. longer ≡ lines.with_value g.attribute (attribute_value attribute.now) line) }
+    ensures { IfOk result (λ longer. longer
+        ≡ lines.with_value g.attribute (attribute_value attribute.now) line) }
 {
     let line = line.quoted(&attribute.name)?.mark(b'=')?;
     line.quoted(&attribute.value)
@@ -87,7 +94,8 @@ fn add_disks(
     groups: &[NewFailgroup],
     rebalance: Option<Rebalance>,
 ) -> Result<Option<Line>, NoMemory>
-    ensures { IfOk result (λ longer. longer ≡ lines.clause_line (s.AddDisks groups.now rebalance) line) }
+    ensures { IfOk result (λ longer. longer
+        ≡ lines.clause_line (s.AddDisks groups.now rebalance) line) }
 {
     let Some(line) = write_failgroups(line.key(b"ADD")?, groups)? else {
         return Ok(None);
@@ -98,7 +106,8 @@ fn add_disks(
 /// ADD TEMPLATE. None where no word is said.
 #[tactic(auto, using(crate::proofs::Wholes::added_template))]
 fn add_template(line: Line, name: &Name, words: &TemplateWords) -> Result<Option<Line>, NoMemory>
-    ensures { IfOk result (λ longer. longer ≡ lines.clause_line (s.AddTemplate name.now words.now) line) }
+    ensures { IfOk result (λ longer. longer
+        ≡ lines.clause_line (s.AddTemplate name.now words.now) line) }
 {
     write_template(line.key(b"ADD")?, name, words)
 }
@@ -115,7 +124,8 @@ fn add_directory(line: Line, path: &Text) -> Result<Option<Line>, NoMemory>
 /// ADD ALIAS.
 #[tactic(auto, unfolding(crate::specs::Lines::clause_line))]
 fn add_alias(line: Line, alias: &Text, path: &Text) -> Result<Option<Line>, NoMemory>
-    ensures { IfOk result (λ longer. longer ≡ lines.clause_line (s.AddAlias alias.now path.now) line) }
+    ensures { IfOk result (λ longer. longer
+        ≡ lines.clause_line (s.AddAlias alias.now path.now) line) }
 {
     let line = line.key(b"ADD")?.key(b"ALIAS")?.quoted(alias)?;
     let line = line.key(b"FOR")?.quoted(path)?;
@@ -129,7 +139,8 @@ fn drop_disks(
     disks: &[DroppedDisk],
     rebalance: Option<Rebalance>,
 ) -> Result<Option<Line>, NoMemory>
-    ensures { IfOk result (λ longer. longer ≡ lines.clause_line (s.DropDisks disks.now rebalance) line) }
+    ensures { IfOk result (λ longer. longer
+        ≡ lines.clause_line (s.DropDisks disks.now rebalance) line) }
 {
     let Some(line) = write_drops(line.key(b"DROP")?.key(b"DISK")?, disks)? else {
         return Ok(None);
@@ -146,7 +157,9 @@ fn drop_failgroup(
     force: bool,
     rebalance: Option<Rebalance>,
 ) -> Result<Option<Line>, NoMemory>
-    ensures { IfOk result (λ longer. longer ≡ lines.clause_line (s.DropFailgroup (maybe_kind_said kind) name.now force rebalance) line) }
+    ensures { IfOk result (λ longer. longer
+        ≡ lines.clause_line (s.DropFailgroup (maybe_kind_said kind) name.now force rebalance)
+        line) }
 {
     let line = line.key(b"DROP")?.key(b"DISKS")?;
     let line = write_force(write_in_failgroup(line, kind, name)?, force)?;
@@ -210,7 +223,8 @@ fn resize_disk(
     size: Option<u64>,
     rebalance: Option<Rebalance>,
 ) -> Result<Option<Line>, NoMemory>
-    ensures { IfOk result (λ longer. longer ≡ lines.clause_line (s.ResizeDisk name.now size rebalance) line) }
+    ensures { IfOk result (λ longer. longer
+        ≡ lines.clause_line (s.ResizeDisk name.now size rebalance) line) }
 {
     let line = line.key(b"RESIZE")?.key(b"DISK")?.name(name)?;
     let line = write_size(line, size)?;
@@ -247,7 +261,8 @@ fn online_all(line: Line, wait: bool) -> Result<Option<Line>, NoMemory>
 /// ONLINE. None where no disk is named.
 #[tactic(auto, using(crate::proofs::Wholes::onlined))]
 fn online(line: Line, disks: &Disks, wait: bool) -> Result<Option<Line>, NoMemory>
-    ensures { IfOk result (λ longer. longer ≡ lines.clause_line (s.Online (disks_said disks.now) wait) line) }
+    ensures { IfOk result (λ longer. longer
+        ≡ lines.clause_line (s.Online (disks_said disks.now) wait) line) }
 {
     let Some(line) = write_some_disks(line.key(b"ONLINE")?, disks)? else {
         return Ok(None);
@@ -258,7 +273,8 @@ fn online(line: Line, disks: &Disks, wait: bool) -> Result<Option<Line>, NoMemor
 /// OFFLINE. None where no disk is named.
 #[tactic(auto, using(crate::proofs::Wholes::offlined))]
 fn offline(line: Line, disks: &Disks, minutes: Option<u64>) -> Result<Option<Line>, NoMemory>
-    ensures { IfOk result (λ longer. longer ≡ lines.clause_line (s.Offline (disks_said disks.now) minutes) line) }
+    ensures { IfOk result (λ longer. longer
+        ≡ lines.clause_line (s.Offline (disks_said disks.now) minutes) line) }
 {
     let Some(line) = write_some_disks(line.key(b"OFFLINE")?, disks)? else {
         return Ok(None);
@@ -269,7 +285,8 @@ fn offline(line: Line, disks: &Disks, minutes: Option<u64>) -> Result<Option<Lin
 /// MODIFY TEMPLATE. None where no word is said.
 #[tactic(auto, using(crate::proofs::Wholes::modified_template))]
 fn modify_template(line: Line, name: &Name, words: &TemplateWords) -> Result<Option<Line>, NoMemory>
-    ensures { IfOk result (λ longer. longer ≡ lines.clause_line (s.ModifyTemplate name.now words.now) line) }
+    ensures { IfOk result (λ longer. longer
+        ≡ lines.clause_line (s.ModifyTemplate name.now words.now) line) }
 {
     write_template(line.key(b"MODIFY")?, name, words)
 }
@@ -277,7 +294,8 @@ fn modify_template(line: Line, name: &Name, words: &TemplateWords) -> Result<Opt
 /// RENAME DIRECTORY.
 #[tactic(auto, unfolding(crate::specs::Lines::clause_line))]
 fn rename_directory(line: Line, old: &Text, new: &Text) -> Result<Option<Line>, NoMemory>
-    ensures { IfOk result (λ longer. longer ≡ lines.clause_line (s.RenameDirectory old.now new.now) line) }
+    ensures { IfOk result (λ longer. longer
+        ≡ lines.clause_line (s.RenameDirectory old.now new.now) line) }
 {
     let line = line.key(b"RENAME")?.key(b"DIRECTORY")?.quoted(old)?;
     let line = line.key(b"TO")?.quoted(new)?;
@@ -287,7 +305,8 @@ fn rename_directory(line: Line, old: &Text, new: &Text) -> Result<Option<Line>, 
 /// RENAME ALIAS.
 #[tactic(auto, unfolding(crate::specs::Lines::clause_line))]
 fn rename_alias(line: Line, old: &Text, new: &Text) -> Result<Option<Line>, NoMemory>
-    ensures { IfOk result (λ longer. longer ≡ lines.clause_line (s.RenameAlias old.now new.now) line) }
+    ensures { IfOk result (λ longer. longer
+        ≡ lines.clause_line (s.RenameAlias old.now new.now) line) }
 {
     let line = line.key(b"RENAME")?.key(b"ALIAS")?.quoted(old)?;
     let line = line.key(b"TO")?.quoted(new)?;
@@ -297,7 +316,8 @@ fn rename_alias(line: Line, old: &Text, new: &Text) -> Result<Option<Line>, NoMe
 /// SET ATTRIBUTE.
 #[tactic(auto, unfolding(crate::specs::Lines::clause_line))]
 fn set_attribute(line: Line, attribute: &Attribute) -> Result<Option<Line>, NoMemory>
-    ensures { IfOk result (λ longer. longer ≡ lines.clause_line (s.SetAttribute attribute.now) line) }
+    ensures { IfOk result (λ longer. longer
+        ≡ lines.clause_line (s.SetAttribute attribute.now) line) }
 {
     let line = write_attribute(line.key(b"SET")?.key(b"ATTRIBUTE")?, attribute)?;
     Ok(Some(line))

@@ -39,7 +39,8 @@ pub fn write_size(line: Line, size: Option<u64>) -> Result<Line, NoMemory>
 
 /// DROP AFTER and minutes, where they are said.
 pub fn write_after(line: Line, minutes: Option<u64>) -> Result<Line, NoMemory>
-    ensures { IfOk result (λ longer. longer ≡ lines.with_value maybe_after (after_value minutes) line) }
+    ensures { IfOk result (λ longer. longer
+        ≡ lines.with_value maybe_after (after_value minutes) line) }
 {
     match minutes {
         Some(minutes) => line.key(b"DROP")?.key(b"AFTER")?.minutes(minutes),
@@ -49,7 +50,8 @@ pub fn write_after(line: Line, minutes: Option<u64>) -> Result<Line, NoMemory>
 
 /// POWER and a number, where one is said.
 fn write_power(line: Line, power: Option<u64>) -> Result<Line, NoMemory>
-    ensures { IfOk result (λ longer. longer ≡ lines.with_value maybe_power (after_word power) line) }
+    ensures { IfOk result (λ longer. longer
+        ≡ lines.with_value maybe_power (after_word power) line) }
 {
     match power {
         Some(power) => line.key(b"POWER")?.number(power),
@@ -59,7 +61,8 @@ fn write_power(line: Line, power: Option<u64>) -> Result<Line, NoMemory>
 
 /// REBALANCE and its options.
 pub fn write_rebalance(line: Line, rebalance: Rebalance) -> Result<Line, NoMemory>
-    ensures { IfOk result (λ longer. longer ≡ lines.with_value g.rebalance (rebalance_value rebalance) line) }
+    ensures { IfOk result (λ longer. longer
+        ≡ lines.with_value g.rebalance (rebalance_value rebalance) line) }
 {
     let line = write_power(line.key(b"REBALANCE")?, rebalance.power)?;
     write_wait(line, rebalance.wait)
@@ -67,7 +70,8 @@ pub fn write_rebalance(line: Line, rebalance: Rebalance) -> Result<Line, NoMemor
 
 /// REBALANCE and its options, where it is said.
 pub fn write_rebalanced(line: Line, rebalance: Option<Rebalance>) -> Result<Line, NoMemory>
-    ensures { IfOk result (λ longer. longer ≡ lines.with_value (Maybe g.rebalance) (maybe_rebalance rebalance) line) }
+    ensures { IfOk result (λ longer. longer
+        ≡ lines.with_value (Maybe g.rebalance) (maybe_rebalance rebalance) line) }
 {
     match rebalance {
         Some(rebalance) => write_rebalance(line, rebalance),
@@ -77,7 +81,8 @@ pub fn write_rebalanced(line: Line, rebalance: Option<Rebalance>) -> Result<Line
 
 /// NAME and a name, where one is said.
 fn write_named(line: Line, name: &Option<Name>) -> Result<Line, NoMemory>
-    ensures { IfOk result (λ longer. longer ≡ lines.with_value maybe_name (after_word name.now) line) }
+    ensures { IfOk result (λ longer. longer
+        ≡ lines.with_value maybe_name (after_word name.now) line) }
 {
     match name {
         Some(name) => line.key(b"NAME")?.name(name),
@@ -87,7 +92,8 @@ fn write_named(line: Line, name: &Option<Name>) -> Result<Line, NoMemory>
 
 /// A disk's path and its options.
 fn write_disk(line: Line, disk: &NewDisk) -> Result<Line, NoMemory>
-    ensures { IfOk result (λ longer. longer ≡ lines.with_value g.disk (new_disk_value disk.now) line) }
+    ensures { IfOk result (λ longer. longer
+        ≡ lines.with_value g.disk (new_disk_value disk.now) line) }
 {
     let line = write_named(line.quoted(&disk.path)?, &disk.name)?;
     let line = write_size(line, disk.size)?;
@@ -107,7 +113,8 @@ fn write_more_disks(mut line: Line, disks: &[NewDisk]) -> Result<Line, NoMemory>
 /// A disk, and others behind commas. None where there is no disk.
 #[tactic(auto, using(crate::proofs::Puts::list_put))]
 fn write_disks(line: Line, disks: &[NewDisk]) -> Result<Option<Line>, NoMemory>
-    ensures { IfOk result (λ longer. longer ≡ lines.put_maybe (g.listed g.disk) (lines.list_of new_disk_value disks.now) line) }
+    ensures { IfOk result (λ longer. longer
+        ≡ lines.put_maybe (g.listed g.disk) (lines.list_of new_disk_value disks.now) line) }
 {
     let [first, others @ ..] = disks else {
         return Ok(None);
@@ -118,7 +125,8 @@ fn write_disks(line: Line, disks: &[NewDisk]) -> Result<Option<Line>, NoMemory>
 
 /// QUORUM, where it is said.
 fn write_quorum(line: Line, quorum: bool) -> Result<Line, NoMemory>
-    ensures { IfOk result (λ longer. longer ≡ lines.with_value (Maybe g.group_word) (quorum_value quorum) line) }
+    ensures { IfOk result (λ longer. longer
+        ≡ lines.with_value (Maybe g.group_word) (quorum_value quorum) line) }
 {
     if quorum {
         line.key(b"QUORUM")
@@ -129,7 +137,8 @@ fn write_quorum(line: Line, quorum: bool) -> Result<Line, NoMemory>
 
 /// FAILGROUP and a name, where one is said.
 fn write_group_name(line: Line, name: &Option<Name>) -> Result<Line, NoMemory>
-    ensures { IfOk result (λ longer. longer ≡ lines.with_value lines.maybe_group_name (after_word name.now) line) }
+    ensures { IfOk result (λ longer. longer
+        ≡ lines.with_value lines.maybe_group_name (after_word name.now) line) }
 {
     match name {
         Some(name) => line.key(b"FAILGROUP")?.name(name),
@@ -140,7 +149,8 @@ fn write_group_name(line: Line, name: &Option<Name>) -> Result<Line, NoMemory>
 /// A failure group with its disks. None where it has none.
 #[tactic(auto, using(crate::proofs::Puts::failgroup_put))]
 fn write_failgroup(line: Line, group: &NewFailgroup) -> Result<Option<Line>, NoMemory>
-    ensures { IfOk result (λ longer. longer ≡ lines.put_maybe g.failgroup (failgroup_value group.now group.now.disks) line) }
+    ensures { IfOk result (λ longer. longer
+        ≡ lines.put_maybe g.failgroup (failgroup_value group.now group.now.disks) line) }
 {
     let line = write_quorum(line, group.quorum)?;
     let line = write_group_name(line, &group.name)?;
@@ -164,7 +174,8 @@ fn write_groups(mut line: Line, groups: &[NewFailgroup]) -> Result<Option<Line>,
 /// One failure group or more. None where there is none, or one has no disk.
 #[tactic(auto, using(crate::proofs::Puts::failgroups_put))]
 pub fn write_failgroups(line: Line, groups: &[NewFailgroup]) -> Result<Option<Line>, NoMemory>
-    ensures { IfOk result (λ longer. longer ≡ lines.put_maybe g.failgroups (failgroups_value groups.now) line) }
+    ensures { IfOk result (λ longer. longer
+        ≡ lines.put_maybe g.failgroups (failgroups_value groups.now) line) }
 {
     if groups.is_empty() {
         return Ok(None);
@@ -174,14 +185,16 @@ pub fn write_failgroups(line: Line, groups: &[NewFailgroup]) -> Result<Option<Li
 
 /// A dropped disk's name, and FORCE where it is said.
 fn write_dropped(line: Line, disk: &DroppedDisk) -> Result<Line, NoMemory>
-    ensures { IfOk result (λ longer. longer ≡ lines.with_value dropped_disk (dropped_value disk.now) line) }
+    ensures { IfOk result (λ longer. longer
+        ≡ lines.with_value dropped_disk (dropped_value disk.now) line) }
 {
     write_force(line.name(&disk.name)?, disk.force)
 }
 
 /// Dropped disks behind commas.
 fn write_more_dropped(mut line: Line, disks: &[DroppedDisk]) -> Result<Line, NoMemory>
-    ensures { IfOk result (λ longer. longer ≡ lines.put_more dropped_disk dropped_value disks.now line) }
+    ensures { IfOk result (λ longer. longer
+        ≡ lines.put_more dropped_disk dropped_value disks.now line) }
 {
     for disk in disks {
         line = write_dropped(line.mark(b',')?, disk)?;
@@ -192,7 +205,8 @@ fn write_more_dropped(mut line: Line, disks: &[DroppedDisk]) -> Result<Line, NoM
 /// A dropped disk, and others behind commas. None where there is no disk.
 #[tactic(auto, using(crate::proofs::Puts::list_put))]
 pub fn write_drops(line: Line, disks: &[DroppedDisk]) -> Result<Option<Line>, NoMemory>
-    ensures { IfOk result (λ longer. longer ≡ lines.put_maybe (g.listed dropped_disk) (lines.list_of dropped_value disks.now) line) }
+    ensures { IfOk result (λ longer. longer
+        ≡ lines.put_maybe (g.listed dropped_disk) (lines.list_of dropped_value disks.now) line) }
 {
     let [first, others @ ..] = disks else {
         return Ok(None);
@@ -214,7 +228,8 @@ fn write_more_names(mut line: Line, names: &[Name]) -> Result<Line, NoMemory>
 /// A name, and others behind commas. None where there is no name.
 #[tactic(auto, using(crate::proofs::Puts::list_put))]
 fn write_names(line: Line, names: &[Name]) -> Result<Option<Line>, NoMemory>
-    ensures { IfOk result (λ longer. longer ≡ lines.put_maybe (g.listed g.name) (lines.list_of (λ n. n) names.now) line) }
+    ensures { IfOk result (λ longer. longer
+        ≡ lines.put_maybe (g.listed g.name) (lines.list_of (λ n. n) names.now) line) }
 {
     let [first, others @ ..] = names else {
         return Ok(None);
@@ -225,7 +240,9 @@ fn write_names(line: Line, names: &[Name]) -> Result<Option<Line>, NoMemory>
 
 /// The kind of a failure group, where one is said.
 fn write_kind(line: Line, kind: Option<FailgroupKind>) -> Result<Line, NoMemory>
-    ensures { IfOk result (λ longer. longer ≡ lines.with_value (Maybe g.group_word) (option_map group_word_value (maybe_kind_said kind)) line) }
+    ensures { IfOk result (λ longer. longer
+        ≡ lines.with_value (Maybe g.group_word) (option_map group_word_value (maybe_kind_said kind))
+        line) }
 {
     match kind {
         Some(FailgroupKind::Quorum) => line.key(b"QUORUM"),
@@ -240,7 +257,9 @@ pub fn write_in_failgroup(
     kind: Option<FailgroupKind>,
     name: &Name,
 ) -> Result<Line, NoMemory>
-    ensures { IfOk result (λ longer. longer ≡ lines.with_value g.in_failgroup (lines.in_group_value (maybe_kind_said kind) name.now) line) }
+    ensures { IfOk result (λ longer. longer
+        ≡ lines.with_value g.in_failgroup (lines.in_group_value (maybe_kind_said kind) name.now)
+        line) }
 {
     let line = write_kind(line.key(b"IN")?, kind)?;
     line.key(b"FAILGROUP")?.name(name)
@@ -249,7 +268,8 @@ pub fn write_in_failgroup(
 /// Disks by their names, or those of a failure group. None where no disk is named.
 #[tactic(auto, using(crate::proofs::Puts::named_put))]
 pub fn write_some_disks(line: Line, disks: &Disks) -> Result<Option<Line>, NoMemory>
-    ensures { IfOk result (λ longer. longer ≡ lines.put_maybe g.some_disks (lines.some_disks_value (disks_said disks.now)) line) }
+    ensures { IfOk result (λ longer. longer
+        ≡ lines.put_maybe g.some_disks (lines.some_disks_value (disks_said disks.now)) line) }
 {
     match disks {
         Disks::Named(names) => write_names(line.key(b"DISK")?, names.as_slice()),

@@ -21,7 +21,8 @@ impl Catalog {
     #[tactic(auto, using(crate::proofs::AddedDisks::lacks_one_each, crate::proofs::AddedDisks::has_one_each))]
     pub fn plan_disks(&self, alloc: Global, added: &[(u8, DiskInfo)]) -> Result<Change, Refusal>
         requires added { MayAdd self.now.tables added.now }
-        ensures planned { IfOk result (λ change. IsPlan self.now change.put change.gone (record self.now.tables { disks = with_records self.now.tables.disks added.now })) }
+        ensures planned { IfOk result (λ change. IsPlan self.now change.put change.gone
+            (record self.now.tables { disks = with_records self.now.tables.disks added.now })) }
         ensures refused { IfErr result (IsAddRefusal self.now added.now) }
     {
         let need = added.len() as u64;
@@ -34,8 +35,10 @@ impl Catalog {
 
     fn add_disks(&self, alloc: Global, added: &[(u8, DiskInfo)]) -> Result<Change, NoMemory>
         requires added { MayAdd self.now.tables added.now }
-        requires room { length added.now + blocks_used self.now.tables + 2 ≤ self.now.shape.dir_blocks }
-        ensures { IfOk result (λ change. IsPlan self.now change.put change.gone (record self.now.tables { disks = with_records self.now.tables.disks added.now })) }
+        requires room { length added.now + blocks_used self.now.tables + 2
+            ≤ self.now.shape.dir_blocks }
+        ensures { IfOk result (λ change. IsPlan self.now change.put change.gone
+            (record self.now.tables { disks = with_records self.now.tables.disks added.now })) }
     {
         self.keeps_rules();
         let mut put = List::new(alloc);

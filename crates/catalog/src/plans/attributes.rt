@@ -23,7 +23,8 @@ impl Catalog {
         name: &Name,
         value: &[u8],
     ) -> Result<Change, Refusal>
-        ensures planned { IfOk result (λ change. IsAttributePlan self.now name.now value.now change.put change.gone) }
+        ensures planned { IfOk result (λ change. IsAttributePlan self.now name.now value.now
+            change.put change.gone) }
         ensures refused { IfErr result (IsAttributeRefusal self.now name.now value.now) }
     {
         match self.attribute_change(alloc, name.as_bytes(), value) {
@@ -41,8 +42,10 @@ impl Catalog {
         name: &[u8],
         value: &[u8],
     ) -> Result<Option<Change>, NoMemory>
-        ensures planned { IfOk result (λ change. IfSome change (λ change. IsAttributePlan self.now name.now value.now change.put change.gone)) }
-        ensures none { IfOk result (λ change. IfNone change (settings_with self.now.tables.templates.settings name.now value.now ≡ None)) }
+        ensures planned { IfOk result (λ change. IfSome change
+            (λ change. IsAttributePlan self.now name.now value.now change.put change.gone)) }
+        ensures none { IfOk result (λ change. IfNone change
+            (settings_with self.now.tables.templates.settings name.now value.now ≡ None)) }
     {
         self.keeps_rules();
         let edited = with_attribute(alloc, self.settings(), name, value)?;
@@ -55,7 +58,10 @@ impl Catalog {
 
     fn set_settings(&self, alloc: Global, settings: &Settings) -> Result<Change, NoMemory>
         requires { is_item (settings_item settings.now) ≡ true }
-        ensures { IfOk result (λ change. IsPlan self.now change.put change.gone (record self.now.tables { templates = record self.now.tables.templates { settings = settings.now } })) }
+        ensures { IfOk result (λ change. IsPlan self.now change.put change.gone
+            (record self.now.tables {
+              templates = record self.now.tables.templates { settings = settings.now };
+            })) }
     {
         self.keeps_rules();
         let entry = settings_record(alloc, settings)?;

@@ -57,7 +57,8 @@ impl Catalog {
     ) -> Result<u64, Refusal>
         requires parts { HasParts (name_meant name) }
         ensures made { IfOk result (IsPathCheck self.now.tables (name_meant name.entry) file) }
-        ensures refused { IfErr result (IsPathRefusal self.now.tables (name_meant name.entry) file) }
+        ensures refused { IfErr result (IsPathRefusal self.now.tables (name_meant name.entry)
+            file) }
     {
         let incarnation = self.settings().incarnation;
         let path = match system_path(alloc, group, name, file, incarnation) {

@@ -31,7 +31,8 @@ impl Catalog {
         marks: &[u8],
     ) -> Result<Change, Refusal>
         requires append { MayAppend self.now file chunk homes.now marks.now }
-        ensures planned { IfOk result (λ change. IsPlan self.now change.put change.gone (with_appended self.now.tables file chunk homes.now marks.now)) }
+        ensures planned { IfOk result (λ change. IsPlan self.now change.put change.gone
+            (with_appended self.now.tables file chunk homes.now marks.now)) }
         ensures refused { IfErr result (IsChunkRefusal self.now file chunk) }
     {
         if self.has_chunk(file, chunk) {
@@ -64,7 +65,8 @@ impl Catalog {
     ) -> Result<Change, NoMemory>
         requires append { MayAppend self.now file chunk homes.now marks.now }
         requires room { HasChunkRoom self.now file chunk }
-        ensures { IfOk result (λ change. IsPlan self.now change.put change.gone (with_appended self.now.tables file chunk homes.now marks.now)) }
+        ensures { IfOk result (λ change. IsPlan self.now change.put change.gone
+            (with_appended self.now.tables file chunk homes.now marks.now)) }
     {
         self.keeps_rules();
         units_fit(homes);
@@ -82,9 +84,13 @@ impl Catalog {
         marks: &[u8],
     ) -> Result<Change, NoMemory>
         requires number { chunk + 1 < 2 ^ 32 }
-        requires room { count_in (chunk_or_blank self.now.tables.extents (file, chunk)) + length homes.now ≤ 256 }
+        requires room { count_in (chunk_or_blank self.now.tables.extents (file, chunk))
+            + length homes.now ≤ 256 }
         requires marked { length marks.now ≡ length homes.now }
-        ensures put { IfOk result (λ change. change.put ≡ record_of_chunk ((file, chunk), homes_appended self.now.tables file chunk homes.now) ∷ marks_entry ((file, chunk), marks_appended self.now.tables file chunk marks.now) ∷ []) }
+        ensures put { IfOk result (λ change. change.put
+            ≡ record_of_chunk ((file, chunk), homes_appended self.now.tables file chunk homes.now)
+            ∷ marks_entry ((file, chunk), marks_appended self.now.tables file chunk marks.now)
+            ∷ []) }
         ensures gone { IfOk result (λ change. change.gone ≡ []) }
     {
         let at = (file, chunk);

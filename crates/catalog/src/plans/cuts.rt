@@ -26,7 +26,8 @@ impl Catalog {
         kept: u32,
     ) -> Result<Change, Refusal>
         requires cut { MayCut self.now.shape self.now.tables file chunk kept }
-        ensures planned { IfOk result (λ change. IsPlan self.now change.put change.gone (with_cut self.now.tables file chunk kept)) }
+        ensures planned { IfOk result (λ change. IsPlan self.now change.put change.gone
+            (with_cut self.now.tables file chunk kept)) }
         ensures refused { IfErr result (λ e. e ≡ WithoutMemory) }
     {
         self.cut(alloc, file, chunk, kept).map_err(no_memory)
@@ -35,7 +36,8 @@ impl Catalog {
     #[tactic(auto, using(crate::proofs::ReleasePlans::whole_planned, crate::proofs::CutPlans::cut_planned, crate::proofs::ReleasePlans::numbered))]
     fn cut(&self, alloc: Global, file: u32, chunk: u32, kept: u32) -> Result<Change, NoMemory>
         requires cut { MayCut self.now.shape self.now.tables file chunk kept }
-        ensures { IfOk result (λ change. IsPlan self.now change.put change.gone (with_cut self.now.tables file chunk kept)) }
+        ensures { IfOk result (λ change. IsPlan self.now change.put change.gone
+            (with_cut self.now.tables file chunk kept)) }
     {
         self.keeps_rules();
         if kept == 0 {
@@ -68,7 +70,12 @@ impl Catalog {
     ) -> Result<(Key, Value), NoMemory>
         requires number { chunk + 1 < 2 ^ 32 }
         requires few { kept ≤ 256 }
-        ensures { IfOk result (λ made. made ≡ record_of_chunk ((file, chunk), cut_to kept (chunk_or_blank self.now.tables.extents (file, chunk)))) }
+        ensures { IfOk result (λ made. made
+            ≡ record_of_chunk (
+              (file, chunk),
+              cut_to kept
+                  (chunk_or_blank self.now.tables.extents (file, chunk)),
+            )) }
     {
         let at = (file, chunk);
         let mut extents = self.chunk_copy(alloc, at)?;
@@ -85,7 +92,12 @@ impl Catalog {
         kept: u32,
     ) -> Result<(Key, Value), NoMemory>
         requires { kept ≤ 256 }
-        ensures { IfOk result (λ made. made ≡ marks_entry ((file, chunk), marks_to kept (marks_or_none self.now.tables.stale (file, chunk)))) }
+        ensures { IfOk result (λ made. made
+            ≡ marks_entry (
+              (file, chunk),
+              marks_to kept
+                  (marks_or_none self.now.tables.stale (file, chunk)),
+            )) }
     {
         let at = (file, chunk);
         let mut marks = self.chunk_marks(at);

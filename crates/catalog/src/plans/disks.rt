@@ -25,7 +25,10 @@ impl Catalog {
         info: Option<&DiskInfo>,
     ) -> Result<Change, Refusal>
         requires record { may_be_record number (option_copied info) ≡ true }
-        ensures planned { IfOk result (λ change. IsPlan self.now change.put change.gone (record self.now.tables { disks = with_disk_record self.now.tables.disks number (option_copied info.entry) })) }
+        ensures planned { IfOk result (λ change. IsPlan self.now change.put change.gone
+            (record self.now.tables {
+              disks = with_disk_record self.now.tables.disks number (option_copied info.entry);
+            })) }
         ensures refused { IfErr result (IsDiskRefusal self.now number (option_copied info.entry)) }
     {
         match info {
@@ -36,7 +39,8 @@ impl Catalog {
 
     fn put_disk(&self, alloc: Global, number: u8, info: &DiskInfo) -> Result<Change, Refusal>
         requires record { is_item (disk_item number info.now) ≡ true }
-        ensures planned { IfOk result (λ change. IsPlan self.now change.put change.gone (record self.now.tables { disks = with_info self.now.tables.disks number info.now })) }
+        ensures planned { IfOk result (λ change. IsPlan self.now change.put change.gone
+            (record self.now.tables { disks = with_info self.now.tables.disks number info.now })) }
         ensures refused { IfErr result (IsDiskRefusal self.now number (Some info.now)) }
     {
         if self.lacks_block(number) {
@@ -49,7 +53,8 @@ impl Catalog {
     #[tactic(auto, using(crate::proofs::DiskPlans::lacks, crate::proofs::DiskPlans::has_one, crate::proofs::DiskPlans::has_room))]
     fn lacks_block(&self, number: u8) -> bool
         ensures lacks { OnTrue result ((i : FormatInfo) → LacksBlock self.now number (Some i)) }
-        ensures has { OnFalse result (info_at self.now.tables.disks number ≡ None → blocks_used self.now.tables + 2 < self.now.shape.dir_blocks) }
+        ensures has { OnFalse result (info_at self.now.tables.disks number ≡ None
+            → blocks_used self.now.tables + 2 < self.now.shape.dir_blocks) }
     {
         match self.disk(number) {
             Some(_) => false,
@@ -59,8 +64,10 @@ impl Catalog {
 
     fn set_disk(&self, alloc: Global, number: u8, info: &DiskInfo) -> Result<Change, NoMemory>
         requires record { is_item (disk_item number info.now) ≡ true }
-        requires room { info_at self.now.tables.disks number ≡ None → blocks_used self.now.tables + 2 < self.now.shape.dir_blocks }
-        ensures { IfOk result (λ change. IsPlan self.now change.put change.gone (record self.now.tables { disks = with_info self.now.tables.disks number info.now })) }
+        requires room { info_at self.now.tables.disks number ≡ None
+            → blocks_used self.now.tables + 2 < self.now.shape.dir_blocks }
+        ensures { IfOk result (λ change. IsPlan self.now change.put change.gone
+            (record self.now.tables { disks = with_info self.now.tables.disks number info.now })) }
     {
         self.keeps_rules();
         let entry = disk_record(alloc, number, info)?;
@@ -69,7 +76,8 @@ impl Catalog {
     }
 
     fn drop_disk(&self, alloc: Global, number: u8) -> Result<Change, NoMemory>
-        ensures { IfOk result (λ change. IsPlan self.now change.put change.gone (record self.now.tables { disks = without_disk self.now.tables.disks number })) }
+        ensures { IfOk result (λ change. IsPlan self.now change.put change.gone
+            (record self.now.tables { disks = without_disk self.now.tables.disks number })) }
     {
         self.keeps_rules();
         let change = one_gone(alloc, disk_key(number))?;

@@ -23,7 +23,8 @@ impl Catalog {
     pub fn plan_size(&self, alloc: Global, file: u32, size: u64) -> Result<Change, Refusal>
         requires file { IsTrue (is_file_number self.now.tables.files file) }
         requires extents { MayGrow self.now.shape self.now.tables file size }
-        ensures planned { IfOk result (λ change. IsSizePlan self.now file size change.put change.gone) }
+        ensures planned { IfOk result (λ change. IsSizePlan self.now file size change.put
+            change.gone) }
         ensures refused { IfErr result (λ e. e ≡ WithoutMemory) }
     {
         let Some(head) = self.file(file) else {
@@ -65,7 +66,8 @@ impl Catalog {
     /// plan where each chunk is then one of a file or of the removal.
     pub fn plan_unname(&self, alloc: Global, file: u32) -> Result<Change, Refusal>
         requires file { IsTrue (is_file_number self.now.tables.files file) }
-        ensures planned { IfOk result (λ change. IsRemovalPlan self.now file change.put change.gone) }
+        ensures planned { IfOk result (λ change. IsRemovalPlan self.now file change.put
+            change.gone) }
         ensures refused { IfErr result (λ e. e ≡ WithoutMemory) }
     {
         let Some(head) = self.file(file) else {

@@ -25,7 +25,8 @@ impl Catalog {
         clear: u8,
     ) -> Result<Change, Refusal>
         requires marks { MayMark self.now.tables x.file x.index set }
-        ensures planned { IfOk result (λ change. IsPlan self.now change.put change.gone (with_marks_changed self.now.tables x.file x.index set clear)) }
+        ensures planned { IfOk result (λ change. IsPlan self.now change.put change.gone
+            (with_marks_changed self.now.tables x.file x.index set clear)) }
         ensures refused { IfErr result (λ e. e ≡ WithoutMemory) }
     {
         self.change_marks(alloc, x, set, clear).map_err(no_memory)
@@ -40,7 +41,8 @@ impl Catalog {
         clear: u8,
     ) -> Result<Change, NoMemory>
         requires marks { MayMark self.now.tables x.file x.index set }
-        ensures { IfOk result (λ change. IsPlan self.now change.put change.gone (with_marks_changed self.now.tables x.file x.index set clear)) }
+        ensures { IfOk result (λ change. IsPlan self.now change.put change.gone
+            (with_marks_changed self.now.tables x.file x.index set clear)) }
     {
         self.keeps_rules();
         let marks = marks_changed(self.marks(x), set, clear);
@@ -56,7 +58,12 @@ impl Catalog {
         x: ExtentId,
         marks: u8,
     ) -> Result<(Key, Value), NoMemory>
-        ensures { IfOk result (λ made. made ≡ record_of_marks ((x.file, x.index / 256), slice_set (marks_or_none self.now.tables.stale (x.file, x.index / 256)) (x.index % 256) marks)) }
+        ensures { IfOk result (λ made. made
+            ≡ record_of_marks (
+              (x.file, x.index / 256),
+              slice_set
+                  (marks_or_none self.now.tables.stale (x.file, x.index / 256)) (x.index % 256) marks,
+            )) }
     {
         let at = (x.file, x.index / 256);
         let mut changed = self.chunk_marks(at);

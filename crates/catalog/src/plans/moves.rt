@@ -28,7 +28,8 @@ impl Catalog {
         home: Home,
     ) -> Result<Change, Refusal>
         requires move_ { MayMove self.now x.file x.index copy home }
-        ensures planned { IfOk result (λ change. IsPlan self.now change.put change.gone (with_move self.now.tables x.file x.index copy home)) }
+        ensures planned { IfOk result (λ change. IsPlan self.now change.put change.gone
+            (with_move self.now.tables x.file x.index copy home)) }
         ensures refused { IfErr result (λ e. e ≡ WithoutMemory) }
     {
         self.move_copy(alloc, x, copy, home).map_err(no_memory)
@@ -43,7 +44,8 @@ impl Catalog {
         home: Home,
     ) -> Result<Change, NoMemory>
         requires move_ { MayMove self.now x.file x.index copy home }
-        ensures { IfOk result (λ change. IsPlan self.now change.put change.gone (with_move self.now.tables x.file x.index copy home)) }
+        ensures { IfOk result (λ change. IsPlan self.now change.put change.gone
+            (with_move self.now.tables x.file x.index copy home)) }
     {
         self.keeps_rules();
         unit_fits(home.unit);
@@ -67,7 +69,14 @@ impl Catalog {
         home: Home,
     ) -> Result<(Key, Value), NoMemory>
         requires { copy < 3 }
-        ensures { IfOk result (λ made. made ≡ record_of_chunk ((x.file, x.index / 256), slice_set (chunk_or_blank self.now.tables.extents (x.file, x.index / 256)) (x.index % 256) (slice_set (get_or (chunk_or_blank self.now.tables.extents (x.file, x.index / 256)) (x.index % 256) []) copy (Some home)))) }
+        ensures { IfOk result (λ made. made
+            ≡ record_of_chunk (
+              (x.file, x.index / 256),
+              slice_set
+                  (chunk_or_blank self.now.tables.extents (x.file, x.index / 256)) (x.index % 256)
+                  (slice_set (get_or (chunk_or_blank self.now.tables.extents (x.file, x.index / 256))
+                  (x.index % 256) []) copy (Some home)),
+            )) }
     {
         let at = (x.file, x.index / 256);
         let place = (x.index % 256) as u8;

@@ -43,7 +43,8 @@ impl Catalog {
         stripe: Stripe,
     ) -> Result<Change, Refusal>
         requires created { IsFileBeingMade self.now new.now.size copies stripe }
-        ensures planned { IfOk result (λ change. IsNamePlan self.now new.now.path.parts new.now.size copies stripe change.put change.gone) }
+        ensures planned { IfOk result (λ change. IsNamePlan self.now new.now.path.parts new.now.size
+            copies stripe change.put change.gone) }
         ensures refused { IfErr result (IsNameRefusal self.now new.now.path.parts) }
     {
         let Some(name) = new_name(&new.path) else {
@@ -74,8 +75,12 @@ impl Catalog {
     ) -> Result<Vec<(u32, Node)>, Refusal>
         requires pending { IsTrue (is_some self.now.tables.operations.pending) }
         requires parts { HasParts (name_meant name) }
-        ensures nodes { IfOk result (λ made. AreNewNodes self.now.tables.nodes made.items (system_path self.now.tables (name_meant name.entry)) (made_file self.now.tables)) }
-        ensures refused { IfErr result (λ e. (meaning_of (λ n. []) e ≡ OutOfMemory) ⊎ (tree_with_file (tree_of self.now.tables.nodes) (system_path self.now.tables (name_meant name.entry)) (made_file self.now.tables) ≡ Err (meaning_of (λ n. []) e))) }
+        ensures nodes { IfOk result (λ made. AreNewNodes self.now.tables.nodes made.items
+            (system_path self.now.tables (name_meant name.entry)) (made_file self.now.tables)) }
+        ensures refused { IfErr result (λ e. (meaning_of (λ n. []) e ≡ OutOfMemory)
+            ⊎ (tree_with_file (tree_of self.now.tables.nodes)
+            (system_path self.now.tables (name_meant name.entry)) (made_file self.now.tables)
+            ≡ Err (meaning_of (λ n. []) e))) }
     {
         let file = self.made_file();
         let incarnation = self.settings().incarnation;
@@ -98,14 +103,21 @@ impl Catalog {
     ) -> Result<Vec<(u32, Node)>, TreeError>
         requires parts { IsTrue (are_parts path.now.parts) }
         requires three { length path.now.parts ≡ 3 }
-        ensures done { IfOk result (λ made. tree_with_file (tree_of self.now.tables.nodes) path.now.parts file ≡ Ok (tree_of (with_nodes self.now.tables.nodes made.items))) }
-        ensures nodes { IfOk result (λ made. IsFiling self.now.tables.nodes made.items path.now.parts file) }
-        ensures table { IfOk result (λ made. IsNodeTable (with_nodes self.now.tables.nodes made.items)) }
-        ensures fresh { IfOk result (λ made. All (λ (x : Numbered). node_at self.now.tables.nodes x.0 ≡ None) made.items) }
-        ensures items { IfOk result (λ made. All (λ (x : Numbered). is_item (node_item x.0 x.1) ≡ true) made.items) }
-        ensures count { IfOk result (λ made. length made.items ≡ nodes_missing (tree_of self.now.tables.nodes) path.now.parts) }
+        ensures done { IfOk result (λ made. tree_with_file (tree_of self.now.tables.nodes)
+            path.now.parts file ≡ Ok (tree_of (with_nodes self.now.tables.nodes made.items))) }
+        ensures nodes { IfOk result (λ made. IsFiling self.now.tables.nodes made.items
+            path.now.parts file) }
+        ensures table { IfOk result (λ made. IsNodeTable
+            (with_nodes self.now.tables.nodes made.items)) }
+        ensures fresh { IfOk result (λ made. All
+            (λ (x : Numbered). node_at self.now.tables.nodes x.0 ≡ None) made.items) }
+        ensures items { IfOk result (λ made. All
+            (λ (x : Numbered). is_item (node_item x.0 x.1) ≡ true) made.items) }
+        ensures count { IfOk result (λ made. length made.items
+            ≡ nodes_missing (tree_of self.now.tables.nodes) path.now.parts) }
         ensures few { IfOk result (λ made. length made.items ≤ length path.now.parts) }
-        ensures refused { IfErr result (IsRefusal (tree_with_file (tree_of self.now.tables.nodes) path.now.parts file)) }
+        ensures refused { IfErr result (IsRefusal
+            (tree_with_file (tree_of self.now.tables.nodes) path.now.parts file)) }
     {
         plan_file(&self.parts.tree, alloc, path, file)
     }
@@ -122,9 +134,12 @@ impl Catalog {
     ) -> Result<Change, NoMemory>
         requires created { IsFileBeingMade self.now new.now.size copies stripe }
         requires name { name_at new.now.path.parts ≡ Some (name_meant name) }
-        requires nodes { AreNewNodes self.now.tables.nodes made.now (system_path self.now.tables (name_meant name)) (made_file self.now.tables) }
-        requires room { length made.now + 1 + (blocks_used self.now.tables + 2) ≤ self.now.shape.dir_blocks }
-        ensures { IfOk result (λ change. IsNamePlan self.now new.now.path.parts new.now.size copies stripe change.put change.gone) }
+        requires nodes { AreNewNodes self.now.tables.nodes made.now
+            (system_path self.now.tables (name_meant name)) (made_file self.now.tables) }
+        requires room { length made.now + 1 + (blocks_used self.now.tables + 2)
+            ≤ self.now.shape.dir_blocks }
+        ensures { IfOk result (λ change. IsNamePlan self.now new.now.path.parts new.now.size copies
+            stripe change.put change.gone) }
     {
         self.keeps_rules();
         let head = self.new_head(name, new.size, copies, stripe, system_node(made))?;
@@ -154,7 +169,8 @@ impl Catalog {
         stripe: Stripe,
         system: u32,
     ) -> Result<FileHead, NoMemory>
-        ensures head { IfOk result (λ head. head ≡ new_head self.now.tables (name_meant name.entry) size copies stripe system) }
+        ensures head { IfOk result (λ head. head
+            ≡ new_head self.now.tables (name_meant name.entry) size copies stripe system) }
         ensures small { size < 2 ^ 64 }
     {
         Ok(FileHead {
@@ -178,7 +194,9 @@ impl Catalog {
     ) -> Result<List<(Key, Value)>, NoMemory>
         requires head { is_item (file_item file head.now) ≡ true }
         requires nodes { All (λ (x : Numbered). is_item (node_item x.0 x.1) ≡ true) made.now }
-        ensures { IfOk result (λ put. put ≡ file_entry (file, head.now) ∷ (map node_entry made.now ++ item_record (settings_item (settings_next self.now.tables.templates.settings)) ∷ [])) }
+        ensures { IfOk result (λ put. put ≡ file_entry (file, head.now)
+            ∷ (map node_entry made.now ++ item_record
+            (settings_item (settings_next self.now.tables.templates.settings)) ∷ [])) }
     {
         self.keeps_rules();
         let next = settings_next(self.settings())?;
@@ -193,7 +211,8 @@ impl Catalog {
 /// The node of the name, which is the last.
 fn system_node(made: &[(u32, Node)]) -> u32
     requires { 0 < length made.now }
-    ensures { (dirs : Items Numbered) (number : ℕ) (node : FormatNode) → made.now ≡ dirs ++ (number, node) ∷ [] → result ≡ number }
+    ensures { (dirs : Items Numbered) (number : ℕ) (node : FormatNode)
+        → made.now ≡ dirs ++ (number, node) ∷ [] → result ≡ number }
 {
     let Some(last) = made.last() else {
         unreachable!()

@@ -15,7 +15,10 @@ use std::alloc::Global;
 impl Catalog {
     /// The change by which the rebalance of a power is the active one, or none is.
     pub fn plan_rebalance(&self, alloc: Global, power: Option<u16>) -> Result<Change, Refusal>
-        ensures planned { IfOk result (λ change. IsPlan self.now change.put change.gone (record self.now.tables { operations = record self.now.tables.operations { rebalance = power } })) }
+        ensures planned { IfOk result (λ change. IsPlan self.now change.put change.gone
+            (record self.now.tables {
+              operations = record self.now.tables.operations { rebalance = power };
+            })) }
         ensures refused { IfErr result (λ e. e ≡ WithoutMemory) }
     {
         let change = match power {
@@ -27,7 +30,10 @@ impl Catalog {
 
     #[tactic(auto, using(crate::proofs::PlanLaws::power_planned))]
     fn set_power(&self, alloc: Global, power: u16) -> Result<Change, NoMemory>
-        ensures { IfOk result (λ change. IsPlan self.now change.put change.gone (record self.now.tables { operations = record self.now.tables.operations { rebalance = Some power } })) }
+        ensures { IfOk result (λ change. IsPlan self.now change.put change.gone
+            (record self.now.tables {
+              operations = record self.now.tables.operations { rebalance = Some power };
+            })) }
     {
         self.keeps_rules();
         let entry = rebalance_record(alloc, power)?;
@@ -37,7 +43,10 @@ impl Catalog {
 
     #[tactic(auto, using(crate::proofs::PlanLaws::no_power_planned))]
     fn set_no_power(&self, alloc: Global) -> Result<Change, NoMemory>
-        ensures { IfOk result (λ change. IsPlan self.now change.put change.gone (record self.now.tables { operations = record self.now.tables.operations { rebalance = None } })) }
+        ensures { IfOk result (λ change. IsPlan self.now change.put change.gone
+            (record self.now.tables {
+              operations = record self.now.tables.operations { rebalance = None };
+            })) }
     {
         self.keeps_rules();
         let change = one_gone(alloc, REBALANCE_KEY)?;
@@ -47,7 +56,13 @@ impl Catalog {
     /// The change by which an operation is the pending one. It is a plan where each chunk is then one of a file or of the
     /// operation.
     pub fn plan_begin(&self, alloc: Global, op: Pending) -> Result<Change, Refusal>
-        ensures planned { IfOk result (λ change. AreOwned (record self.now.tables { operations = record self.now.tables.operations { pending = Some op } }) → IsPlan self.now change.put change.gone (record self.now.tables { operations = record self.now.tables.operations { pending = Some op } })) }
+        ensures planned { IfOk result (λ change. AreOwned
+            (record self.now.tables {
+              operations = record self.now.tables.operations { pending = Some op };
+            }) → IsPlan self.now change.put change.gone
+            (record self.now.tables {
+              operations = record self.now.tables.operations { pending = Some op };
+            })) }
         ensures refused { IfErr result (λ e. e ≡ WithoutMemory) }
     {
         self.set_pending(alloc, op).map_err(no_memory)
@@ -55,7 +70,13 @@ impl Catalog {
 
     #[tactic(auto, using(crate::proofs::PlanLaws::begun_planned))]
     fn set_pending(&self, alloc: Global, op: Pending) -> Result<Change, NoMemory>
-        ensures { IfOk result (λ change. AreOwned (record self.now.tables { operations = record self.now.tables.operations { pending = Some op } }) → IsPlan self.now change.put change.gone (record self.now.tables { operations = record self.now.tables.operations { pending = Some op } })) }
+        ensures { IfOk result (λ change. AreOwned
+            (record self.now.tables {
+              operations = record self.now.tables.operations { pending = Some op };
+            }) → IsPlan self.now change.put change.gone
+            (record self.now.tables {
+              operations = record self.now.tables.operations { pending = Some op };
+            })) }
     {
         self.keeps_rules();
         fits(&op);
@@ -66,7 +87,13 @@ impl Catalog {
 
     /// The change by which no operation is pending. It is a plan where each chunk is then one of a file.
     pub fn plan_end(&self, alloc: Global) -> Result<Change, Refusal>
-        ensures planned { IfOk result (λ change. AreOwned (record self.now.tables { operations = record self.now.tables.operations { pending = None } }) → IsPlan self.now change.put change.gone (record self.now.tables { operations = record self.now.tables.operations { pending = None } })) }
+        ensures planned { IfOk result (λ change. AreOwned
+            (record self.now.tables {
+              operations = record self.now.tables.operations { pending = None };
+            }) → IsPlan self.now change.put change.gone
+            (record self.now.tables {
+              operations = record self.now.tables.operations { pending = None };
+            })) }
         ensures refused { IfErr result (λ e. e ≡ WithoutMemory) }
     {
         self.set_no_pending(alloc).map_err(no_memory)
@@ -74,7 +101,13 @@ impl Catalog {
 
     #[tactic(auto, using(crate::proofs::PlanLaws::ended_planned))]
     fn set_no_pending(&self, alloc: Global) -> Result<Change, NoMemory>
-        ensures { IfOk result (λ change. AreOwned (record self.now.tables { operations = record self.now.tables.operations { pending = None } }) → IsPlan self.now change.put change.gone (record self.now.tables { operations = record self.now.tables.operations { pending = None } })) }
+        ensures { IfOk result (λ change. AreOwned
+            (record self.now.tables {
+              operations = record self.now.tables.operations { pending = None };
+            }) → IsPlan self.now change.put change.gone
+            (record self.now.tables {
+              operations = record self.now.tables.operations { pending = None };
+            })) }
     {
         self.keeps_rules();
         let change = one_gone(alloc, PENDING_KEY)?;

@@ -20,8 +20,12 @@ impl Catalog {
     #[tactic(auto, using(crate::proofs::TemplatePlans::edit_planned), unfolding(refusal_lines::specs::Refusals::meaning_of))]
     pub fn plan_template(&self, alloc: Global, edit: &TemplateEdit) -> Result<Change, Refusal>
         requires edit { IsTrue (is_template_edit (template_edit_meant edit.now)) }
-        ensures planned { IfOk result (λ change. IsTemplatePlan self.now (template_edit_meant edit.now) change.put change.gone) }
-        ensures refused { IfErr result (IsTemplateEditRefusal (templates_edited self.now.shape.kind (templates_by_name self.now.tables.templates.templates) (template_edit_meant edit.now))) }
+        ensures planned { IfOk result (λ change. IsTemplatePlan self.now
+            (template_edit_meant edit.now) change.put change.gone) }
+        ensures refused { IfErr result (IsTemplateEditRefusal
+            (templates_edited self.now.shape.kind
+            (templates_by_name self.now.tables.templates.templates)
+            (template_edit_meant edit.now))) }
     {
         let mut table = match self.parts.templates.copy(alloc) {
             Ok(table) => table,
@@ -38,7 +42,13 @@ impl Catalog {
 
     fn set_templates(&self, alloc: Global, templates: &[Template]) -> Result<Change, NoMemory>
         requires { is_item (templates_item templates.now) ≡ true }
-        ensures { IfOk result (λ change. IsPlan self.now change.put change.gone (record self.now.tables { templates = record { templates = templates.now; settings = self.now.tables.templates.settings } })) }
+        ensures { IfOk result (λ change. IsPlan self.now change.put change.gone
+            (record self.now.tables {
+              templates = record {
+                templates = templates.now;
+                settings = self.now.tables.templates.settings;
+              };
+            })) }
     {
         self.keeps_rules();
         let entry = templates_record(alloc, templates)?;

@@ -30,7 +30,8 @@ impl Catalog {
     pub fn plan_tree(&self, alloc: Global, edit: &TreeEdit) -> Result<Change, Refusal>
         requires edit { IsTrue (is_tree_edit (edit_meant edit.now)) }
         requires files { keeps_files (edit_meant edit.now) ≡ true }
-        ensures planned { IfOk result (λ plan. IsTreePlan self.now (edit_meant edit.now) plan.put plan.gone) }
+        ensures planned { IfOk result (λ plan. IsTreePlan self.now (edit_meant edit.now) plan.put
+            plan.gone) }
         ensures refused { IfErr result (IsTreeRefusal self.now (edit_meant edit.now)) }
     {
         self.keeps_rules();
@@ -47,11 +48,15 @@ impl Catalog {
     /// What an edit changes of the nodes.
     fn tree_change(&self, alloc: Global, edit: &TreeEdit) -> Result<TreeChange, TreeError>
         requires { IsTrue (is_tree_edit (edit_meant edit.now)) }
-        ensures done { IfOk result (λ change. edits.edited (tree_of self.now.tables.nodes) (edit_meant edit.now) ≡ Ok (tree_of (nodes_after self.now.tables.nodes change))) }
-        ensures table { IfOk result (λ change. IsNodeTable (nodes_after self.now.tables.nodes change)) }
-        ensures nodes { IfOk result (λ change. ChangesNodes self.now.tables.nodes (nodes_after self.now.tables.nodes change) (edit_meant edit.now)) }
+        ensures done { IfOk result (λ change. edits.edited (tree_of self.now.tables.nodes)
+            (edit_meant edit.now) ≡ Ok (tree_of (nodes_after self.now.tables.nodes change))) }
+        ensures table { IfOk result (λ change. IsNodeTable
+            (nodes_after self.now.tables.nodes change)) }
+        ensures nodes { IfOk result (λ change. ChangesNodes self.now.tables.nodes
+            (nodes_after self.now.tables.nodes change) (edit_meant edit.now)) }
         ensures change { IfOk result (IsChange self.now.tables.nodes (edit_meant edit.now)) }
-        ensures refused { IfErr result (IsRefusal (edits.edited (tree_of self.now.tables.nodes) (edit_meant edit.now))) }
+        ensures refused { IfErr result (IsRefusal
+            (edits.edited (tree_of self.now.tables.nodes) (edit_meant edit.now))) }
     {
         plan(&self.parts.tree, alloc, edit)
     }
@@ -60,8 +65,13 @@ impl Catalog {
     fn plan_change(&self, alloc: Global, change: TreeChange) -> Result<Change, Refusal>
         requires table { IsNodeTable (nodes_after self.now.tables.nodes change) }
         requires may { MayChange self.now.tables change }
-        ensures planned { IfOk result (λ plan. IsPlan self.now plan.put plan.gone (record self.now.tables { nodes = nodes_after self.now.tables.nodes change; files = heads_after self.now.tables change })) }
-        ensures refused { IfErr result (λ e. (e ≡ WithoutMemory) ⊎ ((e ≡ DirectoryFull 1 0) × IsTreeFull self.now change)) }
+        ensures planned { IfOk result (λ plan. IsPlan self.now plan.put plan.gone
+            (record self.now.tables {
+              nodes = nodes_after self.now.tables.nodes change;
+              files = heads_after self.now.tables change;
+            })) }
+        ensures refused { IfErr result (λ e. (e ≡ WithoutMemory)
+            ⊎ ((e ≡ DirectoryFull 1 0) × IsTreeFull self.now change)) }
     {
         match change {
             TreeChange::Put { number, node } => self.put_node(alloc, number, &node),
@@ -73,8 +83,15 @@ impl Catalog {
     fn put_node(&self, alloc: Global, number: u32, node: &Node) -> Result<Change, Refusal>
         requires table { IsNodeTable (with_numbered_node self.now.tables.nodes number node.now) }
         requires may { MayPutNode self.now.tables node.now (node_at self.now.tables.nodes number) }
-        ensures planned { IfOk result (λ plan. IsPlan self.now plan.put plan.gone (record self.now.tables { nodes = with_numbered_node self.now.tables.nodes number node.now; files = heads_with self.now.tables.files number node.now (node_at self.now.tables.nodes number) })) }
-        ensures refused { IfErr result (λ e. (e ≡ WithoutMemory) ⊎ ((e ≡ DirectoryFull 1 0) × (node_at self.now.tables.nodes number ≡ None) × (blocks_used self.now.tables + 2 ≡ self.now.shape.dir_blocks))) }
+        ensures planned { IfOk result (λ plan. IsPlan self.now plan.put plan.gone
+            (record self.now.tables {
+              nodes = with_numbered_node self.now.tables.nodes number node.now;
+              files = heads_with self.now.tables.files number node.now
+                  (node_at self.now.tables.nodes number);
+            })) }
+        ensures refused { IfErr result (λ e. (e ≡ WithoutMemory)
+            ⊎ ((e ≡ DirectoryFull 1 0) × (node_at self.now.tables.nodes number ≡ None)
+            × (blocks_used self.now.tables + 2 ≡ self.now.shape.dir_blocks))) }
     {
         if self.node(number).is_some() {
             return self.set_node(alloc, number, node).map_err(no_memory);
@@ -93,8 +110,12 @@ impl Catalog {
     fn set_node(&self, alloc: Global, number: u32, node: &Node) -> Result<Change, NoMemory>
         requires table { IsNodeTable (with_numbered_node self.now.tables.nodes number node.now) }
         requires kept { KeepsName (node_at self.now.tables.nodes number) node.now }
-        requires room { node_at self.now.tables.nodes number ≡ None → blocks_used self.now.tables + 2 < self.now.shape.dir_blocks }
-        ensures { IfOk result (λ plan. IsPlan self.now plan.put plan.gone (record self.now.tables { nodes = with_numbered_node self.now.tables.nodes number node.now })) }
+        requires room { node_at self.now.tables.nodes number ≡ None
+            → blocks_used self.now.tables + 2 < self.now.shape.dir_blocks }
+        ensures { IfOk result (λ plan. IsPlan self.now plan.put plan.gone
+            (record self.now.tables {
+              nodes = with_numbered_node self.now.tables.nodes number node.now;
+            })) }
     {
         self.keeps_rules();
         let entry = node_record(alloc, number, node)?;
@@ -108,7 +129,12 @@ impl Catalog {
         requires new { IsNewAlias self.now.tables node.now }
         requires free { node_at self.now.tables.nodes number ≡ None }
         requires room { blocks_used self.now.tables + 2 < self.now.shape.dir_blocks }
-        ensures { IfOk result (λ plan. IsPlan self.now plan.put plan.gone (record self.now.tables { nodes = with_numbered_node self.now.tables.nodes number node.now; files = aliased_head self.now.tables.files node.now.file number (head_at self.now.tables.files node.now.file) })) }
+        ensures { IfOk result (λ plan. IsPlan self.now plan.put plan.gone
+            (record self.now.tables {
+              nodes = with_numbered_node self.now.tables.nodes number node.now;
+              files = aliased_head self.now.tables.files node.now.file number
+                  (head_at self.now.tables.files node.now.file);
+            })) }
     {
         self.keeps_rules();
         let Some(head) = self.file(node.file) else {
@@ -125,7 +151,11 @@ impl Catalog {
     fn drop_node(&self, alloc: Global, number: u32) -> Result<Change, NoMemory>
         requires table { IsNodeTable (without_numbered_node self.now.tables.nodes number) }
         requires may { MayGo (node_at self.now.tables.nodes number) }
-        ensures { IfOk result (λ plan. IsPlan self.now plan.put plan.gone (record self.now.tables { nodes = without_numbered_node self.now.tables.nodes number; files = heads_without self.now.tables.files (node_at self.now.tables.nodes number) })) }
+        ensures { IfOk result (λ plan. IsPlan self.now plan.put plan.gone
+            (record self.now.tables {
+              nodes = without_numbered_node self.now.tables.nodes number;
+              files = heads_without self.now.tables.files (node_at self.now.tables.nodes number);
+            })) }
     {
         self.keeps_rules();
         let Some(node) = self.node(number) else {
@@ -146,7 +176,12 @@ impl Catalog {
         requires table { IsNodeTable (without_numbered_node self.now.tables.nodes number) }
         requires there { node_at self.now.tables.nodes number ≡ Some node.now }
         requires kind { node.now.kind ≡ Alias }
-        ensures { IfOk result (λ plan. IsPlan self.now plan.put plan.gone (record self.now.tables { nodes = without_numbered_node self.now.tables.nodes number; files = aliased_head self.now.tables.files node.now.file 0 (head_at self.now.tables.files node.now.file) })) }
+        ensures { IfOk result (λ plan. IsPlan self.now plan.put plan.gone
+            (record self.now.tables {
+              nodes = without_numbered_node self.now.tables.nodes number;
+              files = aliased_head self.now.tables.files node.now.file 0
+                  (head_at self.now.tables.files node.now.file);
+            })) }
     {
         self.keeps_rules();
         let Some(head) = self.file(node.file) else {

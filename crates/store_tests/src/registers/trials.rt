@@ -56,7 +56,8 @@ fn is_long(size: u64, sector: u32) -> bool
 
 fn attach<B: Bay>(bay: &mut B, member: Member) -> bool
     ensures here { result ≡ true → HasSlots (B.state bay.new) member.slot member.sector }
-    ensures others { (slot sector : ℕ) → HasSlots (B.state bay.old) slot sector → HasSlots (B.state bay.new) slot sector }
+    ensures others { (slot sector : ℕ) → HasSlots (B.state bay.old) slot sector
+        → HasSlots (B.state bay.new) slot sector }
 {
     match bay.attach(member.slot, "disk") {
         Ok(size) => is_long(size, member.sector),
@@ -114,7 +115,8 @@ fn birth_of(entries: &[PstEntry], disk: u8) -> Option<u64>
 
 /// Whether the disk of this number, if it has an entry, is one of the members.
 fn is_entry_there(members: &[Member], entries: &[PstEntry], disk: u8) -> bool
-    ensures { result ≡ list_all (is_holder_there members.now) (holder_of disk (entry_of entries.now disk)) }
+    ensures { result ≡ list_all (is_holder_there members.now)
+        (holder_of disk (entry_of entries.now disk)) }
 {
     match birth_of(entries, disk) {
         None => true,
@@ -125,7 +127,8 @@ fn is_entry_there(members: &[Member], entries: &[PstEntry], disk: u8) -> bool
 /// Whether the disk of this number, if it is in the set, is one of the members.
 #[tactic(auto, using(crate::proofs::Trying::out_of_set, crate::proofs::Trying::in_set))]
 fn is_held(members: &[Member], status: &PstRecord, disk: u8) -> bool
-    ensures { result ≡ list_all (is_holder_there members.now) (of_disk status.now.entries status.now.holders disk) }
+    ensures { result ≡ list_all (is_holder_there members.now)
+        (of_disk status.now.entries status.now.holders disk) }
 {
     if status.holders.has(disk) {
         is_entry_there(members, status.entries(), disk)
@@ -136,7 +139,9 @@ fn is_held(members: &[Member], status: &PstRecord, disk: u8) -> bool
 
 /// Whether all holders of a record are among the members.
 fn are_there(members: &[Member], status: &PstRecord) -> bool
-    ensures { result ≡ true → (h : Holder) → IsAmong (disks_of status.now.entries status.now.holders) h → IsTrue (is_holder_there members.now h) }
+    ensures { result ≡ true → (h : Holder)
+        → IsAmong (disks_of status.now.entries status.now.holders) h
+        → IsTrue (is_holder_there members.now h) }
 {
     for disk in 0..64 {
         if !is_held(members, status, disk) {

@@ -114,7 +114,8 @@ fn has_room(group: &Catalog, file: u32) -> bool
     ensures units { OnTrue result (256 ≤ group.now.shape.step) }
     ensures room { OnTrue result (None ≡ extent_at group.now.tables.extents file 255) }
     ensures copies { OnTrue result (IsTrue (is_copy_of (head_at group.now.tables.files file) 1)) }
-    ensures owned { OnTrue result (IsTrue (is_file_number group.now.tables.files file || is_pending file group.now.tables.operations.pending)) }
+    ensures owned { OnTrue result (IsTrue (is_file_number group.now.tables.files file
+        || is_pending file group.now.tables.operations.pending)) }
 {
     256 <= step(group)
         && group.homes(extent(file, 255)).is_none()
@@ -126,7 +127,9 @@ fn has_room(group: &Catalog, file: u32) -> bool
 fn may_append(group: &Catalog, file: u32, first: Home, second: Home) -> bool
     requires first { IsTrue (is_some (home_taken group.now.units first 1)) }
     requires second { IsTrue (is_some (home_taken group.now.units second 1)) }
-    ensures { OnTrue result ((m : ℕ) → m < 8 → are_marks_of (m, Some first ∷ Some second ∷ None ∷ []) ≡ true → MayAppend group.now file 0 ((Some first ∷ Some second ∷ None ∷ []) ∷ []) (m ∷ [])) }
+    ensures { OnTrue result ((m : ℕ) → m < 8
+        → are_marks_of (m, Some first ∷ Some second ∷ None ∷ []) ≡ true
+        → MayAppend group.now file 0 ((Some first ∷ Some second ∷ None ∷ []) ∷ []) (m ∷ [])) }
 {
     if first.disk == second.disk || !has_room(group, file) {
         return false;

@@ -48,7 +48,8 @@ fn is_whole(group: &Catalog, file: u32, copies: u8, index: u32) -> bool
 
 /// Whether so many extents of a file are there, from the first on, with all copies.
 fn has_extents(group: &Catalog, file: u32, copies: u8, count: u32) -> bool
-    ensures { OnTrue result ((i : ℕ) → i < count → has_copies copies (extent_at group.now.tables.extents file i) ≡ true) }
+    ensures { OnTrue result ((i : ℕ) → i < count
+        → has_copies copies (extent_at group.now.tables.extents file i) ≡ true) }
 {
     for index in 0..count {
         if !is_whole(group, file, copies, index) {
@@ -61,7 +62,8 @@ fn has_extents(group: &Catalog, file: u32, copies: u8, count: u32) -> bool
 /// How many extents a file of so many bytes has, where that is a number of 32 bits.
 fn extents_by(shape: &Shape, stripe: Stripe, size: u64) -> Option<u32>
     requires { IsTrue (is_shape shape.now) }
-    ensures { IfSome result (λ n. (i : ℕ) → (i < n) ↔ IsTrue (has_extent_by_size stripe shape.now.au shape.now.step size i)) }
+    ensures { IfSome result (λ n. (i : ℕ) → (i < n)
+        ↔ IsTrue (has_extent_by_size stripe shape.now.au shape.now.step size i)) }
 {
     let layout = Layout {
         au: shape.au as u64,
@@ -74,7 +76,8 @@ fn extents_by(shape: &Shape, stripe: Stripe, size: u64) -> Option<u32>
 
 /// The same in the group.
 fn extents_of(group: &Catalog, stripe: Stripe, size: u64) -> Option<u32>
-    ensures { IfSome result (λ n. (i : ℕ) → (i < n) ↔ IsTrue (has_extent_by_size stripe group.now.shape.au group.now.shape.step size i)) }
+    ensures { IfSome result (λ n. (i : ℕ) → (i < n)
+        ↔ IsTrue (has_extent_by_size stripe group.now.shape.au group.now.shape.step size i)) }
 {
     let shape = group.shape();
     if !shape.is_allowed() {

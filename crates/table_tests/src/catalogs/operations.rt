@@ -39,7 +39,8 @@ pub fn is_owner(group: &Catalog, file: u32, op: &Option<Pending>) -> bool
 
 /// Whether each chunk is one of a file or of the operation.
 fn are_owned(group: &Catalog, op: &Option<Pending>) -> bool
-    ensures { OnTrue result (AreOwned (record group.now.tables { operations = record group.now.tables.operations { pending = op.now } })) }
+    ensures { OnTrue result (AreOwned (record group.now.tables
+        { operations = record group.now.tables.operations { pending = op.now } })) }
 {
     for (at, _) in group.chunks() {
         if !is_owner(group, at.0, op) {
