@@ -95,9 +95,10 @@ fn is_part(name: &Name) -> bool
     name.as_bytes().len() <= 80
 }
 
-/// Edits the tree. The refusals are tried in the order of `TreeError`, but for NoMemory, which comes last. After
-/// an `Err` the tree is as it was. A path costs a look-up for each of its parts, a row of new nodes one for each,
-/// and AddAlias and DropFile one for each name of the file, whatever other names there are.
+/// Edits the tree. The refusals are tried in the order of `TreeError`, but for NoMemory, which
+/// comes last. After an `Err` the tree is as it was. A path costs a look-up for each of its parts,
+/// a row of new nodes one for each, and AddAlias and DropFile one for each name of the file,
+/// whatever other names there are.
 #[tactic(auto, using(crate::proofs::EditLaws::edited_is, crate::proofs::EditLaws::refused_is))]
 pub fn edit(tree: &mut AliasTree, edit: &TreeEdit) -> Result<(), TreeError>
     requires { IsTrue (is_tree_edit (edit_meant edit.now)) }

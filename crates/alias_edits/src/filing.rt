@@ -26,9 +26,9 @@ pub(crate) struct Front {
     number: u32,
 }
 
-/// What the system name of a new file changes, of which nothing is done: the nodes of the directories
-/// that are missing above it, from the top, and then the node of the name. Each takes the least number
-/// that is free. A path costs a look-up for each of its parts.
+/// What the system name of a new file changes, of which nothing is done: the nodes of the
+/// directories that are missing above it, from the top, and then the node of the name. Each takes
+/// the least number that is free. A path costs a look-up for each of its parts.
 ///
 /// NotDirectory: a directory of the path is there as a file. NameTaken: the path is there.
 pub fn plan_file(
@@ -39,7 +39,8 @@ pub fn plan_file(
 ) -> Result<Vec<(u32, Node)>, TreeError>
     requires parts { IsTrue (are_parts path.now.parts) }
     requires some { 0 < length path.now.parts }
-    // The nodes with these are those of the tree of names with the file and the missing directories.
+    // The nodes with these are those of the tree of names with the file and the missing
+    // directories.
     ensures done { IfOk result (λ made. tree_with_file (tree_of tree.now) path.now.parts file
         ≡ Ok (tree_of (with_nodes tree.now made.items))) }
     ensures table { IfOk result (λ made. IsNodeTable (with_nodes tree.now made.items)) }

@@ -1,4 +1,5 @@
-//! Edits of the tree of names: making, renaming and dropping directories and aliases, and the names of files.
+//! Edits of the tree of names: making, renaming and dropping directories and aliases, and the names
+//! of files.
 #![tactic(auto)]
 
 pub use alias_tree::{Node, node_record};

@@ -15,9 +15,9 @@ use asm_base::{NoMemory, Records};
 use std::alloc::Global;
 
 impl AliasTree {
-    /// A node that breaks the rule of the tree: the first whose parents don't lead to the root by directories, else one
-    /// with the parent and name of an earlier one. None where there is no such node, or a record of its kind isn't of the
-    /// formats.
+    /// A node that breaks the rule of the tree: the first whose parents don't lead to the root by
+    /// directories, else one with the parent and name of an earlier one. None where there is no
+    /// such node, or a record of its kind isn't of the formats.
     #[tactic(auto, using(crate::proofs::FoundFaults::none_read))]
     pub fn fault_in(alloc: Global, records: &Records) -> Result<Option<u32>, NoMemory>
         // The node that is named breaks the rule in a table that has these records.

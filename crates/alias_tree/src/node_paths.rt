@@ -13,8 +13,8 @@ use asm_base::{List, Name, NoMemory};
 use std::alloc::Global;
 
 impl AliasTree {
-    /// The parts of a node's path, as the nodes spell them. None where there is no such node, as for the root. Work and
-    /// memory go by the number of parts.
+    /// The parts of a node's path, as the nodes spell them. None where there is no such node, as
+    /// for the root. Work and memory go by the number of parts.
     #[tactic(auto, using(crate::proofs::Spelled::leads_there, crate::proofs::Spelled::has_entry))]
     pub fn path_to(&self, alloc: Global, node: u32) -> Result<Option<List<Name>>, NoMemory>
         ensures spelt { IfOk result (λ path. IfSome path

@@ -210,7 +210,8 @@ impl Nodes {
         Ok(Some(nodes))
     }
 
-    /// Takes up one record more, or passes over one of another kind. `false` where it doesn't follow.
+    /// Takes up one record more, or passes over one of another kind. `false` where it doesn't
+    /// follow.
     #[tactic(auto, using(crate::proofs::Rules::taken_step, crate::proofs::Rules::refused_value, crate::proofs::Rules::refused_order))]
     fn take_up(&mut self, alloc: Global, key: Key, value: &Value) -> Result<bool, NoMemory>
         requires { Ascend is_before self.old }

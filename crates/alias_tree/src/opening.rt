@@ -16,8 +16,9 @@ use asm_base::{Key, NoMemory, Value};
 use std::alloc::Global;
 use std::marker::Model;
 
-/// The nodes of a tree while a change is under way: no two have one parent and one folded name, but parents needn't lead to
-/// the root. Contracts see the list of the nodes in the order of their numbers.
+/// The nodes of a tree while a change is under way: no two have one parent and one folded name, but
+/// parents needn't lead to the root. Contracts see the list of the nodes in the order of their
+/// numbers.
 #[derive(Drop)]
 pub struct OpenTree {
     pub(crate) nodes: Nodes,
@@ -54,8 +55,9 @@ impl OpenTree {
         let _ = remove_node(&mut self.nodes, &mut self.places, number);
     }
 
-    /// Puts the node that a record says, where its number has none. `false`, with the nodes as they were, where the record
-    /// isn't a node's or another node has its parent and folded name. Where there is no memory the nodes stay.
+    /// Puts the node that a record says, where its number has none. `false`, with the nodes as they
+    /// were, where the record isn't a node's or another node has its parent and folded name. Where
+    /// there is no memory the nodes stay.
     #[tactic(auto, using(crate::proofs::OpenLaws::record_put, crate::proofs::OpenLaws::put_keeps_nodes, crate::proofs::OpenLaws::name_of_record, crate::proofs::OpenLaws::not_read, crate::proofs::OpenLaws::is_taken))]
     pub fn put_record(&mut self, alloc: Global, key: Key, value: &Value) -> Result<bool, NoMemory>
         requires kind { key.kind ≡ nodes_kind }

@@ -162,8 +162,8 @@ impl AliasTree {
         Ok(Some(AliasTree { nodes, places }))
     }
 
-    /// The node at a path, whatever its group's name; the root is 0. It takes as many steps as the path
-    /// has parts, each in the logarithm of the number of names.
+    /// The node at a path, whatever its group's name; the root is 0. It takes as many steps as the
+    /// path has parts, each in the logarithm of the number of names.
     #[tactic(auto, unfolding(crate::specs::Nodes::number_of))]
     pub fn find(&self, path: &Path) -> Option<u32>
         ensures { result ≡ number_of self.now path.now.parts }

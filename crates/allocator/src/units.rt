@@ -35,8 +35,8 @@ impl Model for Units {
 }
 
 impl Units {
-    /// A disk of so many units, none of which are used. Those before `first` are reserved, so there are no user units
-    /// where `first` is above `units`.
+    /// A disk of so many units, none of which are used. Those before `first` are reserved, so there
+    /// are no user units where `first` is above `units`.
     pub fn new(alloc: Global, first: u32, units: u32) -> Result<Units, NoMemory>
         requires { units ≤ 16777216 }
         ensures { IfOk result (λ u. u ≡ unused first units) }
@@ -65,8 +65,8 @@ impl Units {
         })
     }
 
-    /// The disk with so many units: each is used where it was, and a new one isn't. What is used behind the last unit is lost.
-    /// Work and memory go by the number of units, a word at a time.
+    /// The disk with so many units: each is used where it was, and a new one isn't. What is used
+    /// behind the last unit is lost. Work and memory go by the number of units, a word at a time.
     pub fn resized(&self, units: u32) -> Result<Units, NoMemory>
         requires { units ≤ 16777216 }
         ensures { IfOk result (λ u. u ≡ with_unit_count self.now units) }
@@ -91,7 +91,8 @@ impl Units {
         from >= self.units || is_free(&self.words, from, self.units - from)
     }
 
-    /// Takes the lowest run of so many free user units. None, with nothing changed, where there is no such run.
+    /// Takes the lowest run of so many free user units. None, with nothing changed, where there is
+    /// no such run.
     pub fn take(&mut self, n: u32) -> Option<u32>
         requires { 0 < n }
         ensures found { MatchOption result (HasNoRun self.old n) (IsLowestRun self.old n) }
@@ -102,7 +103,8 @@ impl Units {
         Some(at)
     }
 
-    /// Makes a run used. False, with nothing changed, where it is out of range or meets a used unit.
+    /// Makes a run used. False, with nothing changed, where it is out of range or meets a used
+    /// unit.
     pub fn mark(&mut self, at: u32, n: u32) -> bool
         requires { 0 < n }
         ensures free { IsTrue result ↔ IsFreeRun self.old at n }
@@ -126,7 +128,8 @@ impl Units {
         self.from = self.from.min(at);
     }
 
-    /// Makes a free run used. `from` goes on to the first free unit, so that no search passes over the used ones before it.
+    /// Makes a free run used. `from` goes on to the first free unit, so that no search passes over
+    /// the used ones before it.
     fn use_run(&mut self, at: u32, n: u32)
         requires some { 0 < n }
         requires free { IsFreeRun self.old at n }

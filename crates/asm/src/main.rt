@@ -1,4 +1,5 @@
-//! `asm IMAGE...` reads a script on standard input, runs its commands on images of disks, and answers each on standard output.
+//! `asm IMAGE...` reads a script on standard input, runs its commands on images of disks, and
+//! answers each on standard output.
 #![tactic(auto)]
 
 use asm_run::run;
@@ -40,7 +41,8 @@ fn run_words(alloc: Global, rt: &HostRuntime, words: &[String]) -> io::Result<u8
     Ok(report.status)
 }
 
-/// Prints help or the version. Where that fails the status is that of a reply that can't be written.
+/// Prints help or the version. Where that fails the status is that of a reply that can't be
+/// written.
 fn tell(rt: &HostRuntime, notice: Notice) -> u8 {
     match rt.print(notice.text()) {
         Ok(()) => 0,

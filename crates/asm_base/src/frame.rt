@@ -78,7 +78,8 @@ fn read_bytes(alloc: Global, bytes: &[u8]) -> Result<Option<(Key, Value)>, NoMem
     Ok(Some((key, value)))
 }
 
-/// Takes the key of a record and the length of its value. Where there is none, some bytes may be gone.
+/// Takes the key of a record and the length of its value. Where there is none, some bytes may be
+/// gone.
 #[tactic(auto, unfolding(crate::specs::Frames::head_reading))]
 pub fn take_record_head(from: &mut Reader) -> Option<(Key, u16)>
     ensures { Reads from.new result (head_reading from.old) }

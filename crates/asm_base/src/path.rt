@@ -17,8 +17,8 @@ pub struct Path {
 }
 
 impl Path {
-    /// The path that the bytes are: `+`, a group's name, and parts of 1 to 80 bytes, each after `/`.
-    /// None where they aren't one.
+    /// The path that the bytes are: `+`, a group's name, and parts of 1 to 80 bytes, each after
+    /// `/`. None where they aren't one.
     #[tactic(auto, unfolding(crate::specs::Paths::path_of))]
     pub fn read(alloc: Global, bytes: &[u8]) -> Result<Option<Path>, NoMemory>
         ensures { IfOk result (λ read. read ≡ path_of bytes.now) }

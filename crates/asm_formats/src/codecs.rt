@@ -1,4 +1,5 @@
-//! Each body has one spelling, and is decoded from it alone. Each law is the contract of a function that does nothing.
+//! Each body has one spelling, and is decoded from it alone. Each law is the contract of a function
+//! that does nothing.
 
 ghost use Rattle.asm_formats.specs.Codecs.{AreBlocks, AreSmall, ClaimCodec, FrameCodec, HeaderCodec, IsItemCodec, IsStatusCodec, LogHeadCodec, RecordCodec};
 

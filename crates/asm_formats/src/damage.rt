@@ -1,4 +1,5 @@
-//! Which block is named where a disk's bodies don't decode. Each law is the contract of a function that does nothing.
+//! Which block is named where a disk's bodies don't decode. Each law is the contract of a function
+//! that does nothing.
 
 ghost use Rattle.asm_formats.specs.Damage.{DamageIsSeen, IsBodyDamage, WholeCopyDecodes};
 

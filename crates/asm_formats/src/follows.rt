@@ -1,4 +1,5 @@
-//! The order of status records, and which may follow which. Each law is the contract of a function that does nothing.
+//! The order of status records, and which may follow which. Each law is the contract of a function
+//! that does nothing.
 
 ghost use Rattle.asm_formats.specs.Following.{IsRanked, SameSetsFollow};
 

@@ -1,4 +1,5 @@
-//! What the metadata of a disk rests on: which writes leave it, however they are torn. Each law is the contract of a function that does nothing.
+//! What the metadata of a disk rests on: which writes leave it, however they are torn. Each law is
+//! the contract of a function that does nothing.
 
 ghost use Rattle.asm_formats.specs.Frames.{ClaimWriteKeepsOthers, ClaimsBySlot, ClosedCopyWriteKeepsMetadata, DirectoryWriteKeepsOthers, HeaderWriteKeepsOthers, ShortImageHasNoHeader, SpareWriteKeepsMetadata, StatusWriteKeepsOthers, StatusesBySlot, UserBytesAreSpare, UserWriteKeepsMetadata};
 

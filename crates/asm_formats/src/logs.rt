@@ -1,5 +1,5 @@
-//! What a directory copy holds at each moment of a commit, a checkpoint and a format. Each law is the contract of a
-//! function that does nothing.
+//! What a directory copy holds at each moment of a commit, a checkpoint and a format. Each law is
+//! the contract of a function that does nothing.
 
 ghost use Rattle.asm_formats.specs.Commits.{CheckpointIsDone, CheckpointKeepsMetadata, CloseKeepsMetadata, ClosedCopyHasNone, ClosedMayClose, CommitIsCheckpointed, LastCloseLosesContent, LogIsReadBack, LogPutCommits, LogPutIsCommitted, OpenLogsDecode};
 

@@ -1,5 +1,5 @@
-//! Pages, each zeros or the block of one record, and the records of many. Each law is the contract of a function that
-//! does nothing.
+//! Pages, each zeros or the block of one record, and the records of many. Each law is the contract
+//! of a function that does nothing.
 
 ghost use Rattle.asm_formats.specs.PageLaws.{IsPageCodec, OrderedListsAreOne, PagesHaveRecords, RecordsAreApart, RecordsAreOfPages};
 

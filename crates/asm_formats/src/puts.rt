@@ -1,5 +1,5 @@
-//! What a disk says at each moment while a claim, a status record or a header is put. Each law is the contract of a
-//! function that does nothing.
+//! What a disk says at each moment while a claim, a status record or a header is put. Each law is
+//! the contract of a function that does nothing.
 
 ghost use Rattle.asm_formats.specs.Puts.{ClaimPut, HeaderPut, StatusPut};
 

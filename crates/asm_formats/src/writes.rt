@@ -1,5 +1,5 @@
-//! Writes that are joined, and blocks that are told by their bytes. Each law is the contract of a function that does
-//! nothing.
+//! Writes that are joined, and blocks that are told by their bytes. Each law is the contract of a
+//! function that does nothing.
 
 ghost use Rattle.asm_formats.specs.Writing.{BlockIsStored, BlocksAreStored, WriteWidens, WritesJoin};
 

@@ -18,7 +18,8 @@ use crate::words::{Place, ReadError, missed};
 pub enum TextKind {
     /// A letter and letters, digits, `_`, `$` or `#`, at most 30 bytes.
     Named,
-    /// A path in a group: `+` alone, `+` and a group's name and parts behind `/`, or parts alone with `/` between.
+    /// A path in a group: `+` alone, `+` and a group's name and parts behind `/`, or parts alone
+    /// with `/` between.
     Path,
     /// The same, where a part may hold `*`.
     PathPattern,

@@ -23,7 +23,8 @@ pub fn reads_whole_texts()
     ensures { ReadsWholeTexts }
 {}
 
-/// Where a text is refused, no text of the grammar has more of it at its beginning than the answer says.
+/// Where a text is refused, no text of the grammar has more of it at its beginning than the answer
+/// says.
 pub fn no_text_goes_further()
     ensures { NoTextGoesFurther }
 {}
@@ -48,12 +49,14 @@ pub fn refuses_lines_at_longest_front()
     ensures { RefusesLinesAtLongestFront }
 {}
 
-/// Reading that begins with fewer bytes left gives the same values, and refuses at the later of the two places.
+/// Reading that begins with fewer bytes left gives the same values, and refuses at the later of the
+/// two places.
 pub fn refuses_at_the_later()
     ensures { RefusesAtTheLater }
 {}
 
-/// Each kind of text of a verb has the words that it is to have: names, paths by their parts, and paths outside.
+/// Each kind of text of a verb has the words that it is to have: names, paths by their parts, and
+/// paths outside.
 pub fn texts_are_as_said()
     ensures { TextsAreAsSaid }
 {}

@@ -181,7 +181,8 @@ pub fn starts_with_digit(bytes: &[u8]) -> bool
     }
 }
 
-/// The longest front of digits, and at most one letter behind them, that spells a size below 2 ^ 64: its length and the size.
+/// The longest front of digits, and at most one letter behind them, that spells a size below 2 ^
+/// 64: its length and the size.
 pub fn size_prefix(text: &[u8]) -> (usize, u64)
     ensures len { result.0 ≡ near_size 0 text.now }
     ensures value { result.1 ≡ near_size_value 0 text.now }
@@ -221,7 +222,8 @@ fn minutes_in(b: u8) -> u64
     }
 }
 
-/// The number with one more digit, where the byte is a digit and so many minutes stay below 2 ^ 64 seconds.
+/// The number with one more digit, where the byte is a digit and so many minutes stay below 2 ^ 64
+/// seconds.
 fn with_count(number: u64, b: u8) -> Option<u64>
     ensures { result ≡ (if is_digit_byte b && nat_lt ((number * 10 + (b - 48)) * 60) (2 ^ 64)
         then Some (number * 10 + (b - 48)) else None) }
@@ -234,7 +236,8 @@ fn with_count(number: u64, b: u8) -> Option<u64>
     Some(next)
 }
 
-/// The longest front of digits that spells a number of minutes below 2 ^ 64 seconds: its length and the number.
+/// The longest front of digits that spells a number of minutes below 2 ^ 64 seconds: its length and
+/// the number.
 pub fn count_prefix(text: &[u8]) -> (usize, u64)
     ensures len { result.0 ≡ near_count 0 text.now }
     ensures value { result.1 ≡ near_count_value 0 text.now }

@@ -27,7 +27,8 @@ pub struct Place<'a> {
 /// Why a text was not read.
 #[derive(Debug, Drop)]
 pub enum ReadError {
-    /// It is not in the grammar: only so many bytes are left behind its longest front that begins a text of it.
+    /// It is not in the grammar: only so many bytes are left behind its longest front that begins a
+    /// text of it.
     Syntax { left: usize },
     NoMemory,
 }
@@ -210,7 +211,8 @@ pub fn size<'a>(place: Place<'a>) -> Result<(u64, Place<'a>), ReadError>
     }
 }
 
-/// The minutes that a letter behind so many and the end of the word make, what stands behind them, and how many bytes begin such a letter.
+/// The minutes that a letter behind so many and the end of the word make, what stands behind them,
+/// and how many bytes begin such a letter.
 fn judge_unit(count: u64, text: &[u8]) -> (Option<(u64, &[u8])>, usize)
     ensures says { option_map (λ p. (p.0, p.1.now)) result.0 ≡ in_minutes (Some count) text.now }
     ensures near { result.1 ≡ near_letter count text.now }

@@ -1,5 +1,5 @@
-//! The words of a disk group, and what a group is for its users: names and paths, files and their bytes,
-//! templates and attributes. All other crates of definitions stand on these.
+//! The words of a disk group, and what a group is for its users: names and paths, files and their
+//! bytes, templates and attributes. All other crates of definitions stand on these.
 #![tactic(auto)]
 
 ghost use Rattle.asm_group.specs.Rows.{NameRows, TemplateRows, RefusalRows};

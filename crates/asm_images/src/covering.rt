@@ -12,7 +12,8 @@ pub fn fewer_copies_are_covered()
     ensures { FewerCopiesAreCovered }
 {}
 
-/// So may a record with other entries that fit what the directories say: disks are added, resized, or leave.
+/// So may a record with other entries that fit what the directories say: disks are added, resized,
+/// or leave.
 pub fn entries_are_covered()
     ensures { EntriesAreCovered }
 {}

@@ -37,7 +37,8 @@ pub fn made_is_zeros()
     ensures { MadeIsZeros }
 {}
 
-/// A change inside a slot's two blocks, after which it shows what it did, nothing or a body, is a moment of putting that body.
+/// A change inside a slot's two blocks, after which it shows what it did, nothing or a body, is a
+/// moment of putting that body.
 pub fn shown_is_put()
     ensures { ShownIsPut }
 {}

@@ -1,6 +1,6 @@
-//! What the disks of a group mean: members, the status register, which directory copy counts, the group that disks
-//! hold, and what every image keeps at every moment for every set of disks that may be left. The laws over these
-//! definitions are contracts of functions that do nothing.
+//! What the disks of a group mean: members, the status register, which directory copy counts, the
+//! group that disks hold, and what every image keeps at every moment for every set of disks that
+//! may be left. The laws over these definitions are contracts of functions that do nothing.
 #![tactic(auto)]
 
 pub mod cells;

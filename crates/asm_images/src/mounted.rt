@@ -1,4 +1,5 @@
-//! A mounted group stays what it is while other disks change, and what it says is there with its attached disks.
+//! A mounted group stays what it is while other disks change, and what it says is there with its
+//! attached disks.
 
 ghost use Rattle.asm_images.specs.Kept.{BystandersAreHeld, CompleteStands, FewerSlotsAreSound, HeldStands, SameIsHeld};
 

@@ -2,12 +2,14 @@
 
 ghost use Rattle.asm_images.specs.MountLaws.{ClaimIsSeen, MajorityIsClaimed, OneContentIsOneGroup, RenumberedIsCovered, SurveyedCounts, SurveyedEpochIsAbove};
 
-/// A claim on members that are enough for a record is seen by every set that is enough for a record that shares a set with it.
+/// A claim on members that are enough for a record is seen by every set that is enough for a record
+/// that shares a set with it.
 pub fn majority_is_claimed()
     ensures { MajorityIsClaimed }
 {}
 
-/// Once members that are enough for a record that counts are claimed, a record of that epoch may be begun.
+/// Once members that are enough for a record that counts are claimed, a record of that epoch may be
+/// begun.
 pub fn claim_is_seen()
     ensures { ClaimIsSeen }
 {}
@@ -22,7 +24,8 @@ pub fn surveyed_counts()
     ensures { SurveyedCounts }
 {}
 
-/// A record under another number, and with other holders, may be taken for Status as the record may.
+/// A record under another number, and with other holders, may be taken for Status as the record
+/// may.
 pub fn renumbered_is_covered()
     ensures { RenumberedIsCovered }
 {}

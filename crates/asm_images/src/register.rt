@@ -1,9 +1,11 @@
-//! The status register: whichever members are read, they give the completed record or one that was begun after it.
+//! The status register: whichever members are read, they give the completed record or one that was
+//! begun after it.
 
 ghost use Rattle.asm_images.specs.Laws.{CurrentShareASet, EnoughMeet, FollowersShareASet, MoveFollows, StatusCounts};
 ghost use Rattle.asm_images.specs.ContentLaws.{BegunIsLast, CompleteIsLast};
 
-/// What any set of members takes for Status is the completed record, or one that was begun after it.
+/// What any set of members takes for Status is the completed record, or one that was begun after
+/// it.
 pub fn status_counts()
     ensures { StatusCounts }
 {}
@@ -23,7 +25,8 @@ pub fn current_share_a_set()
     ensures { CurrentShareASet }
 {}
 
-/// Where two records share a set, members that are enough for the one and members that are enough for the other have a disk in common.
+/// Where two records share a set, members that are enough for the one and members that are enough
+/// for the other have a disk in common.
 pub fn enough_meet()
     ensures { EnoughMeet }
 {}

@@ -38,7 +38,8 @@ pub fn mirrored_is_described()
     ensures { MirroredIsDescribed }
 {}
 
-/// While a commit stands on one of two copies, the disks hold the group before it or the one after it.
+/// While a commit stands on one of two copies, the disks hold the group before it or the one after
+/// it.
 pub fn mirrored_is_one_of_two()
     ensures { MirroredIsOneOfTwo }
 {}

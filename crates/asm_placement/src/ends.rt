@@ -2,7 +2,8 @@
 
 ghost use Rattle.asm_placement.specs.EndLaws.{DoneMeans, FullBears, LostMeans, NoSpaceMeans};
 
-/// Where the rebalance is done, each copy is where it should be, the disks are balanced and no table is to move.
+/// Where the rebalance is done, each copy is where it should be, the disks are balanced and no
+/// table is to move.
 pub fn done_means()
     ensures { DoneMeans }
 {}

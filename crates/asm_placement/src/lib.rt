@@ -1,5 +1,6 @@
-//! Where bytes and copies go: the layout of files over extents, the partners of disks, the homes of copies,
-//! and the next move of a rebalance. Laws over these definitions are contracts of functions that do nothing.
+//! Where bytes and copies go: the layout of files over extents, the partners of disks, the homes of
+//! copies, and the next move of a rebalance. Laws over these definitions are contracts of functions
+//! that do nothing.
 #![tactic(auto)]
 
 pub mod ends;

@@ -18,8 +18,8 @@ use std::alloc::Global;
 /// How many commands the generator makes over four images.
 const COMMANDS: u64 = 1023;
 
-/// Runs the script that is made from a number, and prints its replies short. Status 5 comes also where there is no memory for the
-/// script, and then nothing is done.
+/// Runs the script that is made from a number, and prints its replies short. Status 5 comes also
+/// where there is no memory for the script, and then nothing is done.
 pub fn generate<B: Bay, H: Host, K: Sink, C: Clock>(
     alloc: Global,
     number: u64,

@@ -1,5 +1,6 @@
-//! The call that `main` makes: words and a script are read, the commands are run on images of disks, and their replies are printed.
-//! It stands in a library of its own, so that scripts can be played by it over disks in memory.
+//! The call that `main` makes: words and a script are read, the commands are run on images of
+//! disks, and their replies are printed. It stands in a library of its own, so that scripts can be
+//! played by it over disks in memory.
 #![tactic(auto)]
 
 mod generating;

@@ -15,12 +15,13 @@ use command_line::{Words, WordsError, read_words};
 use serving::{Manner, Program};
 use std::alloc::Global;
 
-/// Reads a script from the source, runs its commands on the images that the words name, and prints their replies to the sink.
-/// With `--generate` the source isn't read: the script made from the number is run, each reply but the last is one byte, and
-/// events have no lines. The words don't hold the program's own name. Statuses: 0 each command was answered `ok`; 1 some command
-/// was refused; 2 the words aren't `[--generate N] IMAGE...`, with 1 to 512 paths and none twice, and under `--generate` with
-/// four paths without a single quote; 3 the source failed; 4 the sink failed; 5 there was no memory; 6 the script is longer than
-/// 67,108,864 bytes.
+/// Reads a script from the source, runs its commands on the images that the words name, and prints
+/// their replies to the sink. With `--generate` the source isn't read: the script made from the
+/// number is run, each reply but the last is one byte, and events have no lines. The words don't
+/// hold the program's own name. Statuses: 0 each command was answered `ok`; 1 some command was
+/// refused; 2 the words aren't `[--generate N] IMAGE...`, with 1 to 512 paths and none twice, and
+/// under `--generate` with four paths without a single quote; 3 the source failed; 4 the sink
+/// failed; 5 there was no memory; 6 the script is longer than 67,108,864 bytes.
 pub fn run<B: Bay, H: Host, S: Source, K: Sink, C: Clock>(
     alloc: Global,
     words: &[String],

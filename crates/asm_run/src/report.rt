@@ -6,8 +6,8 @@ use bay::{Bay, Clock, Host, Sink};
 use serving::{Desk, Program, Stop};
 use std::alloc::Global;
 
-/// How a run ended: its status, how many replies were printed whole, the count of the disks' calls at the end of each of these,
-/// and the outside as it is then.
+/// How a run ended: its status, how many replies were printed whole, the count of the disks' calls
+/// at the end of each of these, and the outside as it is then.
 #[derive(Drop)]
 pub struct Report<B, H, K, C> {
     pub status: u8,

@@ -82,7 +82,8 @@ pub fn statements_are_read_alone()
     ensures { StatementsAreReadAlone }
 {}
 
-/// Any other text asks for what it says as a verb, and where it is none a front of these words counts.
+/// Any other text asks for what it says as a verb, and where it is none a front of these words
+/// counts.
 pub fn verbs_are_read_alone()
     ensures { VerbsAreReadAlone }
 {}

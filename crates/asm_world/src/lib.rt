@@ -1,5 +1,5 @@
-//! The world that a user sees: groups with their files, the commands and what each may do, runs, and the two
-//! languages with their texts. All of it is definitions, and laws over them.
+//! The world that a user sees: groups with their files, the commands and what each may do, runs,
+//! and the two languages with their texts. All of it is definitions, and laws over them.
 #![tactic(auto)]
 
 mod edits;

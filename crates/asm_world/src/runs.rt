@@ -5,7 +5,8 @@ ghost use Rattle.asm_world.specs.RunRows.{RunRows, WaitsAreOwed, IncarnationRows
 ghost use Rattle.asm_world.specs.RunLaws.{RunsJoin, MomentsAreHeld, MountedAreThere, QuietMovesLeaveGroups, QuietMomentsAreHeld, HistoriesSplit, BetweenReplies, MarksRise};
 ghost use Rattle.asm_world.specs.RunLaws.{PremisesJoin, WhilesJoin, WhilesAreRuns, WhilesStay, CallsGrow, RunsCallMore, MemoryIsShortAnywhere};
 
-/// What runs are measured against, where C is counted of the outside, and I is an image of all disks.
+/// What runs are measured against, where C is counted of the outside, and I is an image of all
+/// disks.
 pub trait Measure<C, I> {
     ghost outside: { Outside C I };
 }
@@ -25,13 +26,14 @@ pub fn runs_join<C, I, M: Measure<C, I>>()
     ensures { RunsJoin M.outside }
 {}
 
-/// From the end of any front of the moves on, an image that a stop may leave stands for groups between the worlds
-/// before and after one of the later moves.
+/// From the end of any front of the moves on, an image that a stop may leave stands for groups
+/// between the worlds before and after one of the later moves.
 pub fn moments_are_held<C, I, M: Measure<C, I>>()
     ensures { MomentsAreHeld M.outside }
 {}
 
-/// In a moment that ends in a move, each group that is mounted before that move and after it is there.
+/// In a moment that ends in a move, each group that is mounted before that move and after it is
+/// there.
 pub fn mounted_are_there<C, I, M: Measure<C, I>>()
     ensures { MountedAreThere M.outside }
 {}
@@ -41,8 +43,8 @@ pub fn quiet_moves_leave_groups<C, I, M: Measure<C, I>>()
     ensures { QuietMovesLeaveGroups M.outside }
 {}
 
-/// From one reply to the end of the next command, an image that a stop may leave stands for groups between the worlds
-/// before and after that command.
+/// From one reply to the end of the next command, an image that a stop may leave stands for groups
+/// between the worlds before and after that command.
 pub fn between_replies<C, I, M: Measure<C, I>>()
     ensures { BetweenReplies M.outside }
 {}
@@ -67,12 +69,14 @@ pub fn premises_join<C, P: Premise>()
     ensures { PremisesJoin C P.meets }
 {}
 
-/// Up to the first that doesn't meet a premise, moves are a run in two rows one after another exactly where they are in both.
+/// Up to the first that doesn't meet a premise, moves are a run in two rows one after another
+/// exactly where they are in both.
 pub fn whiles_join<C, I, M: Measure<C, I>, P: Premise>()
     ensures { WhilesJoin M.outside P.meets }
 {}
 
-/// Where all moves meet the premise, they are a run up to the first that doesn't exactly where they are a run.
+/// Where all moves meet the premise, they are a run up to the first that doesn't exactly where they
+/// are a run.
 pub fn whiles_are_runs<C, I, M: Measure<C, I>, P: Premise>()
     ensures { WhilesAreRuns M.outside P.meets }
 {}

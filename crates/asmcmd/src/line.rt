@@ -112,8 +112,9 @@ fn read_whole(alloc: Global, text: &[u8]) -> Result<Verb, ReadError>
     }
 }
 
-/// Reads a line as a verb. Spaces and tabs part its words, and may stand before and behind them. Of a line that is
-/// none the error says how many bytes begin a verb, or one of the words CREATE, DROP and ALTER.
+/// Reads a line as a verb. Spaces and tabs part its words, and may stand before and behind them. Of
+/// a line that is none the error says how many bytes begin a verb, or one of the words CREATE, DROP
+/// and ALTER.
 pub fn read_line(alloc: Global, text: &[u8]) -> Result<Verb, ReadError>
     ensures reads { IsVerbRead result text.now }
     ensures exact { IsExact result text.now }

@@ -28,7 +28,8 @@ fn with_path(text: Vec<u8>, group: &Name, parts: &[Name]) -> Result<Vec<u8>, NoM
     with_parts(text, parts)
 }
 
-/// The text of the path with these parts in a group: `+`, the group's name, and each part after a slash.
+/// The text of the path with these parts in a group: `+`, the group's name, and each part after a
+/// slash.
 pub fn path_text(alloc: Global, group: &Name, parts: &[Name]) -> Result<Text, NoMemory>
     ensures { IfOk result (λ text. text ≡ path_text_in_group group.now parts.now) }
 {

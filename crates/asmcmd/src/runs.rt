@@ -72,7 +72,8 @@ fn equal_front(byte: u8, bytes: &[u8]) -> usize
     told + equal_bytes(byte, &bytes[told..])
 }
 
-/// The first byte, how many equal bytes stand at the front, and the bytes behind them. None of no bytes.
+/// The first byte, how many equal bytes stand at the front, and the bytes behind them. None of no
+/// bytes.
 fn first_run<'a>(bytes: &'a [u8]) -> Option<(u8, u64, &'a [u8])>
     ensures { option_map (λ r. (r.0, r.1, r.2.now)) result ≡ first_run bytes.now }
 {
@@ -97,7 +98,8 @@ fn run_line(alloc: Global, at: u64, byte: u8, len: u64) -> Result<Text, NoMemory
     )
 }
 
-/// The runs of equal bytes that were put so far. The last of them goes on where the next bytes are the same.
+/// The runs of equal bytes that were put so far. The last of them goes on where the next bytes are
+/// the same.
 #[derive(Drop)]
 pub struct Runs {
     alloc: Global,
@@ -136,7 +138,8 @@ impl Runs {
         }
     }
 
-    /// Puts the line of the last run behind the others, where it has bytes. Another byte comes next.
+    /// Puts the line of the last run behind the others, where it has bytes. Another byte comes
+    /// next.
     fn end_run(&mut self) -> Result<(), NoMemory>
         ensures lines { OnOk result ((more : Bytes) → equal_front self.old.byte more ≡ 0
             → lines_with self.new more ≡ lines_with self.old more) }
@@ -185,7 +188,8 @@ impl Runs {
         Ok(())
     }
 
-    /// The lines of all runs: where each begins, how many bytes it has, and its byte in hexadecimal digits.
+    /// The lines of all runs: where each begins, how many bytes it has, and its byte in hexadecimal
+    /// digits.
     pub fn into_lines(mut self) -> Result<List<Text>, NoMemory>
         ensures { IfOk result (λ lines. (at : ℕ) (bytes : Bytes) → HoldsRun self at bytes
             → lines ≡ read_lines at bytes) }

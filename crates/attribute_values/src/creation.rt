@@ -21,7 +21,8 @@ pub struct Creation {
 }
 
 impl Creation {
-    /// Units of 1 MB, sectors of 512 bytes, 20,000 extents of a size, 1,024 record blocks, and the settings of a new group.
+    /// Units of 1 MB, sectors of 512 bytes, 20,000 extents of a size, 1,024 record blocks, and the
+    /// settings of a new group.
     pub fn usual(alloc: Global, kind: GroupKind) -> Creation
         ensures usual { creation_meant result ≡ usual_creation kind }
         ensures new { IsNewCreation result }
@@ -32,8 +33,9 @@ impl Creation {
         }
     }
 
-    /// With a value of an attribute, whose name compares without case: one of the shape's, or one that may be set at any
-    /// time. None where there is no such attribute, or it can't have the value.
+    /// With a value of an attribute, whose name compares without case: one of the shape's, or one
+    /// that may be set at any time. None where there is no such attribute, or it can't have the
+    /// value.
     #[tactic(auto, using(crate::proofs::CreationLaws::is_unit, crate::proofs::CreationLaws::is_sector, crate::proofs::CreationLaws::is_step_of, crate::proofs::CreationLaws::is_blocks, crate::proofs::CreationLaws::is_other))]
     pub fn with_attribute(
         &self,

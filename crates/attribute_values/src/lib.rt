@@ -1,5 +1,5 @@
-//! The attributes of a group as they are given in text: how their values are read, the settings that they leave, and what a
-//! creation makes of them.
+//! The attributes of a group as they are given in text: how their values are read, the settings
+//! that they leave, and what a creation makes of them.
 #![tactic(auto)]
 
 pub use template_directory::{

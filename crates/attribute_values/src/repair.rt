@@ -11,8 +11,9 @@ use crate::digits::{is_digit, split_digits};
 /// One more than the most of a unit that a time may have.
 const TOO_MANY: u64 = 100_001;
 
-/// The seconds of a repair time: a number with at most one decimal digit, and m or h for minutes or hours, in any case.
-/// Hours are meant where there is no letter. None where the bytes aren't a time, or more than 100,000 of the unit.
+/// The seconds of a repair time: a number with at most one decimal digit, and m or h for minutes or
+/// hours, in any case. Hours are meant where there is no letter. None where the bytes aren't a
+/// time, or more than 100,000 of the unit.
 #[tactic(auto, using(crate::proofs::RepairLaws::many_are_alike))]
 pub fn repair_seconds(value: &[u8]) -> Option<u64>
     ensures { result ≡ repair_seconds value.now }
@@ -43,7 +44,8 @@ fn whole_number(digits: &[u8]) -> Option<u64>
     Some(number)
 }
 
-/// The number with one more digit, and 100,001 where it is greater. None where the byte is no digit.
+/// The number with one more digit, and 100,001 where it is greater. None where the byte is no
+/// digit.
 fn with_digit(number: u64, b: u8) -> Option<u64>
     requires { number ≤ 100001 }
     ensures { result ≡ (if is_digit_byte b then Some (min 100001 (number * 10 + (b - 48)))
@@ -60,7 +62,8 @@ fn with_digit(number: u64, b: u8) -> Option<u64>
     }
 }
 
-/// The seconds of so many whole units, and of what stands behind them: a point and a digit, or neither, and a letter or none.
+/// The seconds of so many whole units, and of what stands behind them: a point and a digit, or
+/// neither, and a letter or none.
 fn tenths(whole: u64, rest: &[u8]) -> Option<u64>
     requires { whole ≤ 100001 }
     ensures { result ≡ tenths_of (Some whole) rest.now }

@@ -13,8 +13,8 @@ use crate::version::is_version;
 use std::alloc::Global;
 use template_directory::{NoMemory, Settings, Text, folded_byte};
 
-/// The settings in which an attribute that may be set at any time has this value. None where no such attribute has the name,
-/// or it can't have the value.
+/// The settings in which an attribute that may be set at any time has this value. None where no
+/// such attribute has the name, or it can't have the value.
 #[tactic(auto, using(crate::proofs::SettingLaws::is_repair, crate::proofs::SettingLaws::is_asm, crate::proofs::SettingLaws::is_rdbms, crate::proofs::SettingLaws::is_advm, crate::proofs::SettingLaws::is_none))]
 pub fn with_attribute(
     alloc: Global,

@@ -5,7 +5,8 @@ ghost use Rattle.asm_world.specs.Settings.{is_version, is_version_rest};
 
 use crate::digits::split_digits;
 
-/// Whether a text is `11.2`, or that and further parts of a point and digits, at most 30 bytes in all.
+/// Whether a text is `11.2`, or that and further parts of a point and digits, at most 30 bytes in
+/// all.
 #[tactic(auto, using(crate::proofs::VersionLaws::short_enough, crate::proofs::VersionLaws::too_long, crate::proofs::VersionLaws::too_short))]
 pub fn is_version(value: &[u8]) -> bool
     ensures { result ≡ is_version value.now }

@@ -6,20 +6,20 @@ ghost use Rattle.bay.specs.State.{BayState, IsSound, IsOnSectors, size_of};
 
 use crate::{BayError, Fault};
 
-/// The disks by slot, and what a stop may leave of them. `read`, `write` and `sync` are asked of attached disks alone,
-/// inside their size and on multiples of 512 bytes.
+/// The disks by slot, and what a stop may leave of them. `read`, `write` and `sync` are asked of
+/// attached disks alone, inside their size and on multiples of 512 bytes.
 pub trait Bay {
     /// All that is known of the bay.
     ghost state: { Self → BayState };
 
-    /// Attaches the image at a path to a slot, and gives its size in bytes. An attached slot gives the size that it has.
-    /// Where it fails the slot is as it was.
+    /// Attaches the image at a path to a slot, and gives its size in bytes. An attached slot gives
+    /// the size that it has. Where it fails the slot is as it was.
     fn attach(&mut self, slot: u32, path: &str) -> Result<u64, BayError>
         ensures { AttachCall result slot Same (Attaches slot) ((state self.old).attached slot)
             (state self.old) (state self.new) };
 
-    /// Makes an image of zeros of a size in bytes at a path, and attaches it. Where it fails or is stopped the slot isn't
-    /// attached, and has the old image, none, or zeros of any length.
+    /// Makes an image of zeros of a size in bytes at a path, and attaches it. Where it fails or is
+    /// stopped the slot isn't attached, and has the old image, none, or zeros of any length.
     fn make(&mut self, slot: u32, path: &str, size: u64) -> Result<(), BayError>
         ensures { AttachCall result slot (MayMake slot) (λ value. AttachesZeros slot size) None
             (state self.old) (state self.new) };
@@ -33,7 +33,8 @@ pub trait Bay {
             (λ value. Tells (λ image. buf.new ≡ window (image.byte slot) at (length buf.old)))
             sends_none (state self.old) (state self.new) };
 
-    /// Writes bytes at a place. Until a sync a stop may leave any bytes in their range, and so does a failed write.
+    /// Writes bytes at a place. Until a sync a stop may leave any bytes in their range, and so does
+    /// a failed write.
     fn write(&mut self, slot: u32, at: u64, bytes: &[u8]) -> Result<(), Fault>
         requires attached { IsSome ((state self.old).attached slot) }
         requires inside { at + length bytes.now ≤ size_of (state self.old) slot }

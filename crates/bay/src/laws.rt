@@ -1,5 +1,5 @@
-// The laws by which a claim on images is carried over calls, for any bay, step and claim. Each function has an empty
-// body: its contract is the law.
+// The laws by which a claim on images is carried over calls, for any bay, step and claim. Each
+// function has an empty body: its contract is the law.
 ghost use Rattle.std.specs.Prelude.{◌≡◌, ◌≢◌, ◌+◌, ◌-◌, ◌<◌, ◌≤◌, ◌++◌, ◌∷◌, [], ℕ, Bool, false, List, length, OnErr};
 ghost use Rattle.bay.specs.Image.{Image, Same};
 ghost use Rattle.bay.specs.Counts.{Rose};
@@ -38,14 +38,15 @@ pub fn calls_go_on<B: Bay, T: Slots, D: Step, S: Step, W: Step>(start: &B, middl
         → Runs T.among W.leads (B.state start.now) (B.state end.now) }
 {}
 
-/// What holds of each image that a stop before the calls may leave, and is kept by their step, holds of each image
-/// of each moment of the calls.
+/// What holds of each image that a stop before the calls may leave, and is kept by their step,
+/// holds of each image of each moment of the calls.
 pub fn claims_are_kept<B: Bay, T: Slots, S: Step, P: Claim, Q: Claim>(start: &B, end: &B)
     ensures { StepGives (P.says 0) S.leads (Q.says 0) → Runs T.among S.leads (B.state start.now) (B.state end.now)
         → NowOnly (B.state start.now) (P.says 0) → LeavesOnly (B.state start.now) (B.state end.now) (Q.says 0) }
 {}
 
-/// What calls that ended well make of a claim holds of each image that a stop may leave from then on.
+/// What calls that ended well make of a claim holds of each image that a stop may leave from then
+/// on.
 pub fn claims_are_reached<B: Bay, D: Step, P: Claim, Q: Claim>(start: &B, end: &B)
     ensures { StepGives (P.says 0) D.leads (Q.says 0) → Ends D.leads (B.state start.now) (B.state end.now)
         → NowOnly (B.state start.now) (P.says 0) → NowOnly (B.state end.now) (Q.says 0) }
@@ -57,8 +58,8 @@ pub fn claims_go_on<B: Bay, P: Claim>(start: &B, middle: &B, end: &B)
         → LeavesOnly (B.state middle.now) (B.state end.now) (P.says 0) → LeavesOnly (B.state start.now) (B.state end.now) (P.says 0) }
 {}
 
-/// A sync that answers Ok settles what the writes before it did: each image that a stop may leave from then on has on
-/// the slot's disk what the disk holds.
+/// A sync that answers Ok settles what the writes before it did: each image that a stop may leave
+/// from then on has on the slot's disk what the disk holds.
 pub fn syncs_settle<B: Bay, T: Slots, S: Step, D: Step, W: Step>(
     start: &B,
     middle: &B,
@@ -78,13 +79,15 @@ pub fn settled_disks_stay<B: Bay, T: Slots, S: Step>(start: &B, end: &B, slot: u
         → Runs T.among S.leads (B.state start.now) (B.state end.now) → Durable slot (B.state start.now) → Durable slot (B.state end.now) }
 {}
 
-/// The claim of the last mark goes on over calls at each of whose moments it holds, and the earlier marks keep theirs.
+/// The claim of the last mark goes on over calls at each of whose moments it holds, and the earlier
+/// marks keep theirs.
 pub fn marks_go_on<B: Bay, P: Claim>(start: &B, end: &B)
     ensures { (marks : List ℕ) → 0 < length marks → AtMarks (B.state start.now) marks P.says
         → LeavesOnly (B.state start.now) (B.state end.now) (P.says (length marks - 1)) → AtMarks (B.state end.now) marks P.says }
 {}
 
-/// The moment that lasts may be marked where the next claim holds of it. With no marks before, it is the first.
+/// The moment that lasts may be marked where the next claim holds of it. With no marks before, it
+/// is the first.
 pub fn new_marks<B: Bay, P: Claim>(bay: &B)
     ensures pushed { (marks : List ℕ) → AtMarks (B.state bay.now) marks P.says
         → NowOnly (B.state bay.now) (P.says (length marks)) → AtMarks (B.state bay.now) (marks ++ (B.state bay.now).calls ∷ []) P.says }
@@ -120,8 +123,8 @@ pub fn calls_join<B: Bay, T: Slots, D: Step, S: Step, W: Step>(start: &B, middle
         → Calls T.among W.leads (both_costs first second) (B.state start.now) (B.state end.now) }
 {}
 
-/// A call on one slot leaves the counts of every other slot, of faults and of bytes written. Where it
-/// failed the count of faults of its own slot rose.
+/// A call on one slot leaves the counts of every other slot, of faults and of bytes written. Where
+/// it failed the count of faults of its own slot rose.
 pub fn calls_stay_on_their_slot<B: Bay, S: Step, D: Step>(
     start: &B,
     end: &B,
@@ -138,9 +141,9 @@ pub fn calls_stay_on_their_slot<B: Bay, S: Step, D: Step>(
         → OnErr answer (Rose ((B.state start.now).faults slot) ((B.state end.now).faults slot)) }
 {}
 
-/// A call on a slot that ended well and the next one on it are one call with the second's answer, at
-/// the sum of their costs. `M` and `N` are what may be seen while they run, `D` and `E` what they
-/// have done; `W` and `F` are those of both.
+/// A call on a slot that ended well and the next one on it are one call with the second's answer,
+/// at the sum of their costs. `M` and `N` are what may be seen while they run, `D` and `E` what
+/// they have done; `W` and `F` are those of both.
 pub fn two_calls_are_one<B: Bay, M: Step, D: Step, N: Step, E: Step, W: Step, F: Step>(
     start: &B,
     middle: &B,

@@ -1,5 +1,5 @@
-//! What the program meets outside: disks, a folder of files, a source, a sink and a clock. Each counts its faults,
-//! and tells its content where it can.
+//! What the program meets outside: disks, a folder of files, a source, a sink and a clock. Each
+//! counts its faults, and tells its content where it can.
 #![tactic(auto)]
 
 mod disk;

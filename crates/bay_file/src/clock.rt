@@ -4,7 +4,8 @@ ghost use Rattle.std.specs.Prelude.{⊤};
 use bay::Clock;
 use std::time::SystemTime;
 
-/// The system's clock, in seconds since the beginning of 1970. Where it can't be read the time is 0.
+/// The system's clock, in seconds since the beginning of 1970. Where it can't be read the time is
+/// 0.
 #[derive(Drop)]
 pub struct SystemClock {
     runtime: HostRuntime,

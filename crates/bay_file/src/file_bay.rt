@@ -5,9 +5,10 @@ use crate::slots::{SlotMap, attach_in, make_in, read_in, sync_in, write_in};
 use bay::{Bay, BayError, Fault};
 use std::collections::BTreeMap;
 
-/// The disks as images in files, or on devices, by slot. An attached image stays open and locked as long as the bay
-/// lasts: a second program, or a second slot whose path leads to the same file, gets a fault. `make` makes files alone.
-/// `calls`, `written` and the counts of faults are kept; what the images hold isn't told.
+/// The disks as images in files, or on devices, by slot. An attached image stays open and locked as
+/// long as the bay lasts: a second program, or a second slot whose path leads to the same file,
+/// gets a fault. `make` makes files alone. `calls`, `written` and the counts of faults are kept;
+/// what the images hold isn't told.
 #[derive(Drop)]
 pub struct FileBay {
     runtime: HostRuntime,

@@ -14,8 +14,9 @@ use std::fs::{File, OpenOptions};
 use std::io;
 use std::io::{Seek, SeekFrom, Write};
 
-/// The files of the system by their paths. A file is opened at each call and closed after it. A file that is locked, as
-/// each attached image is, can be read, and can be neither emptied nor added to. What the files hold isn't told.
+/// The files of the system by their paths. A file is opened at each call and closed after it. A
+/// file that is locked, as each attached image is, can be read, and can be neither emptied nor
+/// added to. What the files hold isn't told.
 #[derive(Drop)]
 pub struct FileHost {
     runtime: HostRuntime,
@@ -33,8 +34,8 @@ impl FileHost {
         }
     }
 
-    // Passes on what the system answered for a path, and counts an error. Want of memory isn't counted, and where there is none
-    // for the count it is NoMemory too.
+    // Passes on what the system answered for a path, and counts an error. Want of memory isn't
+    // counted, and where there is none for the count it is NoMemory too.
     fn passed<T: Drop>(&mut self, answer: io::Result<T>, path: &str) -> Result<T, HostError>
         ensures ok { IfOk answer (λ value. result ≡ Ok value) }
         ensures counts { CountsAt path.now (faults_of_path self.old.faults)

@@ -1,4 +1,5 @@
-// Opened images. An image is an ordinary file or a device, locked against other programs while it is open.
+// Opened images. An image is an ordinary file or a device, locked against other programs while it
+// is open.
 ghost use Rattle.std.specs.Prelude.{◌≡◌, ◌<◌, ◌^◌, IfOk};
 
 use crate::whole::{read_whole, write_whole};
@@ -25,8 +26,8 @@ impl Image {
         Ok(Image { file, size })
     }
 
-    // Makes an image of zeros. Nothing of an old image is cut off before the lock is held. Once it is made, a stop leaves
-    // it: the file and its entry in the folder are synced.
+    // Makes an image of zeros. Nothing of an old image is cut off before the lock is held. Once it
+    // is made, a stop leaves it: the file and its entry in the folder are synced.
     pub fn make(runtime: &HostRuntime, path: &str, size: u64) -> io::Result<Image>
         ensures { IfOk result (λ image. image.size ≡ size) }
     {

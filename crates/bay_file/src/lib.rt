@@ -1,6 +1,7 @@
-//! The outside in real files: images of disks, a folder, standard input and output, and the system's clock. Nothing is
-//! told of contents, since no proof can say what a file holds; what is proved is that each fault is counted, that an
-//! answer of the system is passed on, and that bytes are read and written whole.
+//! The outside in real files: images of disks, a folder, standard input and output, and the
+//! system's clock. Nothing is told of contents, since no proof can say what a file holds; what is
+//! proved is that each fault is counted, that an answer of the system is passed on, and that bytes
+//! are read and written whole.
 #![tactic(auto)]
 
 mod clock;

@@ -40,7 +40,8 @@ impl Slot {
         Ok(size)
     }
 
-    // Makes an image of zeros and attaches it. What was attached is let go first, and with it its lock.
+    // Makes an image of zeros and attaches it. What was attached is let go first, and with it its
+    // lock.
     pub fn make(&mut self, runtime: &HostRuntime, path: &str, size: u64) -> Result<(), BayError>
         ensures call { IsMade result size (slot_state self.old) (slot_state self.new) }
     {

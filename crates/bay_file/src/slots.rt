@@ -52,7 +52,8 @@ fn make_kept(
     slots.get_mut(&slot).unwrap().make(runtime, path, size)
 }
 
-// Attaches the image at a path, where none is attached. A slot whose faults can't be counted isn't attached.
+// Attaches the image at a path, where none is attached. A slot whose faults can't be counted isn't
+// attached.
 pub fn attach_in(
     slots: &mut SlotMap,
     slot: u32,
@@ -68,7 +69,8 @@ pub fn attach_in(
     attach_kept(slots, slot, runtime, path)
 }
 
-// Makes an image of zeros at a path, and attaches it. A slot whose faults can't be counted isn't attached.
+// Makes an image of zeros at a path, and attaches it. A slot whose faults can't be counted isn't
+// attached.
 pub fn make_in(
     slots: &mut SlotMap,
     slot: u32,

@@ -48,7 +48,8 @@ pub struct StdSink<W: Write = Stdout> {
 }
 
 impl StdSink<Stdout> {
-    /// The program's standard output. A reader that closed its end of a pipe is a fault like another.
+    /// The program's standard output. A reader that closed its end of a pipe is a fault like
+    /// another.
     pub fn new(runtime: HostRuntime) -> Self {
         StdSink::over(runtime.stdout())
     }

@@ -26,7 +26,8 @@ pub fn passed<T: Drop>(answer: io::Result<T>, faults: &mut u64) -> Result<T, Fau
     }
 }
 
-// Passes on what the system answered where an image was opened or made. Want of memory is told apart, and isn't counted.
+// Passes on what the system answered where an image was opened or made. Want of memory is told
+// apart, and isn't counted.
 pub fn opened<T: Drop>(answer: io::Result<T>, faults: &mut u64) -> Result<T, BayError>
     ensures ok { IfOk answer (λ value. (result ≡ Ok value) × (faults.new ≡ faults.old)) }
     ensures err { IfErr answer (λ error. IsTold error result faults.old faults.new) }

@@ -20,8 +20,8 @@ use crate::plan::Plan;
 use bay::{Bay, BayError, Fault};
 use std::alloc::{AllocError, Global};
 
-/// Disks in memory. Some of their calls fail, by their numbers, and they may stop after some of them. What they hold,
-/// and held in each moment, is told.
+/// Disks in memory. Some of their calls fail, by their numbers, and they may stop after some of
+/// them. What they hold, and held in each moment, is told.
 #[derive(Drop)]
 pub struct MemBay {
     alloc: Global,
@@ -38,8 +38,8 @@ pub struct MemBay {
 impl MemBay {
     ghost use Rattle.bay_mem.specs.MemState.{state_of, plan_of, fails_now, IsQuiet, IsNewBay};
 
-    /// Disks of zeros of these sizes in bytes, by slot, none of them attached. A slot without a size has no disk. No
-    /// call is to fail.
+    /// Disks of zeros of these sizes in bytes, by slot, none of them attached. A slot without a
+    /// size has no disk. No call is to fail.
     pub fn new(alloc: Global, sizes: &[Option<u64>]) -> Result<Self, NoMemory>
         ensures begins { IfOk result (λ bay. IsNewBay sizes.now (state_of bay)) }
         ensures slots { IfOk result (λ bay. (s : ℕ)
@@ -74,7 +74,8 @@ impl MemBay {
         Ok(self.plan.fails.push(call)?)
     }
 
-    /// After this many calls each call is to fail. Of the write that comes then the first half stands.
+    /// After this many calls each call is to fail. Of the write that comes then the first half
+    /// stands.
     pub fn stop_after(&mut self, calls: u64)
         ensures quiet { IsQuiet (state_of self.old) (state_of self.new) }
         ensures attached { KeepsAttached (state_of self.old) (state_of self.new) }

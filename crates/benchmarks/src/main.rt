@@ -1,5 +1,5 @@
-//! Measures what no contract says: that some calls of the tables cost as little as they should. With a word, any one, it prints
-//! the ratios of the times; without one it does and prints nothing.
+//! Measures what no contract says: that some calls of the tables cost as little as they should.
+//! With a word, any one, it prints the ratios of the times; without one it does and prints nothing.
 #![tactic(auto)]
 
 mod disk;

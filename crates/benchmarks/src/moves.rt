@@ -53,8 +53,9 @@ const SHAPE: Shape = Shape {
     dir_blocks: 1_024,
 };
 
-/// The times of searches for the next move of a group in which the last two extents are to be shifted, and the one was: of
-/// searches that ask all extents, and of as many with the cursor of the search for the move before.
+/// The times of searches for the next move of a group in which the last two extents are to be
+/// shifted, and the one was: of searches that ask all extents, and of as many with the cursor of
+/// the search for the move before.
 pub fn searches(alloc: Global, rt: &HostRuntime) -> io::Result<(Duration, Duration)> {
     let mut records = Records::new(alloc);
     let times = match put_group(alloc, &mut records) {
@@ -292,7 +293,8 @@ fn put_value(records: &mut Records, kind: u16, value: Result<Value, NoMemory>) -
     }
 }
 
-/// The value of a disk's record: its birth, and its name and failure group, each of one letter in a field of 31 bytes.
+/// The value of a disk's record: its birth, and its name and failure group, each of one letter in a
+/// field of 31 bytes.
 fn disk(number: u8) -> [u8; 70] {
     let mut bytes = [0; 70];
     let letter = b'A'.saturating_add(number);

@@ -19,8 +19,9 @@ const ALIASES: u32 = 2_000;
 /// The least number of a file.
 const FIRST: u32 = 256;
 
-/// The time of many new directories of the root, one after the other, where another directory has so many names. The
-/// first of them isn't measured: it looks once through the numbers that are taken.
+/// The time of many new directories of the root, one after the other, where another directory has
+/// so many names. The first of them isn't measured: it looks once through the numbers that are
+/// taken.
 pub fn adding(alloc: Global, rt: &HostRuntime, names: u32) -> io::Result<Duration> {
     match tree_of(alloc, names) {
         Ok(mut tree) => {
@@ -69,8 +70,8 @@ fn time_once(rt: &HostRuntime, tree: &mut AliasTree, edits: &[TreeEdit]) -> io::
     start.elapsed(rt)
 }
 
-/// The time of giving one file an alias, and of taking all names of another, many times in turn, where a directory has
-/// the names of so many files. The first time isn't measured.
+/// The time of giving one file an alias, and of taking all names of another, many times in turn,
+/// where a directory has the names of so many files. The first time isn't measured.
 pub fn aliases(alloc: Global, rt: &HostRuntime, names: u32) -> io::Result<Duration> {
     match tree_of(alloc, names) {
         Ok(mut tree) => {

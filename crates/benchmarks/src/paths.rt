@@ -19,7 +19,8 @@ pub enum Kind {
     System,
 }
 
-/// The time of many searches for a file's name in one directory, where another one has so many names.
+/// The time of many searches for a file's name in one directory, where another one has so many
+/// names.
 pub fn searches(alloc: Global, rt: &HostRuntime, names: u32) -> io::Result<Duration> {
     match tree_beside(alloc, names) {
         Ok(tree) => {
@@ -91,7 +92,8 @@ fn put_names(alloc: Global, records: &mut Records, names: u32) -> io::Result<()>
     Ok(())
 }
 
-/// The value of a node's record: the parent, the kind, the file and the name in a field of 81 bytes.
+/// The value of a node's record: the parent, the kind, the file and the name in a field of 81
+/// bytes.
 pub fn node(parent: u8, kind: Kind, file: u32, name: &[u8]) -> [u8; 90] {
     let mut bytes = [0; 90];
     bytes[3] = parent;

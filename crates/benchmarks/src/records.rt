@@ -1,5 +1,5 @@
-//! Records as a group's directory has them. What is large, as a tree or a catalog, is lent to what measures it and dropped by a
-//! call at one place, since what goes in place is proved in place.
+//! Records as a group's directory has them. What is large, as a tree or a catalog, is lent to what
+//! measures it and dropped by a call at one place, since what goes in place is proved in place.
 
 use asm_base::{Key, NoMemory, Path, Records, Value};
 use std::alloc::Global;

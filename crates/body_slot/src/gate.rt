@@ -88,7 +88,8 @@ fn is_open_synced<B: Bay>(bay: &mut B, slot: u32, place: Place) -> Result<bool, 
     is_open(bay, slot, place)
 }
 
-/// Closes the gate. One that is closed isn't written, since a write that a stop cuts short may open it.
+/// Closes the gate. One that is closed isn't written, since a write that a stop cuts short may open
+/// it.
 pub fn close_gate<B: Bay>(bay: &mut B, slot: u32, place: Place) -> Result<(), Fault>
     requires { IsUsablePlace (B.state bay.old) slot place }
     // The gate is written only once each image has on this disk what it holds.
@@ -160,7 +161,8 @@ fn fill_and_open<B: Bay>(bay: &mut B, slot: u32, place: Place, body: &[u8]) -> R
     open_gate(bay, slot, place)
 }
 
-/// Puts a body in the place of the one that is there. At each moment the slot shows the old body, nothing or the new one.
+/// Puts a body in the place of the one that is there. At each moment the slot shows the old body,
+/// nothing or the new one.
 pub fn put<B: Bay>(bay: &mut B, slot: u32, place: Place, body: &[u8]) -> Result<(), Fault>
     requires usable { IsUsablePlace (B.state bay.old) slot place }
     requires whole { length body.now ≡ place.len }
@@ -173,7 +175,8 @@ pub fn put<B: Bay>(bay: &mut B, slot: u32, place: Place, body: &[u8]) -> Result<
     fill_and_open(bay, slot, place, body)
 }
 
-/// The same where each image has the gate as it is held, as after a sync of the disk. It takes a sync less.
+/// The same where each image has the gate as it is held, as after a sync of the disk. It takes a
+/// sync less.
 pub fn put_settled<B: Bay>(bay: &mut B, slot: u32, place: Place, body: &[u8]) -> Result<(), Fault>
     requires usable { IsUsablePlace (B.state bay.old) slot place }
     requires settled { IsGateSettled place slot (B.state bay.old) }

@@ -1,4 +1,5 @@
-//! The bytes that stand for words: the kind of a group, the mode of a disk, the stripe of a file, and their like.
+//! The bytes that stand for words: the kind of a group, the mode of a disk, the stripe of a file,
+//! and their like.
 #![tactic(auto)]
 
 mod word;

@@ -14,11 +14,12 @@ use std::alloc::Global;
 use std::mem::replace;
 
 impl Catalog {
-    /// Takes all memory for a change, after which `apply` takes none and can't fail. Where there is no memory the catalog
-    /// is as before. A change for which memory was taken before and that wasn't applied is given up.
+    /// Takes all memory for a change, after which `apply` takes none and can't fail. Where there is
+    /// no memory the catalog is as before. A change for which memory was taken before and that
+    /// wasn't applied is given up.
     ///
-    /// Work and memory go by this change and the last one. They go by the tables at the first change of a catalog, after one
-    /// that was given up, and after want of memory.
+    /// Work and memory go by this change and the last one. They go by the tables at the first
+    /// change of a catalog, after one that was given up, and after want of memory.
     pub fn ready(&mut self, alloc: Global, change: &Change) -> Result<(), NoMemory>
         // The tables after the change keep the rules, and their homes find their units free.
         requires { (u : Tables) × Leaves self.old change.now.put change.now.gone u }
@@ -39,8 +40,8 @@ impl Catalog {
         Ok(())
     }
 
-    /// Applies the change that the memory was taken for. The units are changed in place, for the chunks of the change
-    /// alone. Units that were made ready for a status record are given up.
+    /// Applies the change that the memory was taken for. The units are changed in place, for the
+    /// chunks of the change alone. Units that were made ready for a status record are given up.
     pub fn apply(&mut self, change: &Change)
         requires { IsChangeReady self.old change.now.put change.now.gone }
         // The next tables are the tables now.

@@ -12,9 +12,10 @@ use plan_records::{CatalogError, Parts, PstRecord, Units};
 use std::alloc::Global;
 use std::marker::Model;
 
-/// All tables of a group as one value: files, extents, names, templates and settings, stale marks, operations, disk
-/// records, and of each disk which units are used. Contracts see the record of the tables' values, the shape and the unit
-/// maps; the rules that hold across them are the type's invariant.
+/// All tables of a group as one value: files, extents, names, templates and settings, stale marks,
+/// operations, disk records, and of each disk which units are used. Contracts see the record of the
+/// tables' values, the shape and the unit maps; the rules that hold across them are the type's
+/// invariant.
 #[derive(Drop)]
 pub struct Catalog {
     pub(crate) parts: Parts,
@@ -23,7 +24,8 @@ pub struct Catalog {
     pub(crate) units: Vec<Units>,
     /// The tables before the last change, or after the one that the memory was taken for.
     pub(crate) spare: Spare,
-    /// The units of the disks whose number of units the status record changes that the memory was taken for.
+    /// The units of the disks whose number of units the status record changes that the memory was
+    /// taken for.
     pub(crate) next_units: Option<Vec<(u8, Units)>>,
 }
 
@@ -39,9 +41,10 @@ impl Model for Catalog {
 }
 
 impl Catalog {
-    /// The catalog of a group's records, with the disks of its status record and the shape of its headers. A record of a
-    /// disk without an entry is no fault. Damaged names the key of a record that isn't of the formats or breaks a rule, or
-    /// of one that must be there and isn't. Work and memory go by the number of records and their homes.
+    /// The catalog of a group's records, with the disks of its status record and the shape of its
+    /// headers. A record of a disk without an entry is no fault. Damaged names the key of a record
+    /// that isn't of the formats or breaks a rule, or of one that must be there and isn't. Work and
+    /// memory go by the number of records and their homes.
     #[tactic(auto, using(crate::proofs::StoreLaws::names_at, crate::proofs::StoreLaws::broken_at, crate::proofs::StoreLaws::names_broken, crate::proofs::StoreLaws::catalog_is, crate::proofs::StoreLaws::invariant_is))]
     pub fn from_store(
         alloc: Global,

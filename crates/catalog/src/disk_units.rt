@@ -13,12 +13,12 @@ use plan_records::{PstEntry, PstRecord, are_fit, changed_maps, have_units, put_i
 use std::alloc::Global;
 
 impl Catalog {
-    /// Takes all memory for the units of the disks by a next status record, after which `apply_disks` takes none and can't
-    /// fail. Where there is no memory the catalog is as before. The entries cover the used units: the homes that the tables
-    /// name are user units of theirs.
+    /// Takes all memory for the units of the disks by a next status record, after which
+    /// `apply_disks` takes none and can't fail. Where there is no memory the catalog is as before.
+    /// The entries cover the used units: the homes that the tables name are user units of theirs.
     ///
-    /// Work and memory go by the units of the disks whose number of units the entries change. Where they give each disk as many
-    /// as it had, no memory is taken and the unit maps stay.
+    /// Work and memory go by the units of the disks whose number of units the entries change. Where
+    /// they give each disk as many as it had, no memory is taken and the unit maps stay.
     pub fn ready_disks(&mut self, alloc: Global, next: &PstRecord) -> Result<(), NoMemory>
         requires entries { IsTrue (list_all is_entry next.now.entries) }
         requires units { (ms : Items UnitMap) × HasUnits self.old.shape next.now.entries
@@ -43,8 +43,8 @@ impl Catalog {
         Ok(())
     }
 
-    /// Takes the units of the disks by the next status record, the memory for which was taken: the maps that were made are put in
-    /// their places, and those of the other disks stay.
+    /// Takes the units of the disks by the next status record, the memory for which was taken: the
+    /// maps that were made are put in their places, and those of the other disks stay.
     pub fn apply_disks(&mut self, next: &PstRecord)
         requires { AreDisksReady self.old next.now.entries }
         ensures units { HasUnits self.new.shape next.now.entries self.new.tables self.new.units }
@@ -62,8 +62,9 @@ impl Catalog {
         }
     }
 
-    /// Whether the units of these entries cover the homes that the tables name: all are user units of theirs. They do exactly
-    /// where no unit is used that a disk lacks by its entry. Work goes by the units that the entries take away.
+    /// Whether the units of these entries cover the homes that the tables name: all are user units
+    /// of theirs. They do exactly where no unit is used that a disk lacks by its entry. Work goes
+    /// by the units that the entries take away.
     pub fn covers(&self, entries: &[PstEntry]) -> bool
         ensures covers { IsTrue result ↔ ((ms : Items UnitMap)
             × HasUnits self.now.shape entries.now self.now.tables ms) }

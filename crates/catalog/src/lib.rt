@@ -1,4 +1,5 @@
-//! The catalog of a group: its tables, with the units of its disks, as one value, and the plans of its changes.
+//! The catalog of a group: its tables, with the units of its disks, as one value, and the plans of
+//! its changes.
 #![tactic(auto)]
 
 pub use plan_records::{

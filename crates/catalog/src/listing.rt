@@ -26,8 +26,8 @@ impl Catalog {
         self.parts.extents.iter()
     }
 
-    /// The chunks from this one on, whether it is there or not, in the order of file and number. Those before it are passed
-    /// over by their keys.
+    /// The chunks from this one on, whether it is there or not, in the order of file and number.
+    /// Those before it are passed over by their keys.
     pub fn chunks_from(&self, chunk: (u32, u32)) -> Range<'_, (u32, u32), Chunk>
         ensures { result ≡ chunks_from self.now.tables.extents chunk }
     {
@@ -46,8 +46,8 @@ impl Catalog {
         }
     }
 
-    /// The nodes of a directory, or of the root by 0, in the order of their names without case. The work goes by their
-    /// number.
+    /// The nodes of a directory, or of the root by 0, in the order of their names without case. The
+    /// work goes by their number.
     pub fn children(&self, alloc: Global, node: u32) -> Result<Vec<u32>, NoMemory>
         // They are just the nodes of this parent.
         ensures each { IfOk result (λ v. (n : ℕ)
@@ -58,8 +58,8 @@ impl Catalog {
         self.parts.tree.children(alloc, node)
     }
 
-    /// The path of a node in a group of this name, as the nodes spell it. None where there is no such node, as for the
-    /// root. Work and memory go by the number of parts.
+    /// The path of a node in a group of this name, as the nodes spell it. None where there is no
+    /// such node, as for the root. Work and memory go by the number of parts.
     pub fn path_of(&self, alloc: Global, group: &Name, node: u32) -> Result<Option<Path>, NoMemory>
         ensures spelt { IfOk result (λ path. IfSome path
             (λ p. p.parts ≡ names_to self.now.tables.nodes (length self.now.tables.nodes) node)) }

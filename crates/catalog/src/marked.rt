@@ -11,8 +11,8 @@ use asm_base::{ExtentId, Homes};
 use plan_records::{Marks, has_stale_on};
 
 impl Catalog {
-    /// The first extent from `least` on, by file and index, that has a stale mark of a copy on a disk. It looks at the
-    /// marks of the chunks up to there.
+    /// The first extent from `least` on, by file and index, that has a stale mark of a copy on a
+    /// disk. It looks at the marks of the chunks up to there.
     #[tactic(auto, using(crate::proofs::MarkedExtents::in_first, crate::proofs::MarkedExtents::later_small, crate::proofs::MarkedExtents::in_none))]
     pub fn marked_from(&self, disk: u8, least: ExtentId) -> Option<ExtentId>
         ensures found { IfSome result (λ x. IsFirstMarked self.now.tables disk

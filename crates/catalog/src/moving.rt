@@ -15,8 +15,9 @@ use asm_base::{ExtentId, Home, Homes};
 use plan_records::{Units, are_on_disks};
 
 impl Catalog {
-    /// Whether a copy of an extent may move to a home: the extent is there and may have the copy, its other copies are on
-    /// other disks, and the disk's lowest run of free units that is long enough begins at the unit.
+    /// Whether a copy of an extent may move to a home: the extent is there and may have the copy,
+    /// its other copies are on other disks, and the disk's lowest run of free units that is long
+    /// enough begins at the unit.
     pub fn may_move(&self, x: ExtentId, copy: u8, to: Home) -> bool
         ensures { OnTrue result (MayMove self.now x.file x.index copy to) }
     {

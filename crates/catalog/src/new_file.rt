@@ -5,7 +5,8 @@ use asm_base::{Name, Path, Stripe};
 /// What is asked of a new file.
 #[derive(Debug, Drop)]
 pub struct NewFile {
-    /// A database, a type and a tag. The file's system name has its number and its incarnation behind the tag.
+    /// A database, a type and a tag. The file's system name has its number and its incarnation
+    /// behind the tag.
     pub path: Path,
     /// Bytes in the file.
     pub size: u64,

@@ -10,8 +10,8 @@ use plan_records::is_pending;
 const FIRST_FILE: u32 = 256;
 
 impl Catalog {
-    /// The least file number from 256 that neither a file nor the pending operation has, or the greatest number where all
-    /// are taken. It looks at the files in the order of their numbers.
+    /// The least file number from 256 that neither a file nor the pending operation has, or the
+    /// greatest number where all are taken. It looks at the files in the order of their numbers.
     #[tactic(auto, using(crate::proofs::NextFile::untaken_is_next, crate::proofs::NextFile::none_is_last))]
     pub fn next_file(&self) -> u32
         ensures next { IsNextFile self.now.tables result }

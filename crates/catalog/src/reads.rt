@@ -23,8 +23,8 @@ impl Catalog {
         self.shape
     }
 
-    /// The node at a path, whatever its group's name; the root is 0. It takes as many steps as the path has parts, each in
-    /// the logarithm of the number of names.
+    /// The node at a path, whatever its group's name; the root is 0. It takes as many steps as the
+    /// path has parts, each in the logarithm of the number of names.
     pub fn find(&self, path: &Path) -> Option<u32>
         ensures { result ≡ number_of self.now.tables.nodes path.now.parts }
     {
@@ -78,7 +78,8 @@ impl Catalog {
         plan_records::units_of(self.shape.step, index as u64)
     }
 
-    /// The units of all disk numbers, those of disk k at place k. Its clause also shows that the rules hold.
+    /// The units of all disk numbers, those of disk k at place k. Its clause also shows that the
+    /// rules hold.
     pub fn units(&self) -> &[Units]
         ensures units { result.now ≡ self.now.units }
         ensures rules { IsCatalog self.now }

@@ -32,8 +32,8 @@ impl Spare {
     }
 }
 
-/// Tables equal to a catalog's, of its spare ones. Those before the last change are brought up by it, in work that goes by
-/// that change; otherwise all are copied.
+/// Tables equal to a catalog's, of its spare ones. Those before the last change are brought up by
+/// it, in work that goes by that change; otherwise all are copied.
 pub(crate) fn brought_up(alloc: Global, spare: Spare, parts: &Parts) -> Result<Parts, NoMemory>
     requires tables { AreTables parts.now }
     requires spare { IsSpareOf spare parts.now }

@@ -12,7 +12,8 @@ use asm_base::{Change, NoMemory};
 use std::alloc::Global;
 
 impl Parts {
-    /// The tables after a change, in work that goes by the change. Where there is no memory the tables are gone.
+    /// The tables after a change, in work that goes by the change. Where there is no memory the
+    /// tables are gone.
     pub fn changed(self, alloc: Global, change: &Change) -> Result<Parts, NoMemory>
         requires tables { AreTables self }
         requires after { (u : Tables) × IsAfter self change.now.put change.now.gone u }

@@ -61,8 +61,8 @@ impl Parts {
         None
     }
 
-    /// The key of a record of stale marks without a chunk or with a mark of a copy that isn't there, or of a node or a file
-    /// that isn't named back.
+    /// The key of a record of stale marks without a chunk or with a mark of a copy that isn't
+    /// there, or of a node or a file that isn't named back.
     #[tactic(auto, using(crate::proofs::FaultLaws::alone_is, crate::proofs::FaultLaws::mark_alone_is, crate::proofs::FaultLaws::node_is, crate::proofs::FaultLaws::file_is, crate::proofs::FaultLaws::names_are))]
     fn name_fault(&self) -> Option<Key>
         ensures some { IfSome result (λ k. (s : GroupShape) (es : Items Entry)
@@ -84,8 +84,8 @@ impl Parts {
         None
     }
 
-    /// The key of a file that lacks an extent, of the record of a disk that isn't known, of a chunk with a home on a quorum
-    /// disk, or, where there is no room for all records, of the settings.
+    /// The key of a file that lacks an extent, of the record of a disk that isn't known, of a chunk
+    /// with a home on a quorum disk, or, where there is no room for all records, of the settings.
     #[tactic(auto, using(crate::proofs::FaultLaws::short_is, crate::proofs::FaultLaws::unknown_is, crate::proofs::FaultLaws::on_quorum_is, crate::proofs::FaultLaws::quorum_numbered, crate::proofs::FaultLaws::no_room_is, crate::proofs::FaultLaws::sizes_are))]
     fn size_fault(&self, shape: &Shape, entries: &[PstEntry]) -> Option<Key>
         requires shape { IsTrue (is_shape shape.now) }

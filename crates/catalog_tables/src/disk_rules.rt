@@ -39,7 +39,8 @@ impl Parts {
         self.blocks_used().saturating_add(KEPT) <= shape.dir_blocks as u64
     }
 
-    /// Blocks that the records take, but for the two that are kept, or the greatest number where there are more.
+    /// Blocks that the records take, but for the two that are kept, or the greatest number where
+    /// there are more.
     pub fn blocks_used(&self) -> u64
         ensures { result ≡ min (blocks_used self.now) 18446744073709551615 }
     {

@@ -10,7 +10,8 @@ use crate::parts::Parts;
 use asm_base::{Home, Homes};
 
 impl Parts {
-    /// The first record of stale marks that has a mark of a copy that isn't there. Of a chunk that isn't there it names none.
+    /// The first record of stale marks that has a mark of a copy that isn't there. Of a chunk that
+    /// isn't there it names none.
     pub(crate) fn mark_alone(&self) -> Option<(u32, u32)>
         ensures { result ≡ first_wrong (is_marked_right self.now) self.now.stale }
     {

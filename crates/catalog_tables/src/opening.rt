@@ -19,7 +19,8 @@ use staleness_directory::StaleTable;
 use std::alloc::Global;
 use template_directory::TemplateTable;
 
-/// All tables of a group while a change of records is under way. The rules of extents and of nodes needn't hold.
+/// All tables of a group while a change of records is under way. The rules of extents and of nodes
+/// needn't hold.
 #[derive(Drop)]
 pub(crate) struct OpenParts {
     files: FileTable,
@@ -78,9 +79,9 @@ impl OpenParts {
         self.tree.are_nodes();
     }
 
-    /// Takes up a change: the records that are put, of two with one key the later, and then the keys that go. NoMemory is
-    /// also the answer where a record isn't of the formats, where two nodes then have one place, or where the templates or
-    /// the settings go.
+    /// Takes up a change: the records that are put, of two with one key the later, and then the
+    /// keys that go. NoMemory is also the answer where a record isn't of the formats, where two
+    /// nodes then have one place, or where the templates or the settings go.
     pub(crate) fn take_up(
         &mut self,
         alloc: Global,
@@ -148,8 +149,8 @@ impl OpenParts {
         Ok(())
     }
 
-    /// Takes up a record. NoMemory is also the answer where the record isn't of the formats, or is that of a node at a
-    /// place where another is.
+    /// Takes up a record. NoMemory is also the answer where the record isn't of the formats, or is
+    /// that of a node at a place where another is.
     pub(crate) fn put_record(
         &mut self,
         alloc: Global,
@@ -173,8 +174,8 @@ impl OpenParts {
         }
     }
 
-    /// Takes the record of a key away, where it is there. NoMemory is the answer for the templates and the settings, which
-    /// must be there.
+    /// Takes the record of a key away, where it is there. NoMemory is the answer for the templates
+    /// and the settings, which must be there.
     #[tactic(auto, using(crate::proofs::SetLaws::nothing_set))]
     pub(crate) fn remove_record(&mut self, key: Key) -> Result<(), NoMemory>
         requires { ArePartsOpen self.old }

@@ -16,7 +16,8 @@ use page_map::Units;
 use partnership::{PstEntry, units_of};
 use std::alloc::Global;
 
-/// Makes the units of the homes of all chunks used. The first chunk that has a home whose units aren't free.
+/// Makes the units of the homes of all chunks used. The first chunk that has a home whose units
+/// aren't free.
 #[tactic(auto, using(crate::proofs::PlacingLaws::next_chunk, crate::proofs::PlacingLaws::no_chunks, crate::proofs::PlacingLaws::chunk_refused))]
 fn place_all(units: &mut [Units], step: u32, extents: &ExtentMap) -> Option<(u32, u32)>
     ensures fault { result ≡ first_misplaced step units.old extents.now }
@@ -39,8 +40,8 @@ pub(crate) fn place_in(units: &mut Vec<Units>, step: u32, extents: &ExtentMap) -
     place_all(units, step, extents)
 }
 
-/// The same for the extents of a chunk, the first of which has this index. `false` where one has a home whose units aren't
-/// free.
+/// The same for the extents of a chunk, the first of which has this index. `false` where one has a
+/// home whose units aren't free.
 #[tactic(auto, using(crate::proofs::PlacingLaws::next_extent, crate::proofs::PlacingLaws::extent_refused, crate::proofs::PlacingLaws::no_extents))]
 pub fn place_chunk(units: &mut [Units], step: u32, file: u32, first: u64, extents: &[Homes]) -> bool
     requires { first + length extents.now < 2 ^ 63 }

@@ -29,7 +29,8 @@ use std::alloc::Global;
 use template_directory::TemplateTable;
 
 impl Parts {
-    /// The tables whose records these are. It takes time in proportion to the records, times the logarithm of their number.
+    /// The tables whose records these are. It takes time in proportion to the records, times the
+    /// logarithm of their number.
     #[tactic(auto, using(crate::proofs::ReadingLaws::unreadable_at, crate::proofs::ReadingLaws::absent_at, crate::proofs::ReadingLaws::gap_at, crate::proofs::ReadingLaws::loose_at, crate::proofs::ReadableLaws::readable_is))]
     pub fn from_records(alloc: Global, content: &Records) -> Result<Parts, CatalogError>
         ensures records { IfOk result (HasRecords content.now) }
@@ -49,8 +50,8 @@ impl Parts {
     }
 }
 
-/// The tables of which no record can be at fault once each record is of the formats and those of templates and settings
-/// are there.
+/// The tables of which no record can be at fault once each record is of the formats and those of
+/// templates and settings are there.
 #[tactic(auto, using(crate::proofs::ReadableLaws::files_read, crate::proofs::ReadableLaws::templates_read, crate::proofs::ReadableLaws::operations_read, crate::proofs::ReadableLaws::disks_read))]
 fn read_others(
     alloc: Global,

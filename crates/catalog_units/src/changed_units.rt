@@ -58,7 +58,8 @@ fn is_new(put: &[(Key, Value)], gone: &[Key], place: usize, key: Key) -> bool
     key.kind == record_kind::FILES && key.b > 0 && !is_earlier(put, gone, place, key)
 }
 
-/// Gives the units of the chunk back whose key stands at a place of a change, unless an earlier place has it too.
+/// Gives the units of the chunk back whose key stands at a place of a change, unless an earlier
+/// place has it too.
 #[tactic(auto, using(crate::proofs::ChangeUnits::given_new, crate::proofs::ChangeUnits::given_old, crate::proofs::ChangeUnits::length_keys))]
 fn give_one(
     units: &mut [Units],
@@ -83,7 +84,8 @@ fn give_one(
     }
 }
 
-/// Makes the units of the chunk used whose key stands at a place of a change, unless an earlier place has it too.
+/// Makes the units of the chunk used whose key stands at a place of a change, unless an earlier
+/// place has it too.
 #[tactic(auto, using(crate::proofs::ChangeUnits::marked_new, crate::proofs::ChangeUnits::marked_old, crate::proofs::ChangeUnits::length_keys))]
 fn mark_one(
     units: &mut [Units],
@@ -136,8 +138,8 @@ fn mark_all(units: &mut [Units], step: u32, extents: &ExtentMap, put: &[(Key, Va
     }
 }
 
-/// The units after a change of the extents, from those before it. Work goes by the chunks that the change puts or takes
-/// away, and no memory is taken.
+/// The units after a change of the extents, from those before it. Work goes by the chunks that the
+/// change puts or takes away, and no memory is taken.
 fn change_units(
     units: &mut [Units],
     step: u32,
@@ -160,7 +162,8 @@ fn change_units(
     mark_all(units, step, new, put, gone);
 }
 
-/// Brings the units of some tables to those after a change, in work that goes by the chunks of the change.
+/// Brings the units of some tables to those after a change, in work that goes by the chunks of the
+/// change.
 #[tactic(auto, using(crate::proofs::ChangeUnits::chunks_stay))]
 pub fn follow(units: &mut Vec<Units>, shape: &Shape, old: &Parts, new: &Parts, change: &Change)
     requires tables { AreTables old.now }

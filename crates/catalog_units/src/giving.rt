@@ -10,8 +10,8 @@ ghost use Rattle.catalog_tables.specs.Placing.{after_homes, home_placed, home_ta
 
 use catalog_tables::{ExtentMap, Home, Homes, Units, place_chunk, units_of};
 
-/// Gives the units of a chunk's homes back, where the chunk is there. Whichever chunks the units are those of, they are
-/// those of the others then.
+/// Gives the units of a chunk's homes back, where the chunk is there. Whichever chunks the units
+/// are those of, they are those of the others then.
 #[tactic(auto, using(crate::proofs::ChunkUnits::out_not, crate::proofs::ChunkUnits::out_there, crate::proofs::ChunkUnits::out_given))]
 pub(crate) fn give_at(units: &mut [Units], step: u32, extents: &ExtentMap, file: u32, chunk: u32)
     requires table { AreChunks extents.now }
@@ -26,8 +26,8 @@ pub(crate) fn give_at(units: &mut [Units], step: u32, extents: &ExtentMap, file:
     }
 }
 
-/// Makes the units of a chunk's homes used, where the chunk is there. Where the units are those of the chunks that are
-/// meant but for this one, they are those of all that are meant then.
+/// Makes the units of a chunk's homes used, where the chunk is there. Where the units are those of
+/// the chunks that are meant but for this one, they are those of all that are meant then.
 #[tactic(auto, using(crate::proofs::ChunkUnits::put_not, crate::proofs::ChunkUnits::put_is))]
 pub(crate) fn mark_at(units: &mut [Units], step: u32, extents: &ExtentMap, file: u32, chunk: u32)
     requires table { AreChunks extents.now }
@@ -56,7 +56,8 @@ fn give_chunk(units: &mut [Units], step: u32, file: u32, first: u64, extents: &[
     }
 }
 
-/// The same for the homes of an extent of so many units. The other homes may be those that are given back later.
+/// The same for the homes of an extent of so many units. The other homes may be those that are
+/// given back later.
 fn give_extent(units: &mut [Units], file: u32, index: u64, len: u32, homes: &Homes)
     requires some { 0 < len }
     requires taken { (before : Items UnitMap)

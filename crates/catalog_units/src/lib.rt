@@ -1,5 +1,5 @@
-//! The used units of each disk, brought up by a change of records in work that goes by the change, and the units of the
-//! disks that a status record gives others.
+//! The used units of each disk, brought up by a change of records in work that goes by the change,
+//! and the units of the disks that a status record gives others.
 #![tactic(auto)]
 
 pub use catalog_tables::{

@@ -15,8 +15,9 @@ use asm_base::Block;
 use bay::{Bay, Fault};
 use body_slot::put_settled;
 
-/// Puts changed pages, by their numbers, into the log slot that doesn't hold the content, under a commit number. With its
-/// gate the copy has the content with them. A fault leaves the content before or after.
+/// Puts changed pages, by their numbers, into the log slot that doesn't hold the content, under a
+/// commit number. With its gate the copy has the content with them. A fault leaves the content
+/// before or after.
 pub fn commit<B: Bay>(
     bay: &mut B,
     copy: DirCopy,

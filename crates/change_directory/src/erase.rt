@@ -20,8 +20,8 @@ const PIECE: usize = 262_144;
 /// The blocks behind the gate of a log slot.
 const LOG_BODY: u32 = LOG_BLOCKS - 1;
 
-/// Takes a copy's content away: closes the log slot of the smaller commit number and then the other one, and zeroes all
-/// pages. The content stays until it is gone.
+/// Takes a copy's content away: closes the log slot of the smaller commit number and then the other
+/// one, and zeroes all pages. The content stays until it is gone.
 pub fn format<B: Bay>(bay: &mut B, copy: DirCopy) -> Result<(), Fault>
     requires { IsCopy (B.state bay.old) copy }
     ensures { FormatsCopy result copy (B.state bay.old) (B.state bay.new) }

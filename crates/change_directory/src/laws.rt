@@ -1,10 +1,12 @@
-//! What a commit does in the words of the format, what it and its checkpoint leave, and what a store of several copies
-//! needs to know of one. Each law is the contract of a function that does nothing.
+//! What a commit does in the words of the format, what it and its checkpoint leave, and what a
+//! store of several copies needs to know of one. Each law is the contract of a function that does
+//! nothing.
 
 ghost use Rattle.change_directory.specs.Laws.{HomedAreAtHome, LoggedAreDue, LoggedIsPut, LoggingIsPut};
 ghost use Rattle.change_directory.specs.StoreLaws.{DuesStand, FormattedIsEmpty, FormattingLoses, HomedSettles, HomingKeeps, LoadedIsContent, LoadedIsDue, LoggedHas, LoggingKeepsOrHas, OpeningHasNoneOrAll, OtherCopyIsSame, RegionIsSame, StepsStayInside, UnopenedHomed, UnopenedOpens, UnopenedStays};
 
-/// While a log is put, the disk is as it was, or it is a moment of putting the log into the spare slot.
+/// While a log is put, the disk is as it was, or it is a moment of putting the log into the spare
+/// slot.
 pub fn logging_is_put()
     ensures { LoggingIsPut }
 {}
@@ -19,7 +21,8 @@ pub fn logged_are_due()
     ensures { LoggedAreDue }
 {}
 
-/// After a commit and its checkpoint each page counts as it stands at home, as the next commit demands.
+/// After a commit and its checkpoint each page counts as it stands at home, as the next commit
+/// demands.
 pub fn homed_are_at_home()
     ensures { HomedAreAtHome }
 {}
@@ -44,7 +47,8 @@ pub fn logged_has()
     ensures { LoggedHas }
 {}
 
-/// While a copy whose pages count as they stand at home is formatted, its content stays, or is gone.
+/// While a copy whose pages count as they stand at home is formatted, its content stays, or is
+/// gone.
 pub fn formatting_loses()
     ensures { FormattingLoses }
 {}

@@ -1,5 +1,5 @@
-//! One copy of a group's directories on one disk: pages, and a change log of two gated slots. A commit puts the changed
-//! pages into a log slot, and its checkpoint writes them home.
+//! One copy of a group's directories on one disk: pages, and a change log of two gated slots. A
+//! commit puts the changed pages into a log slot, and its checkpoint writes them home.
 #![tactic(auto)]
 
 mod change;

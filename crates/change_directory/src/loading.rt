@@ -32,8 +32,8 @@ pub struct Pages {
     pub number: Option<u64>,
     /// The pages that aren't zeros, by their numbers, ascending.
     pub blocks: Vec<(u32, Block)>,
-    /// The pages of the open log slots, ascending, each with the block of its image that counts. Their checkpoint may have
-    /// been left out.
+    /// The pages of the open log slots, ascending, each with the block of its image that counts.
+    /// Their checkpoint may have been left out.
     pub due: Vec<(u32, u64)>,
 }
 
@@ -63,7 +63,8 @@ impl From<NoMemory> for LoadFault {
     }
 }
 
-/// Reads a copy: its commit number, and its pages with the images of the open log slots in their place. It writes nothing.
+/// Reads a copy: its commit number, and its pages with the images of the open log slots in their
+/// place. It writes nothing.
 pub fn load<B: Bay>(alloc: Global, bay: &mut B, copy: DirCopy) -> Result<Pages, LoadFault>
     requires { IsCopy (B.state bay.old) copy }
     ensures { LoadsCopy result copy (B.state bay.old) (B.state bay.new) }

@@ -10,7 +10,8 @@ use clap::error::ErrorKind;
 use clap::{Arg, ArgAction, ArgMatches, Command};
 use std::alloc::{AllocError, Global};
 
-// One option with one value, and one positional with one or more. Help is no part of it: the program answers that apart.
+// One option with one value, and one positional with one or more. Help is no part of it: the
+// program answers that apart.
 fn command<'a>(alloc: Global) -> Result<Command<'a>, AllocError>
     ensures { IfOk result (λ command. app_of command ≡ asm_command) }
 {

@@ -19,7 +19,8 @@ const GENERATOR_IMAGES: usize = 4;
 /// What the program is asked to do.
 #[derive(Debug, Drop)]
 pub struct Words {
-    /// The seed of the generated script, where there is one. Without it the script is read on standard input.
+    /// The seed of the generated script, where there is one. Without it the script is read on
+    /// standard input.
     pub generate: Option<u64>,
     /// The paths of the images, in their order. Slot k is the k-th of them, counted from 0.
     pub images: Vec<String>,
@@ -28,8 +29,8 @@ pub struct Words {
 /// Why the words aren't read.
 #[derive(Clone, Copy, Debug, PartialEq, Eq, Error)]
 pub enum WordsError {
-    /// The words aren't `[--generate N] IMAGE...`, a path is given twice, there are more than 512, or the generator gets
-    /// other than four paths without a single quote.
+    /// The words aren't `[--generate N] IMAGE...`, a path is given twice, there are more than 512,
+    /// or the generator gets other than four paths without a single quote.
     #[error("the words are not [--generate N] IMAGE...")]
     Usage,
     /// No memory was found.
@@ -53,7 +54,8 @@ impl<T: Drop> From<AllocFailed<T>> for WordsError {
     }
 }
 
-/// Reads the words that follow the program's own name: options anywhere before a `--`, and all others as images.
+/// Reads the words that follow the program's own name: options anywhere before a `--`, and all
+/// others as images.
 pub fn read_words(alloc: Global, words: &[String]) -> Result<Words, WordsError>
     ensures read { IfOk result (λ read. IsRead (map string_bytes words.now) read.generate
         (map string_bytes read.images.items)) }

@@ -1,4 +1,5 @@
-//! Whether a block is a page of a directory copy: zeros, or the block of one record. It takes no memory.
+//! Whether a block is a page of a directory copy: zeros, or the block of one record. It takes no
+//! memory.
 #![tactic(auto)]
 
 mod fields;

@@ -1,4 +1,5 @@
-// A commit on the copies: on each its due pages go home, the changed pages go into its log, and from there home.
+// A commit on the copies: on each its due pages go home, the changed pages go into its log, and
+// from there home.
 ghost use Rattle.std.specs.Prelude.{◌≡◌, ◌<◌, ◌^◌, ◌-◌, IsTrue, ℕ, true};
 ghost use Rattle.asm_group.specs.Names.{Bytes};
 ghost use Rattle.bay.specs.Moments.{NowOnly};
@@ -13,8 +14,8 @@ use asm_base::{Block, DiskSet};
 use bay::{Bay, Fault};
 use change_directory::{DirCopy, checkpoint, commit};
 
-/// Writes the due pages of a copy home, where there are some, and settles its log slots, where they aren't. The content
-/// stays at every moment.
+/// Writes the due pages of a copy home, where there are some, and settles its log slots, where they
+/// aren't. The content stays at every moment.
 fn settle<B: Bay>(
     bay: &mut B,
     copy: DirCopy,
@@ -78,8 +79,8 @@ fn commit_one<B: Bay>(
     log_and_home(bay, copy, number, pages)
 }
 
-/// Commits pages on each of the copies, past faults. Gives the set of the disks that failed. On each of the others the log
-/// slots are settled.
+/// Commits pages on each of the copies, past faults. Gives the set of the disks that failed. On
+/// each of the others the log slots are settled.
 pub(crate) fn commit_all<B: Bay>(
     bay: &mut B,
     copies: &[DirCopy],

@@ -132,7 +132,8 @@ fn put_dropped(
     }
 }
 
-/// The disks that a statement drops, in its order, each once and with its last option. NoName where there is none of a name.
+/// The disks that a statement drops, in its order, each once and with its last option. NoName where
+/// there is none of a name.
 fn drops_named(
     alloc: Global,
     m: &Mounted,
@@ -156,7 +157,8 @@ fn drops_of(alloc: Global, disks: DiskSet, force: bool) -> Result<Vec<DropDisk>,
     Ok(drops)
 }
 
-/// The disks of a failure group, each with the option. NoName where there is none of the name and kind.
+/// The disks of a failure group, each with the option. NoName where there is none of the name and
+/// kind.
 fn drops_in_group(
     alloc: Global,
     m: &Mounted,
@@ -311,7 +313,8 @@ fn rebalance<B: Bay>(m: &mut Mounted, alloc: Global, bay: &mut B, power: u16) ->
     }
 }
 
-/// Changes the disks of a group, and makes a rebalance of the power active where the change asks for one.
+/// Changes the disks of a group, and makes a rebalance of the power active where the change asks
+/// for one.
 fn change_disks<B: Bay>(
     m: &mut Mounted,
     alloc: Global,
@@ -334,7 +337,8 @@ fn change_disks<B: Bay>(
     }
 }
 
-/// The disks of a group change, with a rebalance of this power. BadPower comes before what the change is refused for.
+/// The disks of a group change, with a rebalance of this power. BadPower comes before what the
+/// change is refused for.
 #[derive(Clone, Copy)]
 pub struct ChangeDisks<'a> {
     pub change: DiskChange<'a>,

@@ -1,7 +1,8 @@
 // The disks of groups: which there are, how large they are, and whether they are online.
 //
-// Behind the refusals that are listed comes Dismounted, where a commit finds no majority. Under WAIT there come those by which
-// the last slice ends: NoSpace, Lost, ReadFault and WriteFault of a rebalance, ReadFault and WriteFault of a resync.
+// Behind the refusals that are listed comes Dismounted, where a commit finds no majority. Under
+// WAIT there come those by which the last slice ends: NoSpace, Lost, ReadFault and WriteFault of a
+// rebalance, ReadFault and WriteFault of a resync.
 ghost use Rattle.std.specs.Prelude.{◌≡◌, false};
 ghost use Rattle.asm_world.specs.Command.{Said, Asked, OfflineDisk, OnlineDisk, SetPower};
 ghost use Rattle.asm_world.specs.Language.{command_of};
@@ -95,7 +96,8 @@ fn bring_back<B: Bay, H: Host>(
     Answer::plain(desk.alloc, reply)
 }
 
-/// ADD DISK. Its refusals in order: NoGroup, Dismounted, BadPower, TooMany, NoDisk, DiskTaken, NameTaken, TooSmall, DirectoryFull, WriteFault.
+/// ADD DISK. Its refusals in order: NoGroup, Dismounted, BadPower, TooMany, NoDisk, DiskTaken,
+/// NameTaken, TooSmall, DirectoryFull, WriteFault.
 pub fn add_disks<B: Bay, H: Host>(
     desk: &mut Desk<B, H>,
     text: &[u8],
@@ -121,7 +123,8 @@ pub fn add_disks<B: Bay, H: Host>(
     Answer::plain(desk.alloc, reply)
 }
 
-/// DROP DISK. Its refusals in order: NoGroup, Dismounted, BadPower, NoName, DiskState, HoldsDirectories, WouldLose, TooFewGroups.
+/// DROP DISK. Its refusals in order: NoGroup, Dismounted, BadPower, NoName, DiskState,
+/// HoldsDirectories, WouldLose, TooFewGroups.
 pub fn drop_disks<B: Bay, H: Host>(
     desk: &mut Desk<B, H>,
     text: &[u8],
@@ -169,7 +172,8 @@ pub fn undrop_disks<B: Bay, H: Host>(desk: &mut Desk<B, H>, text: &[u8], group: 
     change(desk, text, &group, DiskChange::Undrop, None)
 }
 
-/// RESIZE ALL, of the disks that serve. Its refusals in order: NoGroup, Dismounted, BadPower, TooSmall.
+/// RESIZE ALL, of the disks that serve. Its refusals in order: NoGroup, Dismounted, BadPower,
+/// TooSmall.
 pub fn resize_all<B: Bay, H: Host>(
     desk: &mut Desk<B, H>,
     text: &[u8],
@@ -275,7 +279,8 @@ fn taken_offline<'a>(disks: Chosen<'a>, minutes: Option<u64>, now: u64) -> DiskC
     }
 }
 
-/// OFFLINE of some disks. Its refusals in order: NoGroup, Dismounted, NoName, DiskState, HoldsDirectories, WouldLose.
+/// OFFLINE of some disks. Its refusals in order: NoGroup, Dismounted, NoName, DiskState,
+/// HoldsDirectories, WouldLose.
 pub fn offline_disks<B: Bay, H: Host>(
     desk: &mut Desk<B, H>,
     text: &[u8],

@@ -1,4 +1,5 @@
-//! The commands on the disks of a group: which there are, how large they are, whether they are online.
+//! The commands on the disks of a group: which there are, how large they are, whether they are
+//! online.
 #![tactic(auto)]
 
 pub use session::{Answer, Desk, GroupTurn as Turn, Reply, Session, Turned, no_memory, unreadable};

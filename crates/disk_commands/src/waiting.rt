@@ -1,4 +1,5 @@
-// Statements on disks, and what they wait for: rebalances and resyncs to their ends, with their lines.
+// Statements on disks, and what they wait for: rebalances and resyncs to their ends, with their
+// lines.
 ghost use Rattle.std.specs.Prelude.{◌≡◌, ◌⊎◌, ⊤, ◌≤◌, [], length, IfErr, IfOk, IfSome, Some};
 ghost use Rattle.refusal_lines.specs.Refusals.{meaning_of};
 ghost use Rattle.refusal_lines.specs.declared.refusal.Refusal.TheVariants as cause;
@@ -129,7 +130,8 @@ impl GroupWork for RebalanceAll {
 
 // ---- a resync to its end
 
-/// Resyncs a disk, slice by slice, to its end. The second part of the answer, also of a refusal, is the number of steps.
+/// Resyncs a disk, slice by slice, to its end. The second part of the answer, also of a refusal, is
+/// the number of steps.
 fn sync_to_end<B: Bay>(
     m: &mut Mounted,
     alloc: Global,
@@ -289,7 +291,8 @@ fn resync_one<B: Bay>(
     }
 }
 
-/// Resyncs these disks by number, and puts a line of each behind others. The first that fails ends it.
+/// Resyncs these disks by number, and puts a line of each behind others. The first that fails ends
+/// it.
 fn resync_all<B: Bay>(
     session: &mut Session,
     alloc: Global,
@@ -307,7 +310,8 @@ fn resync_all<B: Bay>(
     Ok(())
 }
 
-/// The reply to a statement that made a rebalance active, which waits for its end where the statement says so.
+/// The reply to a statement that made a rebalance active, which waits for its end where the
+/// statement says so.
 #[tactic(auto, using(session::proofs::Carrying::carries_none))]
 fn reply_after<B: Bay>(
     session: &mut Session,
@@ -331,7 +335,8 @@ fn reply_after<B: Bay>(
     }
 }
 
-/// The reply to a statement that brought these disks back, which waits for their resync where it says so.
+/// The reply to a statement that brought these disks back, which waits for their resync where it
+/// says so.
 #[tactic(auto, using(session::proofs::Carrying::carries_none))]
 fn reply_online<B: Bay>(
     session: &mut Session,
@@ -352,8 +357,8 @@ fn reply_online<B: Bay>(
     reply_of(lines, ended)
 }
 
-/// Changes the disks of the mounted group of a name. Its refusals in order: NoGroup, Dismounted, BadPower, those of the change, and
-/// under WAIT that by which the rebalance ends.
+/// Changes the disks of the mounted group of a name. Its refusals in order: NoGroup, Dismounted,
+/// BadPower, those of the change, and under WAIT that by which the rebalance ends.
 pub fn change_and_wait<B: Bay>(
     session: &mut Session,
     alloc: Global,
@@ -373,8 +378,8 @@ pub fn change_and_wait<B: Bay>(
     }
 }
 
-/// Adds disks to the mounted group of a name. Its refusals in order: NoGroup, Dismounted, BadPower, those of the disks, and under
-/// WAIT that by which the rebalance ends.
+/// Adds disks to the mounted group of a name. Its refusals in order: NoGroup, Dismounted, BadPower,
+/// those of the disks, and under WAIT that by which the rebalance ends.
 pub fn add_and_wait<B: Bay>(
     session: &mut Session,
     alloc: Global,
@@ -396,8 +401,8 @@ pub fn add_and_wait<B: Bay>(
     }
 }
 
-/// Brings disks of the mounted group of a name back. Its refusals in order: NoGroup, Dismounted, those of the disks, and where it
-/// waits for their resync that by which one ends.
+/// Brings disks of the mounted group of a name back. Its refusals in order: NoGroup, Dismounted,
+/// those of the disks, and where it waits for their resync that by which one ends.
 pub fn bring_back_and_wait<B: Bay>(
     session: &mut Session,
     alloc: Global,

@@ -3,7 +3,8 @@
 use asm_base::{Name, NoMemory};
 use std::marker::Model;
 
-/// What a group keeps of a disk beside its entry in the status record. Contracts see it as the one of the formats.
+/// What a group keeps of a disk beside its entry in the status record. Contracts see it as the one
+/// of the formats.
 #[derive(Debug, Drop)]
 pub struct DiskInfo {
     /// The disk's birth number, never used again in the group.
@@ -25,7 +26,8 @@ impl DiskInfo {
     ghost use Rattle.std.specs.Prelude.{◌≡◌, IfOk};
     ghost use Rattle.asm_formats.specs.Items.{disk_item, is_item};
 
-    /// Whether a directory may hold it as the record of this disk: a number below 64, and names of the grammar.
+    /// Whether a directory may hold it as the record of this disk: a number below 64, and names of
+    /// the grammar.
     pub fn is_allowed(&self, disk: u8) -> bool
         ensures { result ≡ is_item (disk_item disk self.now) }
     {

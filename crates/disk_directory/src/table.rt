@@ -17,7 +17,8 @@ use item_table::{KeyTable, Listed};
 use record_values::take_named;
 use std::alloc::Global;
 
-/// What the records say of disks, by number. Contracts see the list of them in the order of the numbers.
+/// What the records say of disks, by number. Contracts see the list of them in the order of the
+/// numbers.
 pub type DiskTable = KeyTable<u32, DiskInfo>;
 
 impl Listed<u32> for DiskInfo {

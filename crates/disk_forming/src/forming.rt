@@ -1,4 +1,5 @@
-// A disk becomes a member of a new group. Between its header and its record it is given the directory copy.
+// A disk becomes a member of a new group. Between its header and its record it is given the
+// directory copy.
 ghost use Rattle.std.specs.Prelude.{◌≡◌, ◌+◌, ◌*◌, length};
 ghost use Rattle.bay.specs.Calls.{Call, ChangesEachImage, cost};
 ghost use Rattle.disk_forming.specs.Gates.{HasAttachedRegion};
@@ -11,8 +12,8 @@ use bay::{Bay, Fault};
 use body_slot::put;
 use disk_blocks::{FIRST_CLAIM, FIRST_STATUS};
 
-/// Closes every gate of a disk, that of its old header first, and then gives it a header of one block. `dir_blocks` are the
-/// record blocks of the directory.
+/// Closes every gate of a disk, that of its old header first, and then gives it a header of one
+/// block. `dir_blocks` are the record blocks of the directory.
 pub fn give_header<B: Bay>(
     bay: &mut B,
     slot: u32,
@@ -29,7 +30,8 @@ pub fn give_header<B: Bay>(
     put(bay, slot, header_slot(512), header)
 }
 
-/// Gives a disk that has its header and its directory copy a claim and then a status record, of one block each.
+/// Gives a disk that has its header and its directory copy a claim and then a status record, of one
+/// block each.
 pub fn give_record<B: Bay>(
     bay: &mut B,
     slot: u32,

@@ -15,8 +15,9 @@ use body_slot::{close_gate, put};
 use disk_forming::{close_all_gates, header_slot};
 use disk_header::{Block, Header, Shape, encode};
 
-/// Closes every gate of a disk, the header's first: before another gate is written no image that a stop may leave has
-/// the header open. After Ok the disk is blank. A Fault is that of the disk, whose gates may then be open or shut.
+/// Closes every gate of a disk, the header's first: before another gate is written no image that a
+/// stop may leave has the header open. After Ok the disk is blank. A Fault is that of the disk,
+/// whose gates may then be open or shut.
 #[tactic(auto, using(crate::proofs::Shapes::few_blocks))]
 pub fn close_gates<B: Bay>(bay: &mut B, slot: u32, shape: Shape) -> Result<(), Fault>
     requires shape { IsTrue (is_shape shape) }
@@ -28,8 +29,8 @@ pub fn close_gates<B: Bay>(bay: &mut B, slot: u32, shape: Shape) -> Result<(), F
     close_all_gates(bay, slot, shape.sector, shape.dir_blocks as u16)
 }
 
-/// Puts a header in the place of the one that is there. At each moment the disk shows the old header, none or the new one,
-/// and after Ok the new one. A Fault is that of the disk.
+/// Puts a header in the place of the one that is there. At each moment the disk shows the old
+/// header, none or the new one, and after Ok the new one. A Fault is that of the disk.
 pub fn write_header<B: Bay>(bay: &mut B, slot: u32, header: &Header) -> Result<(), Fault>
     requires header { IsTrue (is_header header.now) }
     requires disk { HasHeaderSlot (B.state bay.old) slot header.now.shape.sector }
@@ -44,8 +45,8 @@ pub fn write_header<B: Bay>(bay: &mut B, slot: u32, header: &Header) -> Result<(
     put(bay, slot, header_slot(header.sector), &block.bytes)
 }
 
-/// Closes the gate of a disk's header, and no other. After Ok the disk is no member of any group. A Fault is that of the
-/// disk, which may then be a member or not.
+/// Closes the gate of a disk's header, and no other. After Ok the disk is no member of any group. A
+/// Fault is that of the disk, which may then be a member or not.
 pub fn close_header<B: Bay>(bay: &mut B, slot: u32, shape: Shape) -> Result<(), Fault>
     requires { HasHeaderSlot (B.state bay.old) slot shape.sector }
     ensures call { Call result slot (MayClose (gated_slot_at 0 1 shape.sector) slot) (ChangesEachImage (Closes (gated_slot_at 0 1 shape.sector) slot))

@@ -1,4 +1,5 @@
-//! What steps on the header of a disk leave of the groups. Each function has an empty body: its contract is the law.
+//! What steps on the header of a disk leave of the groups. Each function has an empty body: its
+//! contract is the law.
 
 ghost use Rattle.disk_images.specs.Headers.{FormattedDisksShow, GatesClosingKeeps, HeaderClosingKeeps, HeaderPuttingKeeps, LeavingKeeps, MakingKeeps};
 

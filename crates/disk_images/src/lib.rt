@@ -1,4 +1,5 @@
-//! What the program's images show, and how a disk gets its open header and loses it, for each shape and sector.
+//! What the program's images show, and how a disk gets its open header and loses it, for each shape
+//! and sector.
 #![tactic(auto)]
 
 pub use disk_header::{Header, encode};

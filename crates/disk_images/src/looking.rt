@@ -17,8 +17,8 @@ pub enum Looked {
     Absent,
     /// It was attached, and couldn't be synced or read.
     Unread { size: u64 },
-    /// It was attached, and this is its open header, where it has one of the program's form. A shorter image than 40,960
-    /// bytes has none.
+    /// It was attached, and this is its open header, where it has one of the program's form. A
+    /// shorter image than 40,960 bytes has none.
     Read { size: u64, header: Option<Header> },
 }
 
@@ -73,7 +73,8 @@ pub fn look_at<B: Bay>(
     }
 }
 
-/// The open header of an attached disk of so many bytes, in each image that a stop may leave from then on.
+/// The open header of an attached disk of so many bytes, in each image that a stop may leave from
+/// then on.
 fn settled_header<B: Bay>(
     alloc: Global,
     bay: &mut B,

@@ -116,8 +116,8 @@ fn joined_record(alloc: Global, m: &Mounted, joining: &Joining) -> Result<PstRec
     Ok(with_partners(&next, &sets))
 }
 
-/// Writes the status record with the entries of the disks. That one would lack its entry is answered as want of memory, and
-/// doesn't come.
+/// Writes the status record with the entries of the disks. That one would lack its entry is
+/// answered as want of memory, and doesn't come.
 fn put_entries<B: Bay>(
     m: &mut Mounted,
     alloc: Global,
@@ -231,7 +231,8 @@ fn join_recorded<B: Bay>(
     }
 }
 
-/// What comes behind the status record with the births: the directory records of the disks, and the rest.
+/// What comes behind the status record with the births: the directory records of the disks, and the
+/// rest.
 fn join_born<B: Bay>(
     m: &mut Mounted,
     alloc: Global,
@@ -280,7 +281,8 @@ fn join_all<B: Bay>(
     }
 }
 
-/// The disks join the group. After want of memory behind the first write the group takes no more calls.
+/// The disks join the group. After want of memory behind the first write the group takes no more
+/// calls.
 fn join<B: Bay>(
     m: &mut Mounted,
     alloc: Global,
@@ -301,12 +303,14 @@ fn join<B: Bay>(
     join_all(m, alloc, bay, held, joining, power)
 }
 
-/// Adds new disks to a group, and makes a rebalance of this power the active one. `paths` are the program's images, `known`
-/// what is known of the groups of the session: an image in a slot of theirs, or of this group, is never taken. The move that
-/// is on its way is given up. Refusals in their order: Dismounted; TooMany, where the group would have more than 64 disks;
-/// NoDisk, DiskTaken (WriteFault where the old header couldn't be read), NameTaken, TooSmall; DirectoryFull, whose need is the
-/// number of new disks; then WriteFault by a new disk that failed, where all that was done is given back but the births; and
-/// Dismounted. NoMemory at any point: behind the first write the group then takes no more calls.
+/// Adds new disks to a group, and makes a rebalance of this power the active one. `paths` are the
+/// program's images, `known` what is known of the groups of the session: an image in a slot of
+/// theirs, or of this group, is never taken. The move that is on its way is given up. Refusals in
+/// their order: Dismounted; TooMany, where the group would have more than 64 disks; NoDisk,
+/// DiskTaken (WriteFault where the old header couldn't be read), NameTaken, TooSmall;
+/// DirectoryFull, whose need is the number of new disks; then WriteFault by a new disk that failed,
+/// where all that was done is given back but the births; and Dismounted. NoMemory at any point:
+/// behind the first write the group then takes no more calls.
 pub fn add_disks<B: Bay>(
     m: &mut Mounted,
     alloc: Global,
@@ -322,7 +326,8 @@ pub fn add_disks<B: Bay>(
     // The group's parts agree, it takes the next call, and the disks of others stay.
     ensures taken { TakesIn known.now.held.items m.old m.new (B.state bay.old) (B.state bay.new) }
     ensures mounted { OnOk result (IsMounted m.new) }
-    // Each disk that is named shows its header then, with the least free number, and has an entry of that number and its birth.
+    // Each disk that is named shows its header then, with the least free number, and has an entry
+    // of that number and its birth.
     ensures joined { OnOk result (HaveJoined (asked_disks m.old groups.now)
         (given_numbers m.old groups.now) m.new (B.state bay.new)) }
     ensures cause { IfErr result (AddCause (map string_bytes paths.now) groups.now known.now m.old

@@ -32,7 +32,8 @@ fn member_of(m: &Mounted, image: DiskImage) -> Member
     }
 }
 
-/// Whether the image may be attached: the group has a place for it, it is long enough, and no other group has it.
+/// Whether the image may be attached: the group has a place for it, it is long enough, and no other
+/// group has it.
 fn may_attach(m: &Mounted, held: &[u32], image: DiskImage) -> bool
     ensures { OnTrue result (IsAttachable held.now m.now image) }
 {

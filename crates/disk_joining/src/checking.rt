@@ -31,7 +31,8 @@ fn has_shape(m: &Mounted, disk: &Headed) -> bool
     fits_shape(&shape, disk)
 }
 
-/// Whether the disk may be written: its image was read and is long enough, and neither this group nor another has it.
+/// Whether the disk may be written: its image was read and is long enough, and neither this group
+/// nor another has it.
 fn is_free(m: &Mounted, looked: &[Looked], held: &[u32], disk: &Headed) -> bool
     ensures { result ≡ (is_image_there looked.now held.now disk.now
         && not (has_disk_in_slot m.now.disks disk.now.slot)) }
@@ -69,7 +70,8 @@ fn is_new(catalog: &Catalog, number: u8) -> bool
     catalog.disk(number).is_none()
 }
 
-/// Whether each record is one of the directories', of a disk that has none yet, and no two are of one disk.
+/// Whether each record is one of the directories', of a disk that has none yet, and no two are of
+/// one disk.
 fn are_unrecorded(catalog: &Catalog, records: &[(u8, DiskInfo)]) -> bool
     ensures { result ≡ are_unrecorded catalog.now.tables.disks records.now }
 {

@@ -28,7 +28,8 @@ fn give_header<B: Bay>(bay: &mut B, disk: &Headed, shape: Shape) -> Result<(), F
     }
 }
 
-/// Gives the disks their headers, one after another. Where one fails, its place among them is answered.
+/// Gives the disks their headers, one after another. Where one fails, its place among them is
+/// answered.
 pub fn give_headers<B: Bay>(bay: &mut B, disks: &[Headed], shape: Shape) -> Result<(), usize>
     requires shape { IsTrue (is_shape shape) }
     requires long { AreLong shape disks.now (B.state bay.old) }

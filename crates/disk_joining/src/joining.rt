@@ -22,8 +22,8 @@ use new_groups::{Headed, Known, NewFailgroup, Place, PlannedDisk};
 use refusal_lines::Refusal;
 use std::alloc::Global;
 
-/// The disks that join a group, in the order of the statement: each with its image and the header that it gets, with its
-/// record in the directories, and with its units.
+/// The disks that join a group, in the order of the statement: each with its image and the header
+/// that it gets, with its record in the directories, and with its units.
 #[derive(Drop)]
 pub struct Joining {
     pub disks: Vec<Headed>,
@@ -80,7 +80,8 @@ fn put_disk(
     joining.units.push(units).map_err(|_| NoMemory)
 }
 
-/// Puts the disk of a place in the statement behind the others. Its birth is that many behind the last one given.
+/// Puts the disk of a place in the statement behind the others. Its birth is that many behind the
+/// last one given.
 fn put_at(
     m: &Mounted,
     asked: &Asked,
@@ -122,8 +123,8 @@ fn joining_of(
     Ok(joining)
 }
 
-/// What the disks become, where it agrees with what was asked for and what was looked at. That it doesn't is answered as want of
-/// memory, and doesn't come.
+/// What the disks become, where it agrees with what was asked for and what was looked at. That it
+/// doesn't is answered as want of memory, and doesn't come.
 fn checked(
     alloc: Global,
     m: &Mounted,
@@ -178,8 +179,9 @@ fn planned(
     }
 }
 
-/// Does all that comes before the first write: looks at the images, and makes what the disks become. The refusals in order:
-/// TooMany, NoDisk, DiskTaken or WriteFault, NameTaken, TooSmall, DirectoryFull.
+/// Does all that comes before the first write: looks at the images, and makes what the disks
+/// become. The refusals in order: TooMany, NoDisk, DiskTaken or WriteFault, NameTaken, TooSmall,
+/// DirectoryFull.
 pub fn prepare<B: Bay>(
     alloc: Global,
     m: &Mounted,

@@ -1,4 +1,5 @@
-//! Disks that come to a mounted group: new ones by ADD, and those that come back by ONLINE. Both attach images.
+//! Disks that come to a mounted group: new ones by ADD, and those that come back by ONLINE. Both
+//! attach images.
 #![tactic(auto)]
 
 pub use new_groups::{GroupAsked, Known, Taken, create_group};

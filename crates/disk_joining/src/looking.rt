@@ -118,8 +118,8 @@ fn check_blocks(m: &Mounted, disks: &[PlannedDisk]) -> Result<(), Refusal>
     }
 }
 
-/// The images of the disks, which may be given to the group. Refused as NoDisk, then as DiskTaken, or WriteFault where the
-/// header couldn't be read.
+/// The images of the disks, which may be given to the group. Refused as NoDisk, then as DiskTaken,
+/// or WriteFault where the header couldn't be read.
 fn free_places(
     alloc: Global,
     paths: &[String],
@@ -147,8 +147,8 @@ fn free_places(
     }
 }
 
-/// The units of the disks, which the group has names and blocks for. Refused as NameTaken, TooSmall, DirectoryFull in this
-/// order.
+/// The units of the disks, which the group has names and blocks for. Refused as NameTaken,
+/// TooSmall, DirectoryFull in this order.
 fn right_units(
     alloc: Global,
     m: &Mounted,
@@ -174,8 +174,9 @@ fn right_units(
     }
 }
 
-/// Where the disks are and how many units they have. The refusals in order: NoDisk, DiskTaken or WriteFault, NameTaken,
-/// TooSmall, DirectoryFull. `all` is what is known of all groups of the session, this one among them.
+/// Where the disks are and how many units they have. The refusals in order: NoDisk, DiskTaken or
+/// WriteFault, NameTaken, TooSmall, DirectoryFull. `all` is what is known of all groups of the
+/// session, this one among them.
 pub fn fit_disks(
     alloc: Global,
     m: &Mounted,

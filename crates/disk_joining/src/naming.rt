@@ -89,8 +89,8 @@ fn check_clash(rows: &[DiskRow], disks: &[PlannedDisk]) -> Result<(), Refusal>
     }
 }
 
-/// Whether names, paths and failure groups don't clash with one another, or with those of the group's disks. Refused as
-/// NameTaken.
+/// Whether names, paths and failure groups don't clash with one another, or with those of the
+/// group's disks. Refused as NameTaken.
 pub fn check_names(alloc: Global, m: &Mounted, disks: &[PlannedDisk]) -> Result<(), Refusal>
     ensures none { OnOk result (names_refusal (group_rows m.now) disks.now ≡ None) }
     ensures refused { IfErr result (λ refusal. IsThisRefusal
@@ -110,7 +110,8 @@ fn is_of_group(catalog: &Catalog, number: u8, failgroup: &Name) -> bool {
     }
 }
 
-/// The number of a failure group: that of the disk of the least number which is of it, else the least that no other has.
+/// The number of a failure group: that of the disk of the least number which is of it, else the
+/// least that no other has.
 pub fn failgroup_of(catalog: &Catalog, status: &PstRecord, failgroup: &Name) -> u8 {
     for entry in status.entries() {
         if is_of_group(catalog, entry.number, failgroup) {

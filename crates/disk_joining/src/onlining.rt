@@ -40,7 +40,8 @@ fn check_state(m: &Mounted, disks: DiskSet, number: u8) -> Result<(), Refusal>
     }
 }
 
-/// Whether all of the disks are Offline. Refused as DiskState by the one of the least number that isn't.
+/// Whether all of the disks are Offline. Refused as DiskState by the one of the least number that
+/// isn't.
 fn check_states(m: &Mounted, disks: DiskSet) -> Result<(), Refusal>
     ensures cause { IfErr result (JoinStateCause m.now disks) }
 {
@@ -53,8 +54,8 @@ fn check_states(m: &Mounted, disks: DiskSet) -> Result<(), Refusal>
     Ok(())
 }
 
-/// Whether a header on an image of so many bytes is that of an entry's disk: a member of the id with its number and birth,
-/// and at least its units.
+/// Whether a header on an image of so many bytes is that of an entry's disk: a member of the id
+/// with its number and birth, and at least its units.
 fn is_disk_of(id: u64, entry: PstEntry, header: &Header, size: u64) -> bool
     ensures { result ≡ is_image_of_entry id entry header.now size }
 {
@@ -101,7 +102,8 @@ fn is_free(m: &Mounted, held: &[u32], slot: u32) -> bool
     !is_own(m, slot) && !is_held(held, slot)
 }
 
-/// The image in a slot, where it is the disk of an entry, and neither this group nor another has it.
+/// The image in a slot, where it is the disk of an entry, and neither this group nor another has
+/// it.
 fn image_in(
     m: &Mounted,
     looked: &Looked,
@@ -131,8 +133,8 @@ fn image_in(
     }
 }
 
-/// The first image that is the disk of an entry, in a slot that neither this group nor another has. These images are those of
-/// the slots from one on.
+/// The first image that is the disk of an entry, in a slot that neither this group nor another has.
+/// These images are those of the slots from one on.
 fn image_from(
     m: &Mounted,
     looked: &[Looked],
@@ -162,8 +164,8 @@ fn image_of(m: &Mounted, looked: &[Looked], held: &[u32], entry: PstEntry) -> Op
     image_from(m, looked, held, entry, 0)
 }
 
-/// Whether the disk of an entry is there: where a disk of its number is attached, its image still shows it, and else one in a slot
-/// that no group has does.
+/// Whether the disk of an entry is there: where a disk of its number is attached, its image still
+/// shows it, and else one in a slot that no group has does.
 fn is_there(m: &Mounted, looked: &[Looked], held: &[u32], entry: PstEntry) -> bool
     requires few { length looked.now ≤ 512 }
     requires small { entry.number < 64 }
@@ -263,7 +265,8 @@ fn attach_missing<B: Bay>(m: &mut Mounted, bay: &B, looked: &[Looked], held: &[u
     }
 }
 
-/// The record with the disk Syncing. Since when it is offline, and after how long it is dropped, stay.
+/// The record with the disk Syncing. Since when it is offline, and after how long it is dropped,
+/// stay.
 fn with_syncing(status: &PstRecord, number: u8) -> PstRecord {
     match entry_of(status, number) {
         Some(entry) => with_mode(status, number, Mode::Syncing, entry.since),
@@ -306,12 +309,13 @@ fn bring_back<B: Bay>(
     write_next(m, alloc, bay, &next)
 }
 
-/// Brings disks back that are Offline: they are Syncing from then on. `paths` are the program's images, of which each is
-/// looked at, and `held` the slots of the disks of other groups. The move that is on its way is given up once all of the
-/// disks are there. An empty set changes nothing. Refusals in their order: Dismounted; DiskState, by the least disk that
-/// isn't Offline; NoDisk, by the least disk that isn't there: it is attached, and its image doesn't show it, or it isn't,
-/// and no image shows it that neither this group nor another has; Dismounted, where too few disks took the record;
-/// NoMemory. NoName comes of a number alone that has no entry.
+/// Brings disks back that are Offline: they are Syncing from then on. `paths` are the program's
+/// images, of which each is looked at, and `held` the slots of the disks of other groups. The move
+/// that is on its way is given up once all of the disks are there. An empty set changes nothing.
+/// Refusals in their order: Dismounted; DiskState, by the least disk that isn't Offline; NoDisk, by
+/// the least disk that isn't there: it is attached, and its image doesn't show it, or it isn't, and
+/// no image shows it that neither this group nor another has; Dismounted, where too few disks took
+/// the record; NoMemory. NoName comes of a number alone that has no entry.
 pub fn online_disks<B: Bay>(
     m: &mut Mounted,
     alloc: Global,

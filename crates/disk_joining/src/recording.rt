@@ -31,8 +31,8 @@ pub fn entry_of(status: &PstRecord, number: u8) -> Option<PstEntry>
     entry_among(status.entries(), number)
 }
 
-/// Writes a status record. One that may not come next is answered as want of memory: no call makes such a record. Refusals:
-/// Dismounted, NoMemory; NoMemory leaves the value as before.
+/// Writes a status record. One that may not come next is answered as want of memory: no call makes
+/// such a record. Refusals: Dismounted, NoMemory; NoMemory leaves the value as before.
 pub fn write_next<B: Bay>(
     m: &mut Mounted,
     alloc: Global,

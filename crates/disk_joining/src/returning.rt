@@ -63,9 +63,10 @@ fn write_fault(alloc: Global, disk: &Headed) -> Refusal
     }
 }
 
-/// Gives back what was done for new disks, of which the one at a place failed: closes the headers of those that were reached,
-/// and takes all their directory records away. Births that were given stay so. Gives the refusal: WriteFault with that disk's name, or
-/// Dismounted or NoMemory where that comes meanwhile.
+/// Gives back what was done for new disks, of which the one at a place failed: closes the headers
+/// of those that were reached, and takes all their directory records away. Births that were given
+/// stay so. Gives the refusal: WriteFault with that disk's name, or Dismounted or NoMemory where
+/// that comes meanwhile.
 pub fn give_back<B: Bay>(
     m: &mut Mounted,
     alloc: Global,

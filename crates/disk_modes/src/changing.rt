@@ -1,4 +1,5 @@
-// The two changes of which each statement on disks is made: the status record, and the record of the active rebalance.
+// The two changes of which each statement on disks is made: the status record, and the record of
+// the active rebalance.
 ghost use Rattle.std.specs.Prelude.{OnOk, Some};
 ghost use Rattle.record_laws.specs.group_engine.Mounts.{IsMounted, Takes};
 ghost use Rattle.record_laws.specs.group_engine.Pending.{GoesOn};
@@ -20,12 +21,13 @@ pub enum Changes {
     Rebalance { power: u16 },
     /// A stop between leaves an active rebalance, and no disk that none empties.
     RebalanceThenModes { power: u16 },
-    /// The commit may lose a directory copy, and those that are left might all be on disks that the modes take off.
+    /// The commit may lose a directory copy, and those that are left might all be on disks that the
+    /// modes take off.
     ModesThenRebalance { power: u16 },
 }
 
-/// Gives up the move that is on its way, and makes the changes. Refusals: Dismounted; NoMemory, after which between two changes the group
-/// takes no more calls.
+/// Gives up the move that is on its way, and makes the changes. Refusals: Dismounted; NoMemory,
+/// after which between two changes the group takes no more calls.
 pub(crate) fn change_disks<B: Bay>(
     m: &mut Mounted,
     alloc: Global,

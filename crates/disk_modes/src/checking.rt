@@ -70,7 +70,8 @@ pub(crate) fn directories_of(status: &PstRecord) -> DiskSet
     status.dirs
 }
 
-/// Refused as HoldsDirectories where a set of disks has all directory copies, by the least that has one.
+/// Refused as HoldsDirectories where a set of disks has all directory copies, by the least that has
+/// one.
 pub(crate) fn check_directories(directories: DiskSet, disks: DiskSet) -> Result<(), Refusal>
     ensures cause { IfErr result (DirectoriesCause directories disks) }
     ensures left { OnOk result (LeavesCopy directories disks) }
@@ -127,7 +128,8 @@ pub(crate) fn check_extents(
     }
 }
 
-/// Refused as TooFewGroups where a record leaves fewer regular failure groups than a group of the kind needs.
+/// Refused as TooFewGroups where a record leaves fewer regular failure groups than a group of the
+/// kind needs.
 pub(crate) fn check_groups(kind: GroupKind, next: &PstRecord) -> Result<(), Refusal>
     ensures { IfErr result (GroupsCause kind next.now) }
 {

@@ -42,11 +42,13 @@ struct Named {
     forced: DiskSet,
 }
 
-/// Drops disks. Those without FORCE are emptied by a rebalance of the power, which is active from then on; those with FORCE are not
-/// asked any more, and have no directory copy. Of a disk that is named twice the last option holds. Refusals in their order: Dismounted;
-/// DiskState, by the first disk of the statement that isn't Online, or with FORCE is Forced; HoldsDirectories and WouldLose, by the disks
-/// with FORCE; TooFewGroups, as counted after the whole statement, where one is named without FORCE; NoMemory, after which between the two
-/// changes the group takes no more calls.
+/// Drops disks. Those without FORCE are emptied by a rebalance of the power, which is active from
+/// then on; those with FORCE are not asked any more, and have no directory copy. Of a disk that is
+/// named twice the last option holds. Refusals in their order: Dismounted; DiskState, by the first
+/// disk of the statement that isn't Online, or with FORCE is Forced; HoldsDirectories and
+/// WouldLose, by the disks with FORCE; TooFewGroups, as counted after the whole statement, where
+/// one is named without FORCE; NoMemory, after which between the two changes the group takes no
+/// more calls.
 pub fn drop_disks<B: Bay>(
     m: &mut Mounted,
     alloc: Global,
@@ -57,12 +59,14 @@ pub fn drop_disks<B: Bay>(
     requires takes { Takes m.old (B.state bay.old) }
     ensures keeps { KeepsGroup m.old m.new (B.state bay.old) (B.state bay.new) }
     ensures mounted { OnOk result (IsMounted m.new) }
-    // Each disk that the statement names has the mode of its last option, and those with FORCE no directory copy.
+    // Each disk that the statement names has the mode of its last option, and those with FORCE no
+    // directory copy.
     ensures done { OnOk result (DropsDisks disks.now power m.old m.new) }
     ensures cause { IfErr result (λ refusal. DropRefused m.old disks.now refusal
         ⊎ StatusCause m.old m.new (B.state bay.old) (B.state bay.new) refusal) }
-    // The group stays the one that it is, where turns don't run out: at each moment each image is held for it alone, whatever the
-    // answer, and while it takes calls it is mounted. The record takes a turn; that of the commit costs a copy.
+    // The group stays the one that it is, where turns don't run out: at each moment each image is
+    // held for it alone, whatever the answer, and while it takes calls it is mounted. The record
+    // takes a turn; that of the commit costs a copy.
     ensures held { HasTwoTurns m.old → StaysHeld m.old m.new (B.state bay.old) (B.state bay.new) }
 {
     m.takes_calls()?;
@@ -248,16 +252,18 @@ fn changes_for(named: &Named, power: u16) -> Changes
     }
 }
 
-/// Each disk that is being dropped is Online again, and a rebalance of power 1 is active, also where there is none. Refusals:
-/// Dismounted; NoMemory, after which between the two changes the group takes no more calls.
+/// Each disk that is being dropped is Online again, and a rebalance of power 1 is active, also
+/// where there is none. Refusals: Dismounted; NoMemory, after which between the two changes the
+/// group takes no more calls.
 pub fn undrop_disks<B: Bay>(m: &mut Mounted, alloc: Global, bay: &mut B) -> Result<(), Refusal>
     requires takes { Takes m.old (B.state bay.old) }
     ensures keeps { KeepsGroup m.old m.new (B.state bay.old) (B.state bay.new) }
     ensures mounted { OnOk result (IsMounted m.new) }
     ensures done { OnOk result (Undrops m.old m.new) }
     ensures cause { IfErr result (StatusCause m.old m.new (B.state bay.old) (B.state bay.new)) }
-    // The group stays the one that it is: at each moment each image is held for it alone, whatever the answer, and while it takes
-    // calls it is mounted. The record takes a turn; that of the commit costs a copy.
+    // The group stays the one that it is: at each moment each image is held for it alone, whatever
+    // the answer, and while it takes calls it is mounted. The record takes a turn; that of the
+    // commit costs a copy.
     ensures held { StaysHeld m.old m.new (B.state bay.old) (B.state bay.new) }
 {
     m.takes_calls()?;

@@ -18,9 +18,10 @@ use record_laws::Mounted;
 use refusal_lines::Refusal;
 use std::alloc::Global;
 
-/// Drops by force the least Offline disk whose time is up at a second, and which has neither the only directory copy nor all current
-/// copies of an extent. A rebalance of power 1 is active then. None where there is no such disk. Refusals: Dismounted; NoMemory, after
-/// which between the two changes the group takes no more calls.
+/// Drops by force the least Offline disk whose time is up at a second, and which has neither the
+/// only directory copy nor all current copies of an extent. A rebalance of power 1 is active then.
+/// None where there is no such disk. Refusals: Dismounted; NoMemory, after which between the two
+/// changes the group takes no more calls.
 pub fn expire<B: Bay>(
     m: &mut Mounted,
     alloc: Global,
@@ -33,8 +34,9 @@ pub fn expire<B: Bay>(
     // The disk was the one that expires, and is Forced now; where none expires the group stays.
     ensures done { IfOk result (λ disk. DropsExpiredDisk now m.old disk m.new) }
     ensures cause { IfErr result (StatusCause m.old m.new (B.state bay.old) (B.state bay.new)) }
-    // The group stays the one that it is, where turns don't run out: at each moment each image is held for it alone, whatever the
-    // answer, and while it takes calls it is mounted. The record takes a turn; that of the commit costs a copy.
+    // The group stays the one that it is, where turns don't run out: at each moment each image is
+    // held for it alone, whatever the answer, and while it takes calls it is mounted. The record
+    // takes a turn; that of the commit costs a copy.
     ensures held { HasTwoTurns m.old → StaysHeld m.old m.new (B.state bay.old) (B.state bay.new) }
 {
     m.takes_calls()?;
@@ -64,7 +66,8 @@ fn expire_disk<B: Bay>(m: &mut Mounted, alloc: Global, bay: &mut B, disk: u8) ->
     change_disks(m, alloc, bay, &new, &changes)
 }
 
-/// A rebalance of this power is active, or none is. The move that is on its way stays. Refusals: Dismounted, NoMemory.
+/// A rebalance of this power is active, or none is. The move that is on its way stays. Refusals:
+/// Dismounted, NoMemory.
 pub fn set_rebalance<B: Bay>(
     m: &mut Mounted,
     alloc: Global,
@@ -75,8 +78,8 @@ pub fn set_rebalance<B: Bay>(
     ensures keeps { KeepsGroup m.old m.new (B.state bay.old) (B.state bay.new) }
     ensures mounted { OnOk result (IsMounted m.new) }
     ensures done { OnOk result (PutsRebalance power m.old m.new) }
-    // The group stays the one that it is: at each moment each image is held for it alone, whatever the answer, and while it takes
-    // calls it is mounted. Each turn that it takes costs a copy.
+    // The group stays the one that it is: at each moment each image is held for it alone, whatever
+    // the answer, and while it takes calls it is mounted. Each turn that it takes costs a copy.
     ensures commits { CommitsRebalance m.old result m.new (B.state bay.old) (B.state bay.new) }
     ensures cause { IfErr result (StatusCause m.old m.new (B.state bay.old) (B.state bay.new)) }
 {

@@ -62,7 +62,8 @@ fn has_name(m: &Mounted, entry: &PstEntry, name: &Name) -> bool
     }
 }
 
-/// The disks of the failure group of a name, in any case of letters. None where there is none of that name and sort.
+/// The disks of the failure group of a name, in any case of letters. None where there is none of
+/// that name and sort.
 pub fn disks_in_group(m: &Mounted, sort: GroupSort, name: &Name) -> Option<DiskSet>
     ensures some { IfSome result (λ disks. (disks ≢ 0)
         × IsSetOf (is_in_failgroup_of_sort m.now.catalog sort name.now) m.now.register.value.entries

@@ -1,4 +1,5 @@
-//! Statements that change the modes and the units of a mounted group's disks, their expiry, and what the statements name.
+//! Statements that change the modes and the units of a mounted group's disks, their expiry, and
+//! what the statements name.
 #![tactic(auto)]
 
 pub use group_reports::{

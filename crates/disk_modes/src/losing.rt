@@ -16,8 +16,8 @@ pub enum Counted {
     Current,
 }
 
-/// The first extent that has copies that count, all of them on these disks. It goes over the extents up to there, by file and index, and
-/// takes no memory.
+/// The first extent that has copies that count, all of them on these disks. It goes over the
+/// extents up to there, by file and index, and takes no memory.
 pub(crate) fn first_losing(
     catalog: &Catalog,
     disks: &[PstEntry],

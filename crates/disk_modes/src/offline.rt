@@ -20,9 +20,11 @@ use record_laws::Mounted;
 use refusal_lines::Refusal;
 use std::alloc::Global;
 
-/// Takes disks Offline since a second. They expire after so many seconds, or after those of the group's attribute, and have no directory
-/// copy then. Refusals in their order: Dismounted; DiskState, by the least that isn't Online; HoldsDirectories, where they have all
-/// directory copies; WouldLose, by the first extent whose usable copies are all on them; NoMemory, by which the modes stay.
+/// Takes disks Offline since a second. They expire after so many seconds, or after those of the
+/// group's attribute, and have no directory copy then. Refusals in their order: Dismounted;
+/// DiskState, by the least that isn't Online; HoldsDirectories, where they have all directory
+/// copies; WouldLose, by the first extent whose usable copies are all on them; NoMemory, by which
+/// the modes stay.
 pub fn offline_disks<B: Bay>(
     m: &mut Mounted,
     alloc: Global,
@@ -34,12 +36,13 @@ pub fn offline_disks<B: Bay>(
     requires takes { Takes m.old (B.state bay.old) }
     ensures keeps { KeepsGroup m.old m.new (B.state bay.old) (B.state bay.new) }
     ensures mounted { OnOk result (IsMounted m.new) }
-    // The disks are Offline, and have no directory copy; all else of the record stays, and so do the tables.
+    // The disks are Offline, and have no directory copy; all else of the record stays, and so do
+    // the tables.
     ensures done { OnOk result (TakesOffline disks repair now m.old m.new) }
     ensures cause { IfErr result (λ refusal. OfflineRefused m.old disks refusal
         ⊎ StatusCause m.old m.new (B.state bay.old) (B.state bay.new) refusal) }
-    // The group stays the one that it is: at each moment each image is held for it alone, whatever the answer, and while it takes
-    // calls it is mounted. The record takes a turn.
+    // The group stays the one that it is: at each moment each image is held for it alone, whatever
+    // the answer, and while it takes calls it is mounted. The record takes a turn.
     ensures held { StaysHeld m.old m.new (B.state bay.old) (B.state bay.new) }
 {
     m.takes_calls()?;

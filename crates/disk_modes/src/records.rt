@@ -38,8 +38,8 @@ pub enum Becomes {
     InMode { mode: Mode },
 }
 
-/// The record with new modes. Disks that go Offline or by force have no directory copy then. Where disks come to the table of partners or
-/// leave it, that is made anew.
+/// The record with new modes. Disks that go Offline or by force have no directory copy then. Where
+/// disks come to the table of partners or leave it, that is made anew.
 #[tactic(auto, using(crate::proofs::Keeping::changed_by, crate::proofs::Entries::under_by))]
 pub(crate) fn next_record(
     alloc: Global,
@@ -113,7 +113,8 @@ fn dropped(entry: &PstEntry, dropping: DiskSet, forced: DiskSet) -> Becomes
     }
 }
 
-/// The record with the change of one disk. Since when it was Offline stays where it isn't Offline then.
+/// The record with the change of one disk. Since when it was Offline stays where it isn't Offline
+/// then.
 #[tactic(auto, using(crate::proofs::Keeping::keeps_same, crate::proofs::Keeping::keeps_offline, crate::proofs::Keeping::keeps_mode))]
 fn with_changed(status: &PstRecord, entry: &PstEntry, change: Becomes) -> PstRecord
     requires { IsTrue (is_status status.now) }

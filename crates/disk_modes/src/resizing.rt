@@ -23,9 +23,11 @@ use refusal_lines::Refusal;
 use status_table::{PstEntry, PstRecord, with_units};
 use std::alloc::Global;
 
-/// Gives disks the units of a size in bytes, or those of their images, and makes a rebalance of the power active, also where they have
-/// these. Refusals in their order: Dismounted; DiskState, by the least that doesn't serve; TooSmall, by the least whose image has fewer
-/// units than it is to have, with these, or that needs more; NoMemory, after which between the two changes the group takes no more calls.
+/// Gives disks the units of a size in bytes, or those of their images, and makes a rebalance of the
+/// power active, also where they have these. Refusals in their order: Dismounted; DiskState, by the
+/// least that doesn't serve; TooSmall, by the least whose image has fewer units than it is to have,
+/// with these, or that needs more; NoMemory, after which between the two changes the group takes no
+/// more calls.
 pub fn resize_disks<B: Bay>(
     m: &mut Mounted,
     alloc: Global,
@@ -43,8 +45,9 @@ pub fn resize_disks<B: Bay>(
     ensures cause { IfErr result (λ refusal. ResizeRefused m.old
         (record { disks = disks; size = size }) refusal
         ⊎ StatusCause m.old m.new (B.state bay.old) (B.state bay.new) refusal) }
-    // The group stays the one that it is: at each moment each image is held for it alone, whatever the answer, and while it takes
-    // calls it is mounted. The record takes a turn; that of the commit costs a copy.
+    // The group stays the one that it is: at each moment each image is held for it alone, whatever
+    // the answer, and while it takes calls it is mounted. The record takes a turn; that of the
+    // commit costs a copy.
     ensures held { StaysHeld m.old m.new (B.state bay.old) (B.state bay.new) }
 {
     m.takes_calls()?;
@@ -152,7 +155,8 @@ fn put_units<B: Bay>(
     put_next(m, alloc, bay, &next, asked)
 }
 
-/// Puts a record with the units that are asked for, where it may come next. One with units that were checked may.
+/// Puts a record with the units that are asked for, where it may come next. One with units that
+/// were checked may.
 fn put_next<B: Bay>(
     m: &mut Mounted,
     alloc: Global,

@@ -53,14 +53,16 @@ fn units_in(shape: &Shape, bytes: u64) -> u64
     bytes / shape.au as u64
 }
 
-/// The units that a disk needs: those that it must have, or those up to its last used one where these are more.
+/// The units that a disk needs: those that it must have, or those up to its last used one where
+/// these are more.
 fn needed_units(shape: &Shape, used: u64) -> u64
     ensures { result ≡ max (least_units shape.now) used }
 {
     least_units(shape).max(used)
 }
 
-/// Refused as TooSmall by the least of the disks whose image has fewer units than it is to have, or that needs more.
+/// Refused as TooSmall by the least of the disks whose image has fewer units than it is to have, or
+/// that needs more.
 pub(crate) fn check_sizes(m: &Mounted, asked: &Asked) -> Result<(), Refusal>
     ensures cause { IfErr result (IsFirstSmall m.now asked.now) }
     ensures large { OnOk result (AreLargeEnough m.now asked.now) }

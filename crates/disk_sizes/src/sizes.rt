@@ -15,8 +15,8 @@ pub fn region_bytes(dir_blocks: u32) -> u64
     (14 + 2 * dir_blocks as u64) * BLOCK
 }
 
-/// Units of a disk that hold no user bytes: those that the blocks below the region's end reach into. None where a unit has
-/// no bytes.
+/// Units of a disk that hold no user bytes: those that the blocks below the region's end reach
+/// into. None where a unit has no bytes.
 pub fn reserved_units(shape: &Shape) -> u64
     ensures units { result ≡ reserved_units shape.now }
     ensures few { result < 2 ^ 46 }

@@ -90,7 +90,8 @@ fn put_extent(buffer: &mut LineBuffer, extent: ExtentId)
 }
 
 impl Rebalanced<'_> {
-    /// Puts its words, each behind a space: at most 283 bytes, which `fault`, a number and a name have.
+    /// Puts its words, each behind a space: at most 283 bytes, which `fault`, a number and a name
+    /// have.
     fn put(&self, buffer: &mut LineBuffer)
         requires { length buffer.old + 283 ≤ 800 }
         ensures text { buffer.new ≡ buffer.old ++ 32
@@ -130,7 +131,8 @@ impl Rebalanced<'_> {
 }
 
 impl Resynced<'_> {
-    /// Puts its words, each behind a space: at most 283 bytes, which `fault`, a number and a name have.
+    /// Puts its words, each behind a space: at most 283 bytes, which `fault`, a number and a name
+    /// have.
     fn put(&self, buffer: &mut LineBuffer)
         requires { length buffer.old + 283 ≤ 800 }
         ensures text { buffer.new ≡ buffer.old ++ 32
@@ -164,7 +166,8 @@ impl Resynced<'_> {
 }
 
 impl Event<'_> {
-    /// Puts the line without its line feed: at most 799 bytes, which `sync` with two names and the words of a fault has.
+    /// Puts the line without its line feed: at most 799 bytes, which `sync` with two names and the
+    /// words of a fault has.
     #[tactic(auto, using(crate::proofs::Lines::moved_line, crate::proofs::Lines::synced_line))]
     fn put(&self, buffer: &mut LineBuffer)
         requires { buffer.old ≡ [] }
@@ -198,8 +201,9 @@ impl Event<'_> {
     }
 
     /// Writes the line and its line feed in place of what the buffer has. A name has at most 255
-    /// bytes, so the longest line fits: `sync`, three names, `fault`, a number of 20 digits, a space
-    /// before each, and the line feed. Names of groups and disks have at most 30, and then it is 125.
+    /// bytes, so the longest line fits: `sync`, three names, `fault`, a number of 20 digits, a
+    /// space before each, and the line feed. Names of groups and disks have at most 30, and then it
+    /// is 125.
     pub fn write(&self, buffer: &mut LineBuffer)
         ensures { buffer.new ≡ event_text (event_said self.now) }
     {

@@ -1,4 +1,5 @@
-//! The lines that tell what happened between two commands, and the lines of WAIT. They take no memory.
+//! The lines that tell what happened between two commands, and the lines of WAIT. They take no
+//! memory.
 #![tactic(auto)]
 
 mod event;

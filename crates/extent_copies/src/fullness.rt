@@ -14,7 +14,8 @@ use crate::homes::entry_at;
 use partnership::PstEntry;
 
 impl Extent {
-    /// Whether the extent is full: each of its copies is current and on an Online disk, and no two lie in one failure group.
+    /// Whether the extent is full: each of its copies is current and on an Online disk, and no two
+    /// lie in one failure group.
     #[tactic(auto, using(crate::proofs::FullExtents::full_is))]
     pub fn is_full(&self, disks: &[PstEntry]) -> bool
         requires { self.now.copies ≤ 3 }

@@ -1,5 +1,5 @@
-//! Which copies of an extent count, by its homes and marks and a group's status record, and how many copies a new file has.
-//! No call takes memory.
+//! Which copies of an extent count, by its homes and marks and a group's status record, and how
+//! many copies a new file has. No call takes memory.
 #![tactic(auto)]
 
 pub use partnership::{partners, units_of};

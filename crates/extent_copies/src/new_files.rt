@@ -16,8 +16,9 @@ ghost use Rattle.partnership.specs.Tables.{is_table_disk};
 use partnership::{PstEntry, PstRecord};
 use template_directory::{GroupKind, Mode, Name, Template};
 
-/// How many copies of each extent a new file has: one in an EXTERNAL group, three in a HIGH one, and in a NORMAL one as
-/// many as its template says, but no more than there are regular failure groups that serve.
+/// How many copies of each extent a new file has: one in an EXTERNAL group, three in a HIGH one,
+/// and in a NORMAL one as many as its template says, but no more than there are regular failure
+/// groups that serve.
 pub fn copies_for(kind: GroupKind, copies: u8, failgroups: usize) -> u8
     ensures { result ≡ copies_for kind copies failgroups }
 {
@@ -52,7 +53,8 @@ fn groups_in(disks: &[PstEntry]) -> usize
     }
 }
 
-/// Whether the disk is regular and stays, and none of the others that is so lies in its failure group.
+/// Whether the disk is regular and stays, and none of the others that is so lies in its failure
+/// group.
 fn adds_group(disk: &PstEntry, others: &[PstEntry]) -> bool
     ensures { result ≡ (is_table_disk disk.now
         && not (list_any (is_of_group disk.now.failgroup) (table_disks others.now))) }
@@ -79,7 +81,8 @@ fn is_table_disk(disk: &PstEntry) -> bool
     !disk.quorum && matches!(disk.mode, Mode::Online | Mode::Offline | Mode::Syncing)
 }
 
-/// The template of a new file among a group's: that of this name, or else the system template of the file's type.
+/// The template of a new file among a group's: that of this name, or else the system template of
+/// the file's type.
 #[tactic(auto, using(crate::proofs::Templates::template_is))]
 pub fn template_for<'a>(
     templates: &'a [Template],

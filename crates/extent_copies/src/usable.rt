@@ -38,7 +38,8 @@ impl Extent {
         is_current_at(disks, self, copy)
     }
 
-    /// Whether the copy is usable: it is current, and its disk serves, being attached and Online, Syncing or Dropping.
+    /// Whether the copy is usable: it is current, and its disk serves, being attached and Online,
+    /// Syncing or Dropping.
     #[tactic(auto, using(crate::proofs::Counting::usable_is))]
     pub fn is_usable(&self, disks: &[PstEntry], attached: DiskSet, copy: u8) -> bool
         requires { copy < 3 }

@@ -14,9 +14,9 @@ use asm_base::{NoMemory, Value};
 use std::alloc::Global;
 
 impl ExtentMap {
-    /// Puts a chunk with the extents that the value of its record says. `false`, with the table as it was, where the value
-    /// isn't that of a chunk. Where there is no memory the table stays. In the midst of a change the extents of a file may
-    /// have a gap.
+    /// Puts a chunk with the extents that the value of its record says. `false`, with the table as
+    /// it was, where the value isn't that of a chunk. Where there is no memory the table stays. In
+    /// the midst of a change the extents of a file may have a gap.
     #[tactic(auto, using(crate::proofs::ChangeLaws::record_put, crate::proofs::ChangeLaws::put_keeps_chunks, crate::proofs::ChangeLaws::not_read))]
     pub fn put_record(
         &mut self,
@@ -44,7 +44,8 @@ impl ExtentMap {
         Ok(true)
     }
 
-    /// Takes a chunk away, where it is there. In the midst of a change the extents of a file may have a gap.
+    /// Takes a chunk away, where it is there. In the midst of a change the extents of a file may
+    /// have a gap.
     #[tactic(auto, using(crate::proofs::ChangeLaws::removed_keeps_chunks))]
     pub fn remove_record(&mut self, file: u32, chunk: u32)
         ensures gone { (c : Chunk) → chunk_value_at self.new c

@@ -12,7 +12,8 @@ use asm_base::{Home, Homes};
 const TOO_MANY_EXTENTS: u64 = 1_099_511_627_520;
 
 impl ExtentMap {
-    /// How many extents a file has, which is the index of its next one. It looks at 40 extents, however many there are.
+    /// How many extents a file has, which is the index of its next one. It looks at 40 extents,
+    /// however many there are.
     #[tactic(auto, using(crate::proofs::FileEnds::end_appends, crate::proofs::FileEnds::end_goes))]
     pub fn count(&self, file: u32) -> u64
         requires { IsExtentTable self.now }
@@ -49,7 +50,8 @@ impl ExtentMap {
     }
 }
 
-/// Whether an extent of this index may be put with these homes: each is one of the formats, and there is one.
+/// Whether an extent of this index may be put with these homes: each is one of the formats, and
+/// there is one.
 pub fn may_stand(index: u32, homes: &Homes) -> bool
     ensures { result ≡ may_stand index homes.now }
 {

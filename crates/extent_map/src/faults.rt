@@ -9,8 +9,8 @@ use asm_base::{NoMemory, Records};
 use std::alloc::Global;
 
 impl ExtentMap {
-    /// The first chunk that breaks the rule that extents are numbered without a gap. None where there is no such chunk, or a
-    /// record of its kind isn't of the formats.
+    /// The first chunk that breaks the rule that extents are numbered without a gap. None where
+    /// there is no such chunk, or a record of its kind isn't of the formats.
     #[tactic(auto, using(crate::proofs::FoundGaps::gap_is, crate::proofs::FoundGaps::no_gap_is, crate::proofs::FoundGaps::no_table_is))]
     pub fn gap_in(alloc: Global, records: &Records) -> Result<Option<(u32, u32)>, NoMemory>
         // The chunk that is named breaks the rule in a table that has these records.

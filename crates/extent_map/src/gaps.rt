@@ -26,7 +26,8 @@ pub fn an_extent_may_move()
     ensures { ReplacesExtents }
 {}
 
-/// A table in which a chunk that is its file's first, or stands behind a full one, has more extents is a table.
+/// A table in which a chunk that is its file's first, or stands behind a full one, has more extents
+/// is a table.
 #[tactic(auto, using(crate::proofs::ChunkEnds::fills_chunks))]
 pub fn extents_may_be_appended()
     ensures { FillsChunks }
@@ -38,7 +39,8 @@ pub fn a_last_chunk_may_go()
     ensures { TakesChunks }
 {}
 
-/// A table in which a chunk behind which its file has no extent has lost those from a place on is a table.
+/// A table in which a chunk behind which its file has no extent has lost those from a place on is a
+/// table.
 #[tactic(auto, using(crate::proofs::CutChunks::cuts_chunks))]
 pub fn a_last_chunk_may_be_cut()
     ensures { CutsChunks }

@@ -6,7 +6,8 @@ ghost use Rattle.extent_map.specs.Extents.{is_behind, is_blank, is_full, full_ch
 use crate::chunk::{Chunk, has_home};
 use asm_base::Homes;
 
-/// Whether the chunk's extents keep the rule where `past` is the full chunk before it, if that is full.
+/// Whether the chunk's extents keep the rule where `past` is the full chunk before it, if that is
+/// full.
 pub fn stands_at(past: Option<(u32, u32)>, at: (u32, u32), chunk: &Chunk) -> bool
     ensures { result ≡ stands_at past (at, chunk.now) }
 {

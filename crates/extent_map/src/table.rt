@@ -17,8 +17,9 @@ use std::collections::BTreeMap;
 use std::collections::btree_map::{Iter, Range};
 use std::marker::Model;
 
-/// The homes of the extents of each file. Contracts see the list of the chunks of 256 extents, in the order of file and
-/// chunk; an extent that isn't there has no home. A chunk takes 9 KB of memory.
+/// The homes of the extents of each file. Contracts see the list of the chunks of 256 extents, in
+/// the order of file and chunk; an extent that isn't there has no home. A chunk takes 9 KB of
+/// memory.
 #[derive(Drop)]
 pub struct ExtentMap {
     alloc: Global,
@@ -98,8 +99,8 @@ impl ExtentMap {
         self.map.iter()
     }
 
-    /// The chunks from this one on, whether it is there or not, in the order of file and number. Those before it are passed
-    /// over by their keys.
+    /// The chunks from this one on, whether it is there or not, in the order of file and number.
+    /// Those before it are passed over by their keys.
     pub fn iter_from(&self, chunk: (u32, u32)) -> Range<'_, (u32, u32), Chunk>
         ensures { result ≡ chunks_from self.now chunk }
     {
@@ -123,7 +124,8 @@ impl ExtentMap {
         if has_home(homes) { Some(homes) } else { None }
     }
 
-    /// Puts the homes of an extent, with its chunk where that isn't there. Where there is no memory the table stays.
+    /// Puts the homes of an extent, with its chunk where that isn't there. Where there is no memory
+    /// the table stays.
     #[tactic(auto, using(crate::proofs::Laws::put_keeps_table))]
     pub fn put(&mut self, key: ExtentId, item: Homes) -> Result<(), NoMemory>
         requires { IsExtentTable (with_extent self.old key.file key.index item) }
@@ -272,8 +274,9 @@ impl ExtentMap {
         Ok(())
     }
 
-    /// The table whose records these are, or None where a record of its kind isn't of the formats or the extents of a file
-    /// have a gap. It takes time in proportion to the records, times the logarithm of their number.
+    /// The table whose records these are, or None where a record of its kind isn't of the formats
+    /// or the extents of a file have a gap. It takes time in proportion to the records, times the
+    /// logarithm of their number.
     #[tactic(auto, using(crate::proofs::Laws::table_found, crate::proofs::Laws::table_again))]
     pub fn from_records(alloc: Global, records: &Records) -> Result<Option<ExtentMap>, NoMemory>
         // What is read is a table that has these records.
@@ -314,7 +317,8 @@ impl ExtentMap {
         Ok(Some(table))
     }
 
-    /// Takes up one record more, or passes over one of another kind. `false` where it doesn't follow.
+    /// Takes up one record more, or passes over one of another kind. `false` where it doesn't
+    /// follow.
     fn take_up(&mut self, alloc: Global, key: Key, value: &Value) -> Result<bool, NoMemory>
         requires { Ascend is_chunk_before self.old }
         ensures step { IfOk result (λ taken. (if is_chunk key

@@ -1,5 +1,5 @@
-//! Records that describe a group are never at fault. Each function does nothing; its contract is the
-//! law.
+//! Records that describe a group are never at fault. Each function does nothing; its contract is
+//! the law.
 #![tactic(auto)]
 
 ghost use Rattle.fault_laws.specs.Damage.{SoundIsNotDamaged, StandingHasNoStranger, StandingHasWholeBodies, StandingHasWholeCopies};
@@ -26,8 +26,8 @@ pub fn described_is_no_fault()
     ensures { DescribedIsNoFault }
 {}
 
-/// Where an image that a stop may leave may stand for groups, and for no others, the directories that
-/// were loaded of its disks have no record at fault: a mount isn't refused as Damaged by one.
+/// Where an image that a stop may leave may stand for groups, and for no others, the directories
+/// that were loaded of its disks have no record at fault: a mount isn't refused as Damaged by one.
 pub fn loaded_groups_are_not_damaged<B: Bay>(bay: &B)
     ensures { SoundIsNotDamaged (B.state bay.now) }
 {}

@@ -95,7 +95,8 @@ fn open_file(session: &Session, alloc: Global, path: &Path) -> Result<OpenFile, 
     check_source(m, path)
 }
 
-/// Opens the source of cp, and tells its size. Its refusals come first: HostFault; or NoGroup, Dismounted, NoName and Lost.
+/// Opens the source of cp, and tells its size. Its refusals come first: HostFault; or NoGroup,
+/// Dismounted, NoName and Lost.
 fn open_source<'a, H: Host>(
     alloc: Global,
     session: &Session,
@@ -155,7 +156,8 @@ fn read_source<B: Bay, H: Host>(
 
 // ---- into a group
 
-/// Gives a file that was begun in the mounted group of a name back, for this refusal, or for the one by which that can't be done.
+/// Gives a file that was begun in the mounted group of a name back, for this refusal, or for the
+/// one by which that can't be done.
 fn give_up<B: Bay>(
     session: &mut Session,
     alloc: Global,
@@ -286,8 +288,8 @@ fn copy_to_new<B: Bay, H: Host>(
     }
 }
 
-/// Copies the source, which has this size, into a group, and tells the system path. Its refusals in order: NoGroup, Dismounted, and
-/// then those of the new file.
+/// Copies the source, which has this size, into a group, and tells the system path. Its refusals in
+/// order: NoGroup, Dismounted, and then those of the new file.
 #[tactic(auto, using(session::proofs::Carrying::carries_none))]
 fn copy_to_group<B: Bay, H: Host>(
     alloc: Global,
@@ -458,7 +460,8 @@ fn copy_to<B: Bay, H: Host>(
     }
 }
 
-/// Copies a file. The refusals of the source come first, then those of the target, and then ReadFault and the faults of the target.
+/// Copies a file. The refusals of the source come first, then those of the target, and then
+/// ReadFault and the faults of the target.
 #[tactic(auto, using(session::proofs::Carrying::carries_none))]
 fn copy<B: Bay, H: Host>(
     alloc: Global,

@@ -43,7 +43,8 @@ fn work_at(work: AtFile, path: Path) -> FileWork {
 
 // ---- work on one file
 
-/// Works on a file of the group of a name. Its refusals in order: NoGroup, Dismounted, and then those of the work.
+/// Works on a file of the group of a name. Its refusals in order: NoGroup, Dismounted, and then
+/// those of the work.
 fn work_on_file<B: Bay, H: Host>(
     desk: &mut Desk<B, H>,
     text: &[u8],
@@ -96,7 +97,8 @@ fn work_at_path<B: Bay, H: Host>(
 
 // ---- dbwrite and dbfill
 
-/// Writes bytes of a file of the group of a name. Its refusals in order: NoGroup, Dismounted, and then those of the write.
+/// Writes bytes of a file of the group of a name. Its refusals in order: NoGroup, Dismounted, and
+/// then those of the write.
 fn write_in<B: Bay, H: Host>(
     desk: &mut Desk<B, H>,
     text: &[u8],
@@ -204,7 +206,8 @@ fn refuse_in<B: Bay, H: Host>(
     }
 }
 
-/// DROP FILE. Its refusals in order: NoGroup, Dismounted, and NoName where the path isn't one of the group, or no file is there.
+/// DROP FILE. Its refusals in order: NoGroup, Dismounted, and NoName where the path isn't one of
+/// the group, or no file is there.
 pub fn drop_file<B: Bay, H: Host>(
     desk: &mut Desk<B, H>,
     text: &[u8],
@@ -233,7 +236,8 @@ fn one_line(alloc: Global, line: Text) -> Result<List<Text>, NoMemory>
     Ok(lines)
 }
 
-/// The line of a file's system path, as the group's names are spelt. None where there is no such file.
+/// The line of a file's system path, as the group's names are spelt. None where there is no such
+/// file.
 fn system_lines(alloc: Global, m: &Mounted, file: u32) -> Result<List<Text>, NoMemory>
     ensures { IfOk result (λ lines. lines ≡ system_lines m.now file) }
 {
@@ -264,8 +268,8 @@ pub fn system_line(
     }
 }
 
-/// Makes a file of zeros, and gives the line of its system path. Its refusals in order: NoGroup, Dismounted, and then those of the new
-/// file.
+/// Makes a file of zeros, and gives the line of its system path. Its refusals in order: NoGroup,
+/// Dismounted, and then those of the new file.
 fn make_file<B: Bay>(
     alloc: Global,
     session: &mut Session,
@@ -292,8 +296,8 @@ fn create_at<B: Bay, H: Host>(desk: &mut Desk<B, H>, text: &[u8], new: &NewFile)
     answer_lines(desk.alloc, done)
 }
 
-/// dbcreate: the line of the new file's system path. Its refusals in order: NoGroup, also where the path comes to `+`, Dismounted, and
-/// then those of the new file.
+/// dbcreate: the line of the new file's system path. Its refusals in order: NoGroup, also where the
+/// path comes to `+`, Dismounted, and then those of the new file.
 pub fn create_file<B: Bay, H: Host>(
     desk: &mut Desk<B, H>,
     text: &[u8],
@@ -349,7 +353,8 @@ fn span_of(m: &Mounted, path: &Path, at: u64, len: u64) -> Result<OpenFile, Refu
         Ok(file) => file,
         Err(refusal) => return Err(refusal),
     };
-    // The proof takes from here that the file's size, behind which the span doesn't end, is a number of 64 bits.
+    // The proof takes from here that the file's size, behind which the span doesn't end, is a
+    // number of 64 bits.
     let _size = file.size();
     match check_span(m, &file, at, len) {
         Ok(()) => Ok(file),
@@ -490,7 +495,8 @@ fn read_runs<B: Bay>(
     }
 }
 
-/// The lines of dbread. The refusals in order: NoGroup, Dismounted, NoName, NotSectors, OutOfFile, Lost and ReadFault.
+/// The lines of dbread. The refusals in order: NoGroup, Dismounted, NoName, NotSectors, OutOfFile,
+/// Lost and ReadFault.
 #[tactic(auto, using(session::proofs::Carrying::carries_none))]
 fn read_lines<B: Bay>(
     alloc: Global,
@@ -553,8 +559,9 @@ fn read_at<B: Bay, H: Host>(
     answer_lines(desk.alloc, done)
 }
 
-/// rm: a file goes with all its names, or an empty directory. Its refusals in order: NoGroup, also where the path comes to `+`,
-/// Dismounted, and those of the edit that drops a directory; NoName where nothing is there.
+/// rm: a file goes with all its names, or an empty directory. Its refusals in order: NoGroup, also
+/// where the path comes to `+`, Dismounted, and those of the edit that drops a directory; NoName
+/// where nothing is there.
 pub fn remove<B: Bay, H: Host>(desk: &mut Desk<B, H>, text: &[u8], path: Text) -> Answer
     requires asked { command_of text.now ≡ Asked (Remove path) }
     requires ready { AreReady desk.old.session.groups (B.state desk.old.bay) }

@@ -111,8 +111,8 @@ impl GroupWork for Finish<'_> {
     }
 }
 
-/// A file that was begun is given back, for this refusal. It gives nothing: the refusal is that, or the one by which it couldn't be
-/// given back.
+/// A file that was begun is given back, for this refusal. It gives nothing: the refusal is that, or
+/// the one by which it couldn't be given back.
 #[derive(Drop)]
 pub struct GiveUp {
     pub refusal: Refusal,

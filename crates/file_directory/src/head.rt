@@ -7,8 +7,8 @@ ghost use Rattle.asm_formats.specs.Items.{is_redundancy};
 use asm_base::{Name, NoMemory, Stripe};
 use std::marker::Model;
 
-/// What a group knows of a file besides its names' places and its extents' homes. Contracts see it as the head of the
-/// formats.
+/// What a group knows of a file besides its names' places and its extents' homes. Contracts see it
+/// as the head of the formats.
 #[derive(Debug, Drop)]
 pub struct FileHead {
     /// Copies of each extent: one, two or three.
@@ -52,8 +52,8 @@ impl FileHead {
         })
     }
 
-    /// Whether a directory may hold it as the head of this file: one, two or three copies, a type of at most 30 bytes,
-    /// and a system node.
+    /// Whether a directory may hold it as the head of this file: one, two or three copies, a type
+    /// of at most 30 bytes, and a system node.
     pub fn is_allowed(&self, file: u32) -> bool
         ensures { result ≡ is_item (file_item file self.now) }
     {

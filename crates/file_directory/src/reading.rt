@@ -14,7 +14,8 @@ use byte_codes::take_stripe;
 use record_values::{take_copies, take_system};
 use std::alloc::Global;
 
-/// The head that the value of a file's record is the spelling of, or None where it isn't that of any.
+/// The head that the value of a file's record is the spelling of, or None where it isn't that of
+/// any.
 pub(crate) fn head_in(alloc: Global, key: Key, value: &Value) -> Result<Option<FileHead>, NoMemory>
     requires { IsTrue (is_key_of_file key) }
     ensures { IfOk result (λ read. entry_of_record file_of_item (key, value.now)

@@ -154,7 +154,8 @@ fn are_all_within(extents: &[Homes], copies: u8) -> bool
     extents.iter().all(|homes| are_within(copies, homes))
 }
 
-/// Whether the file has so many extents of a chunk, from the chunk's first on, and not the next one.
+/// Whether the file has so many extents of a chunk, from the chunk's first on, and not the next
+/// one.
 #[tactic(auto, using(crate::proofs::Extents::so_many_where, crate::proofs::Appends::extents_more))]
 fn has_so_many(catalog: &Catalog, file: u32, chunk: u32, count: u64) -> bool
     requires chunk { chunk < 2 ^ 23 }
@@ -179,7 +180,8 @@ fn follows(catalog: &Catalog, file: u32, chunk: u32) -> bool
     chunk == 0 || has(catalog, file, chunk as u64 * CHUNK - 1)
 }
 
-/// Whether the file has a head with so many copies, or has none and is that of the pending operation.
+/// Whether the file has a head with so many copies, or has none and is that of the pending
+/// operation.
 #[tactic(auto, using(crate::proofs::Appends::head_owns, crate::proofs::Appends::pending_owns))]
 fn is_owner(catalog: &Catalog, file: u32, copies: u8) -> bool
     ensures { OnTrue result (IsOwner catalog.now.tables file copies) }

@@ -14,8 +14,8 @@ use group_pieces::Mounted;
 use refusal_lines::Refusal;
 use std::alloc::Global;
 
-/// Begins an operation on a file: it is committed as the pending one. The move that is on its way is given up. Refusals: Dismounted, and
-/// NoMemory.
+/// Begins an operation on a file: it is committed as the pending one. The move that is on its way
+/// is given up. Refusals: Dismounted, and NoMemory.
 pub fn begin_operation<B: Bay>(
     m: &mut Mounted,
     alloc: Global,
@@ -46,9 +46,10 @@ pub fn begin_operation<B: Bay>(
     }
 }
 
-/// Gives all extents of an operation that has begun homes, by the modes and the units of the group as they are now. NoSpace: the first
-/// of them for which there is no choice once those before it have theirs; the operation is given back. After want of memory the group
-/// takes no more calls. Dismounted: it couldn't be given back.
+/// Gives all extents of an operation that has begun homes, by the modes and the units of the group
+/// as they are now. NoSpace: the first of them for which there is no choice once those before it
+/// have theirs; the operation is given back. After want of memory the group takes no more calls.
+/// Dismounted: it couldn't be given back.
 pub fn give_homes<B: Bay>(
     m: &mut Mounted,
     alloc: Global,

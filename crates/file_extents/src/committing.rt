@@ -33,14 +33,15 @@ pub fn or_shut(m: &mut Mounted, answer: Result<(), Refusal>) -> Result<(), Refus
     }
 }
 
-/// Ends the pending operation, for this refusal. Gives that, or the one by which the operation couldn't be ended: after want of memory
-/// the group takes no more calls.
+/// Ends the pending operation, for this refusal. Gives that, or the one by which the operation
+/// couldn't be ended: after want of memory the group takes no more calls.
 pub fn give_back<B: Bay>(m: &mut Mounted, alloc: Global, bay: &mut B, refusal: Refusal) -> Refusal
     requires takes { Takes m.old (B.state bay.old) }
     ensures keeps { KeepsGroup m.old m.new (B.state bay.old) (B.state bay.new) }
     ensures cause { (result ≡ refusal) ⊎ StatusCause m.old m.new (B.state bay.old) (B.state bay.new)
         result }
-    // The record that holds has the entries and the sets of the one before, and no directory copy more.
+    // The record that holds has the entries and the sets of the one before, and no directory copy
+    // more.
     ensures status { KeepsRecord m.old.register.value m.new.register.value }
     // While the group takes calls still, nothing is pending, and the files have their heads.
     ensures ended { IsMounted m.new → m.new.catalog.tables.operations.pending ≡ None }

@@ -1,5 +1,5 @@
-//! New extents of a file, which all get homes, and then are filled and committed chunk by chunk. Whoever fills them hands over their
-//! bytes in order.
+//! New extents of a file, which all get homes, and then are filled and committed chunk by chunk.
+//! Whoever fills them hands over their bytes in order.
 ghost use Rattle.std.specs.Prelude.{◌≡◌, ◌<◌, ◌≤◌, ◌+◌, IfErr, IfOk, IfSome, OnOk, vec_len};
 ghost use Rattle.catalog_tables.specs.striping.Pieces.{IsAllowedLayout};
 ghost use Rattle.group_pieces.specs.group_engine.Mounts.{IsMounted, IsWhole, Takes};
@@ -29,8 +29,8 @@ pub enum Contents {
     Bytes,
 }
 
-/// New extents of a file on their way: all of them have homes before the first byte is written, and those of one chunk at a time are
-/// filled and committed.
+/// New extents of a file on their way: all of them have homes before the first byte is written, and
+/// those of one chunk at a time are filled and committed.
 #[derive(Drop)]
 pub struct Filling {
     pub extents: NewExtents,
@@ -39,7 +39,8 @@ pub struct Filling {
     pub at: u64,
     /// The first that isn't written any more.
     pub end: u64,
-    /// The first extent of the part that is filled, how many it has, and the file's byte behind them.
+    /// The first extent of the part that is filled, how many it has, and the file's byte behind
+    /// them.
     first: u64,
     len: usize,
     stop: u64,
@@ -110,7 +111,8 @@ pub fn prepare(
     })
 }
 
-/// Chooses the homes of all the extents. NoSpace: the first of them for which there is no choice once those before it have theirs.
+/// Chooses the homes of all the extents. NoSpace: the first of them for which there is no choice
+/// once those before it have theirs.
 pub(crate) fn choose_all(m: &Mounted, alloc: Global, filling: &mut Filling) -> Result<(), Refusal>
     requires whole { IsWhole m.now }
     ensures cause { IfErr result (SpaceCause m.now filling.old.extents) }
@@ -247,8 +249,8 @@ fn place_of(filling: &Filling, index: u32) -> Option<usize>
     Some(place)
 }
 
-/// Writes a piece of the part at hand to the copies of its extent. WriteFault: all of them have failed, of which this disk has the
-/// first copy.
+/// Writes a piece of the part at hand to the copies of its extent. WriteFault: all of them have
+/// failed, of which this disk has the first copy.
 fn write_new<B: Bay>(
     m: &Mounted,
     bay: &mut B,
@@ -333,8 +335,8 @@ fn write_part<B: Bay>(
     }
 }
 
-/// Commits the part at hand and opens the next one, where all bytes of the part are written. After want of memory the group takes no
-/// more calls.
+/// Commits the part at hand and opens the next one, where all bytes of the part are written. After
+/// want of memory the group takes no more calls.
 fn end_part<B: Bay>(
     m: &mut Mounted,
     alloc: Global,
@@ -354,9 +356,10 @@ fn end_part<B: Bay>(
     or_shut(m, answer)
 }
 
-/// Writes the file's next bytes, at most as many as are wanted. Where they are the last of a chunk its extents are committed. A refusal
-/// gives all back: WriteFault, where all copies of an extent failed; Dismounted and NoMemory,
-/// after which nothing more is written, and the next mount gives it back.
+/// Writes the file's next bytes, at most as many as are wanted. Where they are the last of a chunk
+/// its extents are committed. A refusal gives all back: WriteFault, where all copies of an extent
+/// failed; Dismounted and NoMemory, after which nothing more is written, and the next mount gives
+/// it back.
 pub fn put_next<B: Bay>(
     m: &mut Mounted,
     alloc: Global,

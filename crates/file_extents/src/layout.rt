@@ -19,7 +19,8 @@ pub struct Piece {
     pub len: usize,
 }
 
-/// How the files of a group of this shape lie that have this stripe. None where no group has the shape.
+/// How the files of a group of this shape lie that have this stripe. None where no group has the
+/// shape.
 pub fn layout_of(shape: Shape, stripe: Stripe) -> Option<Layout>
     ensures layout { IfSome result IsAllowedLayout }
     ensures unit { IfSome result (λ layout. layout.au ≡ shape.au) }
@@ -36,8 +37,8 @@ pub fn layout_of(shape: Shape, stripe: Stripe) -> Option<Layout>
     })
 }
 
-/// The first of a file's bytes from one on that lie in a row on one extent, at most 1 MiB of them. None where there are none, or
-/// where they aren't whole sectors of an extent with a number.
+/// The first of a file's bytes from one on that lie in a row on one extent, at most 1 MiB of them.
+/// None where there are none, or where they aren't whole sectors of an extent with a number.
 pub fn first_piece(shape: Shape, layout: Layout, file: u32, at: u64, len: u64) -> Option<Piece>
     requires layout { IsAllowedLayout layout }
     ensures fits { IfSome result (λ p. FitsExtent shape p.x.index p.inner p.len) }

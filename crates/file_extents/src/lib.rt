@@ -1,5 +1,5 @@
-//! The extents of a mounted group's files: where bytes lie on them, and how new ones are chosen, filled and put behind those that are
-//! there.
+//! The extents of a mounted group's files: where bytes lie on them, and how new ones are chosen,
+//! filled and put behind those that are there.
 #![tactic(auto)]
 
 pub use catalog_tables::{

@@ -18,8 +18,8 @@ pub(crate) fn copy_units(alloc: Global, units: &[Units]) -> Result<Vec<Units>, N
     Ok(copy)
 }
 
-/// Makes the units of the homes of extents used, the first of which has this index. `false` where one has a home whose units aren't
-/// free.
+/// Makes the units of the homes of extents used, the first of which has this index. `false` where
+/// one has a home whose units aren't free.
 #[tactic(auto, using(catalog_tables::proofs::PlacingLaws::next_extent, catalog_tables::proofs::PlacingLaws::extent_refused, catalog_tables::proofs::PlacingLaws::no_extents))]
 pub(crate) fn place_row(
     units: &mut [Units],

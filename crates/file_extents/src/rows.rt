@@ -32,8 +32,9 @@ pub struct NewExtents {
     pub count: u64,
 }
 
-/// Chooses homes for as many extents as the row has places, by these maps, which have their units used then. NoSpace: the first of them
-/// for which there is no choice once those before it have theirs.
+/// Chooses homes for as many extents as the row has places, by these maps, which have their units
+/// used then. NoSpace: the first of them for which there is no choice once those before it have
+/// theirs.
 #[tactic(auto, using(crate::proofs::Extents::entries_ascend, crate::proofs::Choices::not_all))]
 fn choose_in(
     m: &Mounted,
@@ -66,8 +67,9 @@ fn choose_in(
     Ok(())
 }
 
-/// Chooses homes for all the extents, for which the row has places, by the modes and the units of the group as they are. NoSpace: the
-/// first for which there is no choice once those before it have theirs.
+/// Chooses homes for all the extents, for which the row has places, by the modes and the units of
+/// the group as they are. NoSpace: the first for which there is no choice once those before it have
+/// theirs.
 pub(crate) fn choose_row_of(
     m: &Mounted,
     alloc: Global,

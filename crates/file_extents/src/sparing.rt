@@ -13,8 +13,8 @@ use catalog_tables::units_of;
 use disk_sizes::reserved_units;
 use group_pieces::{Mounted, write_spare};
 
-/// Whether so many bytes from an inner byte on are whole sectors of a copy of so many units, and these units, from the
-/// home's on, lie on an attached disk behind its reserved ones.
+/// Whether so many bytes from an inner byte on are whole sectors of a copy of so many units, and
+/// these units, from the home's on, lie on an attached disk behind its reserved ones.
 pub fn is_run(m: &Mounted, home: Home, units: u32, inner: u64, len: usize) -> bool
     requires { units ≤ 16 }
     ensures { OnTrue result (IsRunOf m.now home units inner len) }
@@ -62,7 +62,8 @@ enum Took {
     All,
     /// Its disk failed.
     Failed,
-    /// Its units don't lie on an attached disk behind the reserved ones, or the piece isn't whole sectors of them.
+    /// Its units don't lie on an attached disk behind the reserved ones, or the piece isn't whole
+    /// sectors of them.
     Nowhere,
 }
 
@@ -83,7 +84,8 @@ fn write_copy<B: Bay>(m: &Mounted, bay: &mut B, home: Home, piece: Piece, bytes:
     }
 }
 
-/// Writes a piece to a copy that is there and has taken all before. The copy's bit among the marks is this one.
+/// Writes a piece to a copy that is there and has taken all before. The copy's bit among the marks
+/// is this one.
 fn fill_copy<B: Bay>(
     m: &Mounted,
     bay: &mut B,

@@ -1,4 +1,5 @@
-//! The script of `--generate`, as a source. It is made line by line as it is read, and is never whole in memory.
+//! The script of `--generate`, as a source. It is made line by line as it is read, and is never
+//! whole in memory.
 #![tactic(auto)]
 
 mod choice;

@@ -126,8 +126,8 @@ impl Lines {
         }
     }
 
-    /// Writes the next command and its line feed in place of what the buffer has. Where none is left
-    /// the buffer is empty then.
+    /// Writes the next command and its line feed in place of what the buffer has. Where none is
+    /// left the buffer is empty then.
     pub fn next(&mut self, line: &mut LineBuffer)
         ensures text { ended (lines_left self.old) ≡ line.new ++ ended (lines_left self.new) }
         ensures over { length line.new ≡ 0 → lines_left self.new ≡ [] }

@@ -9,8 +9,9 @@ use bay::{Fault, Source};
 use line_buffer::LineBuffer;
 use std::alloc::Global;
 
-/// The script for a number and some images. Only the statements that create the disks and the group,
-/// whose length is that of the paths, are kept in memory; each later command is made when it is read.
+/// The script for a number and some images. Only the statements that create the disks and the
+/// group, whose length is that of the paths, are kept in memory; each later command is made when it
+/// is read.
 #[derive(Drop)]
 pub struct GeneratedScript {
     /// The creations, each with its line feed.
@@ -42,8 +43,8 @@ impl GeneratedScript {
     ghost use Rattle.asm_world.specs.Generator.{generated_script};
     ghost use Rattle.generated_script.specs.Source.{GivesBytes, left_in};
 
-    /// The script made from a number over the images at these paths, of which there are four where the
-    /// program calls it. No path has a single quote.
+    /// The script made from a number over the images at these paths, of which there are four where
+    /// the program calls it. No path has a single quote.
     pub fn new(alloc: Global, number: u64, paths: &[Text]) -> Result<GeneratedScript, NoMemory>
         ensures { IfOk result (λ script. left_in script ≡ generated_script number paths.now) }
     {

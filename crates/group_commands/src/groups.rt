@@ -72,7 +72,8 @@ fn external_path<'a>(
     path_in_group(only(groups)?)
 }
 
-/// CREATE DISKGROUP. Of a creation of an EXTERNAL group on one disk, of which its path alone is said, it is proved what it does.
+/// CREATE DISKGROUP. Of a creation of an EXTERNAL group on one disk, of which its path alone is
+/// said, it is proved what it does.
 pub fn create<B: Bay, H: Host>(
     desk: &mut Desk<B, H>,
     text: &[u8],
@@ -91,7 +92,8 @@ pub fn create<B: Bay, H: Host>(
     }
 }
 
-/// The creation of any other form. Its refusals in order: TooMany, GroupExists, and then those of the statement and the disks.
+/// The creation of any other form. Its refusals in order: TooMany, GroupExists, and then those of
+/// the statement and the disks.
 fn create_any<B: Bay, H: Host>(
     desk: &mut Desk<B, H>,
     text: &[u8],
@@ -174,7 +176,8 @@ fn form_any<B: Bay, H: Host>(
     }
 }
 
-/// The creation on one disk. Its refusals in order: TooMany, GroupExists, and then those of the disks.
+/// The creation on one disk. Its refusals in order: TooMany, GroupExists, and then those of the
+/// disks.
 fn create_external<B: Bay, H: Host>(
     desk: &mut Desk<B, H>,
     text: &[u8],
@@ -201,7 +204,8 @@ fn create_external<B: Bay, H: Host>(
     }
 }
 
-/// The creation of a group whose name isn't in the session, for whose entry there is room, on none of the images that are held.
+/// The creation of a group whose name isn't in the session, for whose entry there is room, on none
+/// of the images that are held.
 fn form<B: Bay, H: Host>(
     desk: &mut Desk<B, H>,
     text: &[u8],
@@ -289,7 +293,8 @@ impl GroupWork for DropAll {
     }
 }
 
-/// DROP DISKGROUP. Its refusals in order: NoGroup, Dismounted, GroupNotEmpty where a file is there and `contents` isn't said.
+/// DROP DISKGROUP. Its refusals in order: NoGroup, Dismounted, GroupNotEmpty where a file is there
+/// and `contents` isn't said.
 pub fn drop_group<B: Bay, H: Host>(
     desk: &mut Desk<B, H>,
     text: &[u8],
@@ -310,8 +315,9 @@ pub fn drop_group<B: Bay, H: Host>(
     }
 }
 
-/// MOUNT. Its refusals in order: AlreadyMounted, TooMany, and then those of the disks. A group that was dismounted is tried
-/// afresh, and stays so where it is refused. Where the disks stand for the world it is proved what it does, but for want of memory.
+/// MOUNT. Its refusals in order: AlreadyMounted, TooMany, and then those of the disks. A group that
+/// was dismounted is tried afresh, and stays so where it is refused. Where the disks stand for the
+/// world it is proved what it does, but for want of memory.
 pub fn mount<B: Bay, H: Host>(
     desk: &mut Desk<B, H>,
     text: &[u8],

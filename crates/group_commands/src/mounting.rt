@@ -64,8 +64,9 @@ fn refusal_of(alloc: Global, paths: &[String], error: MountError) -> Result<Refu
     }
 }
 
-/// Mounts the group of a name that isn't mounted, and enters it last. Where it is refused the session is as it was, but that want
-/// of memory may come once a group of the name that was dismounted has left.
+/// Mounts the group of a name that isn't mounted, and enters it last. Where it is refused the
+/// session is as it was, but that want of memory may come once a group of the name that was
+/// dismounted has left.
 pub fn mount_named<B: Bay, H: Host>(
     desk: &mut Desk<B, H>,
     name: &Name,

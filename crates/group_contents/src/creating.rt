@@ -60,7 +60,8 @@ fn by_template(m: &Mounted, path: &Path, name: Option<&Name>) -> Result<(u8, Str
     }
 }
 
-/// The extents of a new file, for which there are blocks beside those of its name. DirectoryFull: more are needed than are free.
+/// The extents of a new file, for which there are blocks beside those of its name. DirectoryFull:
+/// more are needed than are free.
 fn extents_of(
     m: &Mounted,
     copies: u8,
@@ -91,8 +92,8 @@ fn extents_of(
     })
 }
 
-/// Looks whether a file may be made, and has the memory for its extents; nothing is changed. Refusals in their order: NoTemplate,
-/// NotSectors, NotDirectory, NameTaken, DirectoryFull.
+/// Looks whether a file may be made, and has the memory for its extents; nothing is changed.
+/// Refusals in their order: NoTemplate, NotSectors, NotDirectory, NameTaken, DirectoryFull.
 fn prepare_new(
     m: &Mounted,
     alloc: Global,
@@ -115,7 +116,8 @@ fn prepare_new(
 
 // ---- its begin
 
-/// Begins a file that was looked at: its creation is the pending operation, and then its extents get homes.
+/// Begins a file that was looked at: its creation is the pending operation, and then its extents
+/// get homes.
 fn begin_prepared<B: Bay>(
     m: &mut Mounted,
     alloc: Global,
@@ -137,10 +139,12 @@ fn begin_prepared<B: Bay>(
     }
 }
 
-/// Begins a file: its creation is the pending operation, and its extents have homes. It isn't there before `finish_new`. Where the one
-/// who fills it has no more bytes, `give_up` gives it back. Refusals in their order: NoTemplate, NotSectors, NotDirectory, NameTaken,
-/// DirectoryFull, before which nothing is changed, and the move in flight goes on; then Dismounted, by the commit of the operation, and
-/// NoSpace, after which it is given back. The move in flight is given up before the last two.
+/// Begins a file: its creation is the pending operation, and its extents have homes. It isn't there
+/// before `finish_new`. Where the one who fills it has no more bytes, `give_up` gives it back.
+/// Refusals in their order: NoTemplate, NotSectors, NotDirectory, NameTaken, DirectoryFull, before
+/// which nothing is changed, and the move in flight goes on; then Dismounted, by the commit of the
+/// operation, and NoSpace, after which it is given back. The move in flight is given up before the
+/// last two.
 pub fn begin_new<B: Bay>(
     m: &mut Mounted,
     alloc: Global,
@@ -193,7 +197,8 @@ fn has_extents(catalog: &Catalog, new: NewExtents, stripe: Stripe, size: u64) ->
     }
 }
 
-/// Whether the file that is being made has the extents of its size, each with its copies, and no head yet.
+/// Whether the file that is being made has the extents of its size, each with its copies, and no
+/// head yet.
 fn is_created(catalog: &Catalog, new: NewExtents, stripe: Stripe, size: u64) -> bool
     ensures created { OnTrue result (IsFileBeingMade catalog.now size new.copies stripe) }
     ensures file { OnTrue result (made_file catalog.now.tables ≡ new.file) }
@@ -205,7 +210,8 @@ fn is_created(catalog: &Catalog, new: NewExtents, stripe: Stripe, size: u64) -> 
         && is_within_file(catalog, new.file, new.copies)
 }
 
-/// Commits the name of a file, all of whose bytes are written, and the directories above it that are missing.
+/// Commits the name of a file, all of whose bytes are written, and the directories above it that
+/// are missing.
 fn name_new<B: Bay>(
     m: &mut Mounted,
     alloc: Global,
@@ -247,8 +253,8 @@ fn end_new<B: Bay>(
     or_shut(m, answer)
 }
 
-/// Ends a creation: the file has its name, and nothing is pending. Gives the file's number. Refusals: Dismounted, after which the file
-/// is there or not, and NoMemory.
+/// Ends a creation: the file has its name, and nothing is pending. Gives the file's number.
+/// Refusals: Dismounted, after which the file is there or not, and NoMemory.
 pub fn finish_new<B: Bay>(
     m: &mut Mounted,
     alloc: Global,
@@ -260,7 +266,8 @@ pub fn finish_new<B: Bay>(
     ensures keeps { KeepsGroup m.old m.new (B.state bay.old) (B.state bay.new) }
     ensures mounted { OnOk result (IsMounted m.new) }
     ensures cause { IfErr result (StatusCause m.old m.new (B.state bay.old) (B.state bay.new)) }
-    // The last commit was that of the file's head and its names, and took away the pending operation.
+    // The last commit was that of the file's head and its names, and took away the pending
+    // operation.
     ensures named { IfOk result (λ file. NamesFile m.old new.now file m.new) }
 {
     m.takes_calls()?;
@@ -270,8 +277,8 @@ pub fn finish_new<B: Bay>(
     }
 }
 
-/// Gives a begun file back, for this refusal. After Dismounted, and after want of memory, nothing more is written, and that is the
-/// answer.
+/// Gives a begun file back, for this refusal. After Dismounted, and after want of memory, nothing
+/// more is written, and that is the answer.
 pub fn give_up<B: Bay>(m: &mut Mounted, alloc: Global, bay: &mut B, refusal: Refusal) -> Refusal
     requires takes { Takes m.old (B.state bay.old) }
     ensures keeps { KeepsGroup m.old m.new (B.state bay.old) (B.state bay.new) }
@@ -331,9 +338,10 @@ fn create_by<B: Bay>(
     }
 }
 
-/// Makes a file of zeros, chunk by chunk under a pending operation, and its name in the last commit. Gives its number. Refusals in
-/// their order: NoTemplate, NotSectors, NotDirectory, NameTaken, DirectoryFull; Dismounted by the commit of the operation, NoSpace;
-/// WriteFault, where all copies of an extent failed, and Dismounted. A refusal gives all back.
+/// Makes a file of zeros, chunk by chunk under a pending operation, and its name in the last
+/// commit. Gives its number. Refusals in their order: NoTemplate, NotSectors, NotDirectory,
+/// NameTaken, DirectoryFull; Dismounted by the commit of the operation, NoSpace; WriteFault, where
+/// all copies of an extent failed, and Dismounted. A refusal gives all back.
 pub fn create<B: Bay>(
     m: &mut Mounted,
     alloc: Global,

@@ -15,9 +15,9 @@ struct Met {
     first: Option<u8>,
 }
 
-/// The disks that served as a call on a file's bytes began, and of the extents that it met last the copies that were usable then. An
-/// extent is met before it is written, so that its marks are those that it had; a file's bytes go through a fine set, and never come back
-/// to it.
+/// The disks that served as a call on a file's bytes began, and of the extents that it met last the
+/// copies that were usable then. An extent is met before it is written, so that its marks are those
+/// that it had; a file's bytes go through a fine set, and never come back to it.
 #[derive(Clone, Copy)]
 pub(crate) struct EntryCopies {
     serving: DiskSet,
@@ -33,8 +33,8 @@ impl EntryCopies {
         }
     }
 
-    /// The disk of the first copy of an extent that was usable as the call began. Each extent of the file is asked for before its first
-    /// piece is written.
+    /// The disk of the first copy of an extent that was usable as the call began. Each extent of
+    /// the file is asked for before its first piece is written.
     pub(crate) fn first_of(&mut self, m: &Mounted, x: ExtentId) -> Option<u8> {
         let turn = x.index as usize % TURNS;
         if let Some(met) = self.met[turn] {

@@ -104,8 +104,8 @@ fn lost_in(m: &Mounted, layout: Layout, file: u32, at: u64, len: u64) -> Option<
     None
 }
 
-/// Whether a span of a file may be read and written. NotSectors: it isn't whole sectors. OutOfFile: the file ends before it does.
-/// Lost: the first of its extents that has no usable copy.
+/// Whether a span of a file may be read and written. NotSectors: it isn't whole sectors. OutOfFile:
+/// the file ends before it does. Lost: the first of its extents that has no usable copy.
 pub fn check_span(m: &Mounted, file: &OpenFile, at: u64, len: u64) -> Result<(), Refusal>
     ensures cause { IfErr result (SpanCause m.now at len file.now) }
     ensures span { OnOk result (IsSpan m.now at len file.now) }
@@ -138,7 +138,8 @@ pub(crate) fn open_span(m: &Mounted, path: &Path, at: u64, len: u64) -> Result<O
     }
 }
 
-/// Looks whether the file at a path can be copied, and opens it. NoName: there is none. Lost: its first extent that has no usable copy.
+/// Looks whether the file at a path can be copied, and opens it. NoName: there is none. Lost: its
+/// first extent that has no usable copy.
 pub fn check_source(m: &Mounted, path: &Path) -> Result<OpenFile, Refusal>
     ensures cause { IfErr result (AtFile m.now path.now.parts (LostFileCause m.now)) }
     ensures opened { IfOk result (IsOpened m.now.catalog.tables path.now.parts) }

@@ -86,8 +86,9 @@ fn read_pieces<B: Bay>(
     Ok(())
 }
 
-/// Fills the buffer with the bytes of a file from one on, which it has. Each piece is read from its usable copies, by number until one
-/// reads. Lost: an extent has none. ReadFault: those of an extent all failed, that on this disk first. Dismounted: the group is.
+/// Fills the buffer with the bytes of a file from one on, which it has. Each piece is read from its
+/// usable copies, by number until one reads. Lost: an extent has none. ReadFault: those of an
+/// extent all failed, that on this disk first. Dismounted: the group is.
 pub fn read_next<B: Bay>(
     m: &Mounted,
     bay: &mut B,
@@ -113,8 +114,8 @@ pub fn read_next<B: Bay>(
     }
 }
 
-/// Fills the buffer with a span of a file, as long as the buffer. Refusals in their order: NoName, NotSectors, OutOfFile, Lost,
-/// ReadFault.
+/// Fills the buffer with a span of a file, as long as the buffer. Refusals in their order: NoName,
+/// NotSectors, OutOfFile, Lost, ReadFault.
 pub fn read<B: Bay>(
     m: &Mounted,
     bay: &mut B,

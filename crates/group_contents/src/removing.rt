@@ -43,8 +43,8 @@ fn unname<B: Bay>(m: &mut Mounted, alloc: Global, bay: &mut B, file: u32) -> Res
     }
 }
 
-/// Takes away a file and its names, and then its extents, chunk by chunk from the last. Refusals: Dismounted and NoMemory; once the
-/// names are gone the file is, also after these.
+/// Takes away a file and its names, and then its extents, chunk by chunk from the last. Refusals:
+/// Dismounted and NoMemory; once the names are gone the file is, also after these.
 fn remove_number<B: Bay>(
     m: &mut Mounted,
     alloc: Global,
@@ -64,8 +64,8 @@ fn remove_number<B: Bay>(
     }
 }
 
-/// Takes away the file at a path, its system name or its alias, with both names. Refusals in their order: NoName, where no file is
-/// there; Dismounted.
+/// Takes away the file at a path, its system name or its alias, with both names. Refusals in their
+/// order: NoName, where no file is there; Dismounted.
 pub fn remove_file<B: Bay>(
     m: &mut Mounted,
     alloc: Global,
@@ -76,7 +76,8 @@ pub fn remove_file<B: Bay>(
     ensures keeps { KeepsGroup m.old m.new (B.state bay.old) (B.state bay.new) }
     ensures cause { IfErr result (λ refusal. OpenCause m.old path.now.parts refusal
         ⊎ StatusCause m.old m.new (B.state bay.old) (B.state bay.new) refusal) }
-    // The head and the names of the file at the path were taken away, and then its extents, and nothing is pending.
+    // The head and the names of the file at the path were taken away, and then its extents, and
+    // nothing is pending.
     ensures removed { OnOk result (IsRemoved m.old path.now.parts m.new) }
 {
     m.takes_calls()?;
@@ -136,8 +137,8 @@ fn remove_directory<B: Bay>(
     }
 }
 
-/// Takes away the file at a path, as `remove_file`, or the directory, as the edit of the tree does. Refusals in their order: NoName;
-/// those of the edit; Dismounted.
+/// Takes away the file at a path, as `remove_file`, or the directory, as the edit of the tree does.
+/// Refusals in their order: NoName; those of the edit; Dismounted.
 pub fn remove<B: Bay>(
     m: &mut Mounted,
     alloc: Global,

@@ -38,7 +38,8 @@ fn is_on_file(catalog: &Catalog) -> bool
     }
 }
 
-/// Whether the file has a head, and the extents of a size with all their copies where that is greater.
+/// Whether the file has a head, and the extents of a size with all their copies where that is
+/// greater.
 fn may_grow(catalog: &Catalog, file: u32, size: u64) -> bool
     ensures file { OnTrue result (IsTrue (is_file_number catalog.now.tables.files file)) }
     ensures grow { OnTrue result (MayGrow catalog.now.shape catalog.now.tables file size) }
@@ -89,7 +90,8 @@ fn set_size<B: Bay>(
 
 // ---- a smaller file
 
-/// Makes a file smaller: the size first, and then the extents behind it go, chunk by chunk from the last.
+/// Makes a file smaller: the size first, and then the extents behind it go, chunk by chunk from the
+/// last.
 fn shrink<B: Bay>(
     m: &mut Mounted,
     alloc: Global,
@@ -112,7 +114,8 @@ fn shrink<B: Bay>(
 
 // ---- a greater file
 
-/// The extents that a file gets by a greater size, for which there are blocks. DirectoryFull: more are needed than are free.
+/// The extents that a file gets by a greater size, for which there are blocks. DirectoryFull: more
+/// are needed than are free.
 fn more_extents(m: &Mounted, file: &OpenFile, size: u64) -> Result<NewExtents, Refusal>
     ensures cause { IfErr result (RoomCause m.now.catalog) }
     ensures extents { IfOk result (AreMore m.now.catalog file.now) }
@@ -147,7 +150,8 @@ fn bytes_behind(m: &Mounted, file: &OpenFile) -> u64 {
     }
 }
 
-/// Looks whether a file may have a greater size, and has the memory for its new extents; nothing is changed.
+/// Looks whether a file may have a greater size, and has the memory for its new extents; nothing is
+/// changed.
 fn prepare_more(m: &Mounted, alloc: Global, file: &OpenFile, size: u64) -> Result<Filling, Refusal>
     ensures cause { IfErr result (GrowCause m.now file.now) }
     ensures extents { IfOk result (λ filling. AreMore m.now.catalog file.now filling.extents) }
@@ -191,8 +195,8 @@ fn clear_behind<B: Bay>(
     fill_span(m, alloc, bay, &file, file.size, behind, zeros, growth.time)
 }
 
-/// Gives a growth that takes calls back after WriteFault by this disk. NoSpace comes before that, where there is no choice of homes for
-/// one of its extents.
+/// Gives a growth that takes calls back after WriteFault by this disk. NoSpace comes before that,
+/// where there is no choice of homes for one of its extents.
 fn give_back_more<B: Bay>(
     m: &mut Mounted,
     alloc: Global,
@@ -251,7 +255,8 @@ fn size_or_shut<B: Bay>(
     or_shut(m, answer)
 }
 
-/// Puts the new extents of a growth, which have homes, and commits its size. After want of memory the group takes no more calls.
+/// Puts the new extents of a growth, which have homes, and commits its size. After want of memory
+/// the group takes no more calls.
 fn put_more<B: Bay>(
     m: &mut Mounted,
     alloc: Global,
@@ -273,7 +278,8 @@ fn put_more<B: Bay>(
     }
 }
 
-/// Gives the new extents of a growth homes, by the modes and the units as they are now, puts them, and commits its size.
+/// Gives the new extents of a growth homes, by the modes and the units as they are now, puts them,
+/// and commits its size.
 fn place_more<B: Bay>(
     m: &mut Mounted,
     alloc: Global,
@@ -296,8 +302,9 @@ fn place_more<B: Bay>(
     }
 }
 
-/// Writes zeros behind the size of a file whose growth has begun, and puts its new extents. After WriteFault of the zeros the growth is
-/// given back, and after want of memory the group takes no more calls.
+/// Writes zeros behind the size of a file whose growth has begun, and puts its new extents. After
+/// WriteFault of the zeros the growth is given back, and after want of memory the group takes no
+/// more calls.
 fn extend_begun<B: Bay>(
     m: &mut Mounted,
     alloc: Global,
@@ -414,8 +421,9 @@ fn grow_with<B: Bay>(
     }
 }
 
-/// Makes a file greater: the growth is the pending operation, where the file needs more extents; then zeros go over what its extents have
-/// behind its size, more extents get homes and are filled with zeros, chunk by chunk, and the size comes last.
+/// Makes a file greater: the growth is the pending operation, where the file needs more extents;
+/// then zeros go over what its extents have behind its size, more extents get homes and are filled
+/// with zeros, chunk by chunk, and the size comes last.
 fn grow<B: Bay>(m: &mut Mounted, alloc: Global, bay: &mut B, growth: &Growth) -> Result<(), Refusal>
     requires mounted { IsMounted m.old }
     requires takes { Takes m.old (B.state bay.old) }
@@ -435,10 +443,12 @@ fn grow<B: Bay>(m: &mut Mounted, alloc: Global, bay: &mut B, growth: &Growth) ->
     answer
 }
 
-/// Gives the file at a path another size in bytes; what it gets reads as zeros. Refusals in their order: NoName; NotSectors; of a
-/// greater size Lost, with the first of its extents that has bytes behind the old size and no usable copy, and DirectoryFull. Before
-/// these nothing is changed; then come Dismounted by the commit of the growth, NoSpace by the modes as they are once zeros went over what
-/// the file has behind its size, WriteFault and Dismounted. A refusal leaves the size as it was, but for Dismounted, after which it is either.
+/// Gives the file at a path another size in bytes; what it gets reads as zeros. Refusals in their
+/// order: NoName; NotSectors; of a greater size Lost, with the first of its extents that has bytes
+/// behind the old size and no usable copy, and DirectoryFull. Before these nothing is changed; then
+/// come Dismounted by the commit of the growth, NoSpace by the modes as they are once zeros went
+/// over what the file has behind its size, WriteFault and Dismounted. A refusal leaves the size as
+/// it was, but for Dismounted, after which it is either.
 pub fn resize<B: Bay>(
     m: &mut Mounted,
     alloc: Global,

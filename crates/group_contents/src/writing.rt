@@ -37,7 +37,8 @@ fn among(disk: Option<u8>, failed: DiskSet) -> Option<u8>
     }
 }
 
-/// The refusal where no copy of an extent is usable any more: by its first copy that was as the call began, whose disk failed since.
+/// The refusal where no copy of an extent is usable any more: by its first copy that was as the
+/// call began, whose disk failed since.
 fn lost_on_the_way(first: Option<u8>, failed: DiskSet) -> Refusal
     ensures { FillCause failed result }
 {
@@ -49,8 +50,9 @@ fn lost_on_the_way(first: Option<u8>, failed: DiskSet) -> Refusal
     }
 }
 
-/// The refusal where all copies of an extent failed that were usable still, that on this disk first. It names the first copy that was
-/// usable as the call began: that is this one, where the disk of the first hasn't failed before.
+/// The refusal where all copies of an extent failed that were usable still, that on this disk
+/// first. It names the first copy that was usable as the call began: that is this one, where the
+/// disk of the first hasn't failed before.
 fn failed_on_the_way(first: Option<u8>, failed: DiskSet, disk: DiskRef) -> Refusal
     ensures { FillCause failed result ⊎ (result ≡ WriteFault disk) }
 {
@@ -71,8 +73,9 @@ fn joined(one: DiskSet, other: DiskSet) -> DiskSet
     DiskSet::from_bits(one.bits() | other.bits())
 }
 
-/// Writes a piece of an extent, of which the first copy that was usable as the call began is on this disk. Gives the set of the disks
-/// that failed, with those of this set. Refusals: WriteFault, where no copy took it; Dismounted; NoMemory.
+/// Writes a piece of an extent, of which the first copy that was usable as the call began is on
+/// this disk. Gives the set of the disks that failed, with those of this set. Refusals: WriteFault,
+/// where no copy took it; Dismounted; NoMemory.
 fn write_one<B: Bay>(
     m: &mut Mounted,
     alloc: Global,
@@ -110,7 +113,8 @@ struct Writing {
     now: u64,
 }
 
-/// Writes bytes of a file from one on, piece by piece. Gives the set of the disks that failed, with those of this set.
+/// Writes bytes of a file from one on, piece by piece. Gives the set of the disks that failed, with
+/// those of this set.
 fn write_bytes<B: Bay>(
     m: &mut Mounted,
     alloc: Global,
@@ -193,7 +197,8 @@ fn fill_bytes<B: Bay>(
     Ok(())
 }
 
-/// Fills a span of a file with the bytes of a buffer, again and again. All bytes of the buffer are the same.
+/// Fills a span of a file with the bytes of a buffer, again and again. All bytes of the buffer are
+/// the same.
 pub(crate) fn fill_span<B: Bay>(
     m: &mut Mounted,
     alloc: Global,
@@ -266,9 +271,10 @@ fn write_span<B: Bay>(
     }
 }
 
-/// Writes bytes of the file at a path from one on. Refusals in their order: NoName, NotSectors, OutOfFile, Lost; then WriteFault, where
-/// all copies of an extent that were usable as the call began failed in it, with the first of them, and Dismounted. After the last two, and after want of memory
-/// behind the first write, the bytes of the span are free.
+/// Writes bytes of the file at a path from one on. Refusals in their order: NoName, NotSectors,
+/// OutOfFile, Lost; then WriteFault, where all copies of an extent that were usable as the call
+/// began failed in it, with the first of them, and Dismounted. After the last two, and after want
+/// of memory behind the first write, the bytes of the span are free.
 pub fn write<B: Bay>(
     m: &mut Mounted,
     alloc: Global,
@@ -282,7 +288,8 @@ pub fn write<B: Bay>(
     ensures keeps { KeepsGroup m.old m.new (B.state bay.old) (B.state bay.new) }
     ensures cause { IfErr result (WriteFileCause m.old path.now.parts at (length bytes.now) m.new
         (B.state bay.old) (B.state bay.new)) }
-    // Of a group that takes calls: what the disks hold at each moment, and what is mounted in the end.
+    // Of a group that takes calls: what the disks hold at each moment, and what is mounted in the
+    // end.
     ensures does { IsMounted m.old
         → WritesFile m.old path.now.parts at bytes.now result m.new (B.state bay.old) (B.state bay.new) }
 {

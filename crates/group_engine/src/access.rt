@@ -5,6 +5,7 @@ pub enum Access {
     Mounted,
     /// It was dismounted, by this disk.
     Dismounted { disk: u8 },
-    /// Memory was wanted behind a commit: each call answers NoMemory, and the next mount ends what is pending.
+    /// Memory was wanted behind a commit: each call answers NoMemory, and the next mount ends what
+    /// is pending.
     Closed,
 }

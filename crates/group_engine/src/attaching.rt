@@ -14,8 +14,8 @@ use bay::Bay;
 use status_register::Member;
 
 impl Mounted {
-    /// Whether there is a place for a disk: none is attached at its number or on its slot, and where its number has an entry, its birth is
-    /// the entry's.
+    /// Whether there is a place for a disk: none is attached at its number or on its slot, and
+    /// where its number has an entry, its birth is the entry's.
     pub fn has_place(&self, member: Member) -> bool
         ensures { OnTrue result (HasPlace self.now member) }
     {

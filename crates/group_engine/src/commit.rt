@@ -29,9 +29,10 @@ use refusal_lines::{DiskRef, Refusal};
 use std::alloc::Global;
 
 impl Mounted {
-    /// Commits a change on every directory copy that Status names. A copy that fails is taken out of Status before the commit is
-    /// complete. Refusals: Dismounted, where the group is, or where in this call all copies or a majority of a set of Status
-    /// failed; DirectoryFull; NoMemory. NoMemory leaves the value as before.
+    /// Commits a change on every directory copy that Status names. A copy that fails is taken out
+    /// of Status before the commit is complete. Refusals: Dismounted, where the group is, or where
+    /// in this call all copies or a majority of a set of Status failed; DirectoryFull; NoMemory.
+    /// NoMemory leaves the value as before.
     pub fn commit<B: Bay>(
         &mut self,
         alloc: Global,
@@ -47,7 +48,8 @@ impl Mounted {
         // The group's parts agree, it takes the next call, and the disks of others stay.
         ensures keeps { KeepsGroup self.old self.new (B.state bay.old) (B.state bay.new) }
         ensures flight { self.new.flight ≡ self.old.flight }
-        // Whatever it answers, the record that holds has the entries and the sets of the one before, and no directory copy more.
+        // Whatever it answers, the record that holds has the entries and the sets of the one
+        // before, and no directory copy more.
         ensures status { KeepsRecord self.old.register.value self.new.register.value }
         // Once it is done, the group takes calls still, and its tables are those after the change.
         ensures mounted { OnOk result (IsMounted self.new) }
@@ -79,8 +81,8 @@ impl Mounted {
         }
     }
 
-    /// Commits a change that a plan gave. Refusals: Dismounted, as a commit; NoMemory. The plan has found a free block for each
-    /// new record, so that DirectoryFull doesn't come.
+    /// Commits a change that a plan gave. Refusals: Dismounted, as a commit; NoMemory. The plan has
+    /// found a free block for each new record, so that DirectoryFull doesn't come.
     pub fn commit_plan<B: Bay>(
         &mut self,
         alloc: Global,
@@ -93,7 +95,8 @@ impl Mounted {
         ensures goes { GoesOn self.old result self.new (B.state bay.old) (B.state bay.new) }
         ensures commits { CommitsPlan self.old change.now.put change.now.gone result self.new
             (B.state bay.old) (B.state bay.new) }
-        // Whatever it answers, the record that holds has the entries and the sets of the one before, and no directory copy more.
+        // Whatever it answers, the record that holds has the entries and the sets of the one
+        // before, and no directory copy more.
         ensures status { KeepsRecord self.old.register.value self.new.register.value }
     {
         blocks_are_counted();

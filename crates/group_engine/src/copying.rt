@@ -35,10 +35,11 @@ fn name_copy<B: Bay>(bay: &mut B, register: &mut Register, disk: u8) -> Result<D
 }
 
 impl Mounted {
-    /// Stores the directories on a disk, and then names it in the record as one that has a copy. A disk that is named has one already.
-    /// Refusals: WriteFault, where the disk isn't attached or its slot failed; Dismounted, where the group is, or where in this call a
-    /// majority of a set of the record failed; NoMemory, also where the disk can't have a copy: it has no entry, or its image is too short.
-    /// WriteFault and NoMemory leave the value as before.
+    /// Stores the directories on a disk, and then names it in the record as one that has a copy. A
+    /// disk that is named has one already. Refusals: WriteFault, where the disk isn't attached or
+    /// its slot failed; Dismounted, where the group is, or where in this call a majority of a set
+    /// of the record failed; NoMemory, also where the disk can't have a copy: it has no entry, or
+    /// its image is too short. WriteFault and NoMemory leave the value as before.
     pub fn copy_directory<B: Bay>(
         &mut self,
         alloc: Global,

@@ -14,8 +14,9 @@ use refusal_lines::Refusal;
 use std::alloc::Global;
 
 impl Mounted {
-    /// Commits a change of one extent that a plan gave, as `commit_plan` does. What is known of the search for the next move is kept but
-    /// for the extent's chunk, which is asked at once: the next search begins where the last one came to.
+    /// Commits a change of one extent that a plan gave, as `commit_plan` does. What is known of the
+    /// search for the next move is kept but for the extent's chunk, which is asked at once: the
+    /// next search begins where the last one came to.
     pub fn commit_extent<B: Bay>(
         &mut self,
         alloc: Global,
@@ -30,7 +31,8 @@ impl Mounted {
         ensures goes { GoesOn self.old result self.new (B.state bay.old) (B.state bay.new) }
         ensures commits { CommitsPlan self.old change.now.put change.now.gone result self.new
             (B.state bay.old) (B.state bay.new) }
-        // Whatever it answers, the record that holds has the entries and the sets of the one before, and no directory copy more.
+        // Whatever it answers, the record that holds has the entries and the sets of the one
+        // before, and no directory copy more.
         ensures status { KeepsRecord self.old.register.value self.new.register.value }
     {
         let search = self.search;

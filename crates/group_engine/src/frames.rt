@@ -18,28 +18,32 @@ pub fn spared_is_held()
     ensures { SparedIsHeld }
 {}
 
-/// A group takes the next call also after calls that leave its attached disks; more disks may be attached by them.
+/// A group takes the next call also after calls that leave its attached disks; more disks may be
+/// attached by them.
 pub fn ready_elsewhere<B: Bay, T: Slots, S: Step>(start: &B, end: &B)
     ensures { (m : MountedGroup) → IsWhole m → IsReady m (B.state start.now) → StaysAttached (B.state start.now) (B.state end.now)
         → Runs T.among S.leads (B.state start.now) (B.state end.now) → ((x y : Image) → S.leads x y → SparesDisks m x y)
         → IsReady m (B.state end.now) }
 {}
 
-/// The same where disks of others are made anew or are attached no more: what is attached to the group stays so.
+/// The same where disks of others are made anew or are attached no more: what is attached to the
+/// group stays so.
 pub fn ready_with_own<B: Bay, T: Slots, S: Step>(start: &B, end: &B)
     ensures { (m : MountedGroup) → IsWhole m → IsReady m (B.state start.now) → KeepsOwn m (B.state start.now) (B.state end.now)
         → Runs T.among S.leads (B.state start.now) (B.state end.now) → ((x y : Image) → S.leads x y → SparesDisks m x y)
         → IsReady m (B.state end.now) }
 {}
 
-/// A mounted group stays mounted over calls that leave the disks of its members, and make no other disk one.
+/// A mounted group stays mounted over calls that leave the disks of its members, and make no other
+/// disk one.
 pub fn mounted_elsewhere<B: Bay, T: Slots, S: Step>(start: &B, end: &B)
     ensures { (n : ℕ) (m : MountedGroup) (g : Group) (kept : Kept) → Mounts n m (B.state start.now) g kept → StaysAttached (B.state start.now) (B.state end.now)
         → Runs T.among S.leads (B.state start.now) (B.state end.now) → ((x y : Image) → S.leads x y → SparesGroup m.register.id x y)
         → Mounts n m (B.state end.now) g kept }
 {}
 
-/// Where each image of each moment of a call is held for a mounted group, the disks of every other id's members stay.
+/// Where each image of each moment of a call is held for a mounted group, the disks of every other
+/// id's members stay.
 pub fn others_are_spared<B: Bay>(start: &B, end: &B)
     ensures { KeptSparesOthers (B.state start.now) (B.state end.now) }
 {}
@@ -58,7 +62,8 @@ pub fn calls_keep<B: Bay>(start: &B, between: &B, end: &B)
         → KeepsGroup a c (B.state start.now) (B.state end.now) }
 {}
 
-/// Where a call left the group mounted, the cause by which the next one found it dismounted is one over both.
+/// Where a call left the group mounted, the cause by which the next one found it dismounted is one
+/// over both.
 pub fn causes_join<B: Bay>(start: &B, between: &B, end: &B)
     ensures { (a b c : MountedGroup) → KeepsGroup a b (B.state start.now) (B.state between.now) → IsMounted b → (by : DiskRef)
         → DismountCause b c (B.state between.now) (B.state end.now) by → DismountCause a c (B.state start.now) (B.state end.now) by }

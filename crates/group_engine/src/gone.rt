@@ -31,15 +31,17 @@ fn mark_gone<B: Bay>(bay: &mut B, register: &mut Register) -> Result<DiskSet, De
 }
 
 impl Mounted {
-    /// Drops the group: writes its record marked gone, by which a later mount finds no group. It takes no memory. The group takes
-    /// no calls from then on, whatever comes. Refusals: Dismounted, where the group is, or where in this call a majority of a set of
-    /// the record failed; NoMemory, where the group was closed before.
+    /// Drops the group: writes its record marked gone, by which a later mount finds no group. It
+    /// takes no memory. The group takes no calls from then on, whatever comes. Refusals:
+    /// Dismounted, where the group is, or where in this call a majority of a set of the record
+    /// failed; NoMemory, where the group was closed before.
     pub fn end_group<B: Bay>(&mut self, bay: &mut B) -> Result<(), Refusal>
         requires whole { IsMounted self.old → IsWhole self.old }
         requires ready { IsMounted self.old → IsReady self.old (B.state bay.old) }
         ensures keeps { KeepsGroup self.old self.new (B.state bay.old) (B.state bay.new) }
         ensures closed { IsMounted self.new → ⊥ }
-        // Once it is done, a majority of each set shows the record. It is done of a group that took calls alone.
+        // Once it is done, a majority of each set shows the record. It is done of a group that took
+        // calls alone.
         ensures mounted { OnOk result (IsMounted self.old) }
         ensures gone { OnOk result (IsGone self.old self.new (B.state bay.old) (B.state bay.new)) }
         ensures cause { IfErr result (GoneCause self.old self.new (B.state bay.old)

@@ -24,10 +24,12 @@ fn without_disk(value: &PstRecord, disk: u8) -> PstRecord
 }
 
 impl Mounted {
-    /// Takes a disk out on which no home lies and which holds no status record: the record without its entry and without it among the
-    /// copies, then it is attached no more, and then its disk record goes. The move that is on its way is given up. Refusals: Dismounted,
-    /// where the group is, or as the record or the commit finds it; NoMemory. What is asked of the disk is tried: where it doesn't hold,
-    /// NoMemory is answered and all is as before but for the move. After NoMemory behind the record the group is closed.
+    /// Takes a disk out on which no home lies and which holds no status record: the record without
+    /// its entry and without it among the copies, then it is attached no more, and then its disk
+    /// record goes. The move that is on its way is given up. Refusals: Dismounted, where the group
+    /// is, or as the record or the commit finds it; NoMemory. What is asked of the disk is tried:
+    /// where it doesn't hold, NoMemory is answered and all is as before but for the move. After
+    /// NoMemory behind the record the group is closed.
     pub fn leave<B: Bay>(&mut self, alloc: Global, bay: &mut B, disk: u8) -> Result<(), Refusal>
         requires takes { Takes self.old (B.state bay.old) }
         // The group's parts agree, it takes the next call, and the disks of others stay.
@@ -61,7 +63,8 @@ impl Mounted {
         self.end_entry(alloc, bay, disk, &next)
     }
 
-    /// Writes the record without the disk, by which it is attached no more, and takes its disk record away.
+    /// Writes the record without the disk, by which it is attached no more, and takes its disk
+    /// record away.
     fn end_entry<B: Bay>(
         &mut self,
         alloc: Global,
@@ -85,7 +88,8 @@ impl Mounted {
         }
     }
 
-    /// Takes the disk record of a number away. Where there is no memory the group is closed: a disk record without an entry is no fault.
+    /// Takes the disk record of a number away. Where there is no memory the group is closed: a disk
+    /// record without an entry is no fault.
     fn end_disk<B: Bay>(&mut self, alloc: Global, bay: &mut B, disk: u8) -> Result<(), Refusal>
         requires mounted { IsMounted self.old }
         requires whole { IsWhole self.old }

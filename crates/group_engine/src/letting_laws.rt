@@ -1,4 +1,5 @@
-//! Calls that may let disks of a mounted group go. Each function does nothing; its contract is the law.
+//! Calls that may let disks of a mounted group go. Each function does nothing; its contract is the
+//! law.
 ghost use Rattle.refusal_lines.specs.declared.refusal.Refusal.{Refusal};
 ghost use Rattle.group_engine.specs.Commits.{StatusCause};
 ghost use Rattle.group_engine.specs.Members.{LetsGo, LettingCause};
@@ -20,7 +21,8 @@ pub fn keeping_lets_go<B: Bay>(start: &B, end: &B)
 pub fn lettings_join<B: Bay>(start: &B, between: &B, end: &B)
     ensures lets { (a b c : MountedGroup) → LetsGo a b (B.state start.now) (B.state between.now) → LetsGo b c (B.state between.now) (B.state end.now)
         → LetsGo a c (B.state start.now) (B.state end.now) }
-    // Where the first one left the group mounted, the cause by which the second one was refused is one over both.
+    // Where the first one left the group mounted, the cause by which the second one was refused is
+    // one over both.
     ensures cause { (a b c : MountedGroup) → LetsGo a b (B.state start.now) (B.state between.now) → LetsGo b c (B.state between.now) (B.state end.now)
         → IsMounted b → (refusal : Refusal) → LettingCause b c (B.state between.now) (B.state end.now) refusal
         → LettingCause a c (B.state start.now) (B.state end.now) refusal }

@@ -19,8 +19,8 @@ use refusal_lines::{DiskRef, Refusal};
 use status_register::{PstRecord, Register};
 use std::marker::Model;
 
-/// A mounted group: its tables, the records of its directories on their copies, and its status on its disks. Contracts see it as
-/// one record of these.
+/// A mounted group: its tables, the records of its directories on their copies, and its status on
+/// its disks. Contracts see it as one record of these.
 #[derive(Drop)]
 pub struct Mounted {
     pub(crate) name: Name,
@@ -47,8 +47,9 @@ impl Model for Mounted {
 }
 
 impl Mounted {
-    /// A group that takes calls, of its name, its tables, its directories, its status, and of each disk number the attached disk. These
-    /// say the same: the tables are those of the records, and of each attached member there is the slot.
+    /// A group that takes calls, of its name, its tables, its directories, its status, and of each
+    /// disk number the attached disk. These say the same: the tables are those of the records, and
+    /// of each attached member there is the slot.
     pub fn new(
         name: Name,
         catalog: Catalog,
@@ -136,9 +137,10 @@ impl Mounted {
         self.flight = flight;
     }
 
-    /// What the rebalance does next, or how it ends. None where a home lies on a disk of a quorum failure group. The search goes on
-    /// where the one before came to, and whether homes lie on such disks is asked of all of them once: after commits by
-    /// `commit_extent` no more. It takes no memory.
+    /// What the rebalance does next, or how it ends. None where a home lies on a disk of a quorum
+    /// failure group. The search goes on where the one before came to, and whether homes lie on
+    /// such disks is asked of all of them once: after commits by `commit_extent` no more. It takes
+    /// no memory.
     pub fn next_move(&mut self) -> Option<Next>
         requires whole { IsWhole self.old }
         ensures same { self.new ≡ self.old }
@@ -168,7 +170,8 @@ impl Mounted {
         }
     }
 
-    /// Refuses what a group refuses that takes no calls: Dismounted by its disk, or NoMemory once it is closed.
+    /// Refuses what a group refuses that takes no calls: Dismounted by its disk, or NoMemory once
+    /// it is closed.
     pub fn takes_calls(&self) -> Result<(), Refusal>
         ensures ok { OnOk result (IsMounted self.now) }
         ensures cause { IfErr result (IsShut self.now.access) }

@@ -14,7 +14,8 @@ use asm_base::DiskSet;
 use directory_store::DirCopy;
 use status_register::{PstEntry, PstRecord, is_of_entry, is_status};
 
-/// Whether two sets have the same numbers, and each of them the same birth by some entries and by others.
+/// Whether two sets have the same numbers, and each of them the same birth by some entries and by
+/// others.
 fn are_same_disks(one: &[PstEntry], set: DiskSet, other: &[PstEntry], other_set: DiskSet) -> bool
     ensures { OnTrue result (disks_of one.now set ≡ disks_of other.now other_set) }
 {
@@ -29,8 +30,8 @@ fn are_same_disks(one: &[PstEntry], set: DiskSet, other: &[PstEntry], other_set:
     true
 }
 
-/// Whether a record may be written after another by their sets: both stay or the second one alone after two, and the one
-/// stays, with or without next holders, after one.
+/// Whether a record may be written after another by their sets: both stay or the second one alone
+/// after two, and the one stays, with or without next holders, after one.
 fn follows(value: &PstRecord, next: &PstRecord) -> bool
     ensures { OnTrue result (Follows value.now next.now) }
 {
@@ -47,9 +48,11 @@ fn follows(value: &PstRecord, next: &PstRecord) -> bool
 }
 
 impl Mounted {
-    /// Whether a record may come next, so that `set_status` may write it: it is one of this group and of the formats, not marked gone, may
-    /// be written after the one that holds, is reached by the attached disks and has their births, names copies that the group has, and its
-    /// entries have the units of all homes. It takes no memory. Work goes by the record and by the units that it takes away.
+    /// Whether a record may come next, so that `set_status` may write it: it is one of this group
+    /// and of the formats, not marked gone, may be written after the one that holds, is reached by
+    /// the attached disks and has their births, names copies that the group has, and its entries
+    /// have the units of all homes. It takes no memory. Work goes by the record and by the units
+    /// that it takes away.
     pub fn may_get(&self, next: &PstRecord) -> bool
         ensures { OnTrue result (IsNextOf self.now next.now) }
     {
@@ -62,7 +65,8 @@ impl Mounted {
         self.catalog.covers(next.entries())
     }
 
-    /// Whether the record is one of the group, not marked gone, may be written after the one that holds, and is reached.
+    /// Whether the record is one of the group, not marked gone, may be written after the one that
+    /// holds, and is reached.
     fn is_record(&self, next: &PstRecord) -> bool
         ensures { OnTrue result (IsRecordOf self.now next.now) }
     {

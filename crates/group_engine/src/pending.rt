@@ -1,4 +1,5 @@
-//! The pending operation is ended: one that a stop left, or one that a command gives up or has done but for its tail.
+//! The pending operation is ended: one that a stop left, or one that a command gives up or has done
+//! but for its tail.
 ghost use Rattle.std.specs.Prelude.{◌≡◌, ◌≤◌, IfErr, IfSome, IsTrue, None, OnErr, OnOk, is_some};
 ghost use Rattle.std.specs.Bool.{OnTrue};
 ghost use Rattle.asm_group.specs.Shape.{is_shape};
@@ -83,7 +84,8 @@ fn chunks_of(catalog: &Catalog, file: u32) -> u32 {
     count
 }
 
-/// Whether a chunk has nothing to cut from a place on: it keeps its first extents, and has no others.
+/// Whether a chunk has nothing to cut from a place on: it keeps its first extents, and has no
+/// others.
 fn is_cut(catalog: &Catalog, file: u32, chunk: u32, from: u32) -> bool {
     let index = chunk as u64 * CHUNK + from as u64;
     if from == 0 || index > u32::MAX as u64 {
@@ -96,7 +98,8 @@ fn is_cut(catalog: &Catalog, file: u32, chunk: u32, from: u32) -> bool {
     catalog.homes(extent).is_none()
 }
 
-/// The place in the last chunk of a file from which its extents may go: None where the chunk isn't the last, or none of them does.
+/// The place in the last chunk of a file from which its extents may go: None where the chunk isn't
+/// the last, or none of them does.
 fn cut_of(catalog: &Catalog, file: u32, chunk: u32) -> Option<u32>
     requires shape { IsTrue (is_shape catalog.now.shape) }
     requires tables { AreTables catalog.now.tables }
@@ -130,26 +133,29 @@ fn may_end(catalog: &Catalog) -> bool
 }
 
 impl Mounted {
-    /// Ends the pending operation, where there is one: the extents that its file hasn't by its size go, chunk by chunk from the
-    /// last, and then the operation. What its record says of its kind and of extents decides nothing. Refusals: Dismounted, where
-    /// the group is, or as a commit finds it; NoMemory. After a refusal the group takes no calls: after NoMemory it is closed, and
-    /// the next mount ends the operation.
+    /// Ends the pending operation, where there is one: the extents that its file hasn't by its size
+    /// go, chunk by chunk from the last, and then the operation. What its record says of its kind
+    /// and of extents decides nothing. Refusals: Dismounted, where the group is, or as a commit
+    /// finds it; NoMemory. After a refusal the group takes no calls: after NoMemory it is closed,
+    /// and the next mount ends the operation.
     pub fn end_pending<B: Bay>(&mut self, alloc: Global, bay: &mut B) -> Result<(), Refusal>
         requires whole { IsMounted self.old → IsWhole self.old }
         requires ready { IsMounted self.old → IsReady self.old (B.state bay.old) }
         ensures keeps { KeepsGroup self.old self.new (B.state bay.old) (B.state bay.new) }
         ensures cause { IfErr result (StatusCause self.old self.new (B.state bay.old)
             (B.state bay.new)) }
-        // Whatever it answers, the record that holds has the entries and the sets of the one before, and no directory copy more.
+        // Whatever it answers, the record that holds has the entries and the sets of the one
+        // before, and no directory copy more.
         ensures status { KeepsRecord self.old.register.value self.new.register.value }
-        // Once it is done, the group takes calls, nothing is pending, and the files have their heads.
+        // Once it is done, the group takes calls, nothing is pending, and the files have their
+        // heads.
         ensures mounted { OnOk result (IsMounted self.new) }
         ensures ended { OnOk result (self.new.catalog.tables.operations.pending ≡ None) }
         ensures files { OnOk result (self.new.catalog.tables.files
             ≡ self.old.catalog.tables.files) }
         ensures names { OnOk result (KeepsNames self.old.catalog.tables self.new.catalog.tables) }
-        // The group stays the one that it is: each image of each moment is held for it alone, whatever comes, and once it is done
-        // it is mounted.
+        // The group stays the one that it is: each image of each moment is held for it alone,
+        // whatever comes, and once it is done it is mounted.
         ensures moments { StandsThrough self.old (B.state bay.old) (B.state bay.new) }
         ensures done { OnOk result (StaysMounted self.old self.new (B.state bay.old)
             (B.state bay.new)) }
@@ -166,7 +172,8 @@ impl Mounted {
         }
     }
 
-    /// Ends the pending operation of a group that takes calls, and closes the group where there is no memory.
+    /// Ends the pending operation of a group that takes calls, and closes the group where there is
+    /// no memory.
     fn end_or_close<B: Bay>(&mut self, alloc: Global, bay: &mut B) -> Result<(), Refusal>
         requires mounted { IsMounted self.old }
         requires whole { IsWhole self.old }
@@ -244,7 +251,8 @@ impl Mounted {
         }
     }
 
-    /// Takes away the record of the pending operation. Its file is cut by then, so that each chunk left is one of a file.
+    /// Takes away the record of the pending operation. Its file is cut by then, so that each chunk
+    /// left is one of a file.
     fn end_record<B: Bay>(&mut self, alloc: Global, bay: &mut B) -> Result<(), Refusal>
         requires mounted { IsMounted self.old }
         requires whole { IsWhole self.old }

@@ -12,7 +12,8 @@ use rebalance::{Catalog, Cursor, Next, next_move_from};
 use status_register::PstRecord;
 use std::marker::Model;
 
-/// Where the search goes on, and whether no home is known to lie on a disk of a quorum failure group, as the search asks.
+/// Where the search goes on, and whether no home is known to lie on a disk of a quorum failure
+/// group, as the search asks.
 #[derive(Clone, Copy)]
 pub(crate) struct Search {
     cursor: Cursor,
@@ -40,8 +41,8 @@ impl Search {
         }
     }
 
-    /// The next move of the rebalance. None where a home lies on a quorum disk. All homes are asked for that once alone, and all
-    /// chunks for the move from the cursor's places on.
+    /// The next move of the rebalance. None where a home lies on a quorum disk. All homes are asked
+    /// for that once alone, and all chunks for the move from the cursor's places on.
     pub(crate) fn next(&mut self, catalog: &Catalog, status: &PstRecord) -> Option<Next>
         requires status { IsTrue (is_status status.now) }
         requires units { HasUnits catalog.now.shape status.now.entries catalog.now.tables
@@ -58,7 +59,8 @@ impl Search {
         Some(next_move_from(catalog, status, &mut self.cursor))
     }
 
-    /// The chunk of an extent has changed: the cursor follows, and the homes of that chunk alone are asked.
+    /// The chunk of an extent has changed: the cursor follows, and the homes of that chunk alone
+    /// are asked.
     pub(crate) fn follow(&mut self, catalog: &Catalog, status: &PstRecord, extent: ExtentId)
         requires tables { AreTables catalog.now.tables }
         requires search { WasSearchOf (extent.file, extent.index / 256) catalog.now status.now

@@ -21,12 +21,14 @@ use status_register::PstRecord;
 use std::alloc::Global;
 
 impl Mounted {
-    /// Writes a status record under the next number, and brings the units of the catalog and the directory copies to it. The
-    /// record names no other copies than the one before. Refusals: Dismounted, where the group is, or where in this call a majority of a set of
-    /// the record failed; NoMemory. NoMemory leaves the value as before.
+    /// Writes a status record under the next number, and brings the units of the catalog and the
+    /// directory copies to it. The record names no other copies than the one before. Refusals:
+    /// Dismounted, where the group is, or where in this call a majority of a set of the record
+    /// failed; NoMemory. NoMemory leaves the value as before.
     ///
-    /// Where the record gives each disk as many units as the one before, the unit maps stay, and work goes by the record. Otherwise
-    /// work and memory go by the record and by the units of the disks whose number of units it changes.
+    /// Where the record gives each disk as many units as the one before, the unit maps stay, and
+    /// work goes by the record. Otherwise work and memory go by the record and by the units of the
+    /// disks whose number of units it changes.
     pub fn set_status<B: Bay>(
         &mut self,
         alloc: Global,

@@ -10,9 +10,10 @@ use group_engine::Mounted;
 use refusal_lines::Refusal;
 use std::alloc::Global;
 
-/// Gives an attribute that may be set at any time another value, as it is written in the statement. The refusals are tried in
-/// this order: BadAttribute, where there is no such attribute or it can't have the value, Dismounted. NoMemory comes at any
-/// point. After Dismounted the images stand for the group before or the one after, after another refusal for the one before.
+/// Gives an attribute that may be set at any time another value, as it is written in the statement.
+/// The refusals are tried in this order: BadAttribute, where there is no such attribute or it can't
+/// have the value, Dismounted. NoMemory comes at any point. After Dismounted the images stand for
+/// the group before or the one after, after another refusal for the one before.
 #[tactic(auto, using(crate::proofs::Edits::nothing_done))]
 pub fn edit_attribute<B: Bay>(
     m: &mut Mounted,

@@ -24,7 +24,8 @@ pub enum GroupEdit {
     Tree(TreeEdit),
     /// Of its templates.
     Templates(TemplateEdit),
-    /// An attribute that may be set at any time gets another value, as it is written in the statement.
+    /// An attribute that may be set at any time gets another value, as it is written in the
+    /// statement.
     SetAttribute { name: Name, value: Text },
 }
 
@@ -48,7 +49,8 @@ fn keeps_files(edit: &TreeEdit) -> bool
     !matches!(edit, TreeEdit::AddFile { .. } | TreeEdit::DropFile { .. })
 }
 
-/// Edits a group. NoName where the edit isn't allowed; then the refusals of `edit_tree`, `edit_template` or `edit_attribute`.
+/// Edits a group. NoName where the edit isn't allowed; then the refusals of `edit_tree`,
+/// `edit_template` or `edit_attribute`.
 #[tactic(auto, using(crate::proofs::Edits::nothing_done, crate::proofs::Edits::none_run))]
 pub fn edit_group<B: Bay>(
     m: &mut Mounted,

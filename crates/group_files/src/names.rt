@@ -11,9 +11,10 @@ use group_engine::{Mounted, TreeEdit};
 use refusal_lines::Refusal;
 use std::alloc::Global;
 
-/// Edits the tree of a group's names. The refusals are tried in this order: those of the edit, DirectoryFull where it makes a
-/// name and no block is free, Dismounted. NoMemory comes at any point. After Dismounted the images stand for the group before
-/// or the one after, after another refusal for the one before. Files come and go by other calls.
+/// Edits the tree of a group's names. The refusals are tried in this order: those of the edit,
+/// DirectoryFull where it makes a name and no block is free, Dismounted. NoMemory comes at any
+/// point. After Dismounted the images stand for the group before or the one after, after another
+/// refusal for the one before. Files come and go by other calls.
 #[tactic(auto, using(crate::proofs::Edits::nothing_done))]
 pub fn edit_tree<B: Bay>(
     m: &mut Mounted,

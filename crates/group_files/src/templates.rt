@@ -14,10 +14,11 @@ use refusal_lines::Refusal;
 use std::alloc::Global;
 use template_directory::TemplateEdit;
 
-/// Edits a group's templates. The refusals are tried in this order: those of the edit (of Add NameTaken, BadRedundancy and
-/// TooMany, of Modify NoTemplate and BadRedundancy, of Drop NoTemplate and SystemTemplate), Dismounted. NoMemory comes at any
-/// point. After Dismounted the images stand for the group before or the one after, after another refusal for the one before.
-/// Files that are there stay as they are.
+/// Edits a group's templates. The refusals are tried in this order: those of the edit (of Add
+/// NameTaken, BadRedundancy and TooMany, of Modify NoTemplate and BadRedundancy, of Drop NoTemplate
+/// and SystemTemplate), Dismounted. NoMemory comes at any point. After Dismounted the images stand
+/// for the group before or the one after, after another refusal for the one before. Files that are
+/// there stay as they are.
 #[tactic(auto, using(crate::proofs::Edits::nothing_done))]
 pub fn edit_template<B: Bay>(
     m: &mut Mounted,

@@ -1,4 +1,5 @@
-//! Files that come, change their size and go, in the catalog and in the world. Each function does nothing; its contract is the law.
+//! Files that come, change their size and go, in the catalog and in the world. Each function does
+//! nothing; its contract is the law.
 ghost use Rattle.group_of.specs.Files.{CheckIsWorlds, MadeNumberIsWorlds, NameRefusalIsWorlds, NewFileIsWorlds, NewNameIsWorlds, NewNameLeadsOn, NextNumberIsWorlds, PutHasCells, RemovalIsWorlds, RemovalKeepsCells, RemovalLeadsOn, ResizedCellsAreLong, ResizedHasCells, SizeIsWorlds, SizeLeadsOn};
 
 /// The tables with another size of a file are the world's group in which the file has other cells.
@@ -12,8 +13,8 @@ pub fn resized_files_have_cells()
     ensures length { ResizedCellsAreLong }
 {}
 
-/// The tables to which the plan of a new file's name leads are the world's group with the file, which is the one that the world
-/// makes.
+/// The tables to which the plan of a new file's name leads are the world's group with the file,
+/// which is the one that the world makes.
 pub fn new_files_are_the_worlds()
     ensures group { NewNameIsWorlds }
     ensures file { NewFileIsWorlds }
@@ -25,14 +26,16 @@ pub fn numbers_are_the_worlds()
     ensures made { MadeNumberIsWorlds }
 {}
 
-/// What refuses the check of a new file's name is what the world refuses the file by, or want of memory. So is what refuses the
-/// plan of the name, or it is want of blocks for a file that the world makes.
+/// What refuses the check of a new file's name is what the world refuses the file by, or want of
+/// memory. So is what refuses the plan of the name, or it is want of blocks for a file that the
+/// world makes.
 pub fn refusals_of_names_are_the_worlds()
     ensures check { CheckIsWorlds }
     ensures name { NameRefusalIsWorlds }
 {}
 
-/// The tables without a file and its names are the world's group without it, with the cells of the others.
+/// The tables without a file and its names are the world's group without it, with the cells of the
+/// others.
 pub fn removals_are_the_worlds()
     ensures group { RemovalIsWorlds }
     ensures cells { RemovalKeepsCells }
@@ -43,8 +46,8 @@ pub fn put_files_have_their_cells()
     ensures { PutHasCells }
 {}
 
-/// Where the tables describe a group, those to which the plan of a removal, of another size or of a new file's name leads
-/// describe the world's group after it.
+/// Where the tables describe a group, those to which the plan of a removal, of another size or of a
+/// new file's name leads describe the world's group after it.
 pub fn files_lead_on()
     ensures removal { RemovalLeadsOn }
     ensures size { SizeLeadsOn }

@@ -16,7 +16,8 @@ use record_laws::{
 use refusal_lines::Refusal;
 use std::alloc::Global;
 
-/// Takes disks Offline since a second, with the repair time of the group's attribute. Refusals: Dismounted; NoMemory.
+/// Takes disks Offline since a second, with the repair time of the group's attribute. Refusals:
+/// Dismounted; NoMemory.
 pub(crate) fn take_offline<B: Bay>(
     m: &mut Mounted,
     alloc: Global,
@@ -30,7 +31,8 @@ pub(crate) fn take_offline<B: Bay>(
     ensures tables { m.new.catalog.tables ≡ m.old.catalog.tables }
     ensures offline { OnOk result (AreOffline failed since m.new.register.value) }
     ensures still { failed ≡ 0 → bay.new ≡ bay.old }
-    // A group that is mounted is held all the while, and mounted once it is done, where these disks serve.
+    // A group that is mounted is held all the while, and mounted once it is done, where these disks
+    // serve.
     ensures held { FailedHeld m.old failed result m.new (B.state bay.old) (B.state bay.new) }
     // A record costs a turn, and one disk at least that served.
     ensures turns { OnOk result (CostsFaults m.old failed m.new) }
@@ -45,7 +47,8 @@ pub(crate) fn take_offline<B: Bay>(
     }
 }
 
-/// The record with disks Offline since a second. Where one of them was being dropped, it joins the table of partners again.
+/// The record with disks Offline since a second. Where one of them was being dropped, it joins the
+/// table of partners again.
 fn with_failed(
     alloc: Global,
     status: &PstRecord,

@@ -16,8 +16,9 @@ use record_laws::{Extent, Mounted};
 use refusal_lines::Refusal;
 use std::alloc::Global;
 
-/// Marks the copies of an extent stale that are there and aren't marked, and that didn't take the bytes from an inner byte on, which the
-/// usable ones took but those on disks that failed. Refusals: Dismounted; NoMemory.
+/// Marks the copies of an extent stale that are there and aren't marked, and that didn't take the
+/// bytes from an inner byte on, which the usable ones took but those on disks that failed.
+/// Refusals: Dismounted; NoMemory.
 pub(crate) fn mark_left<B: Bay>(
     m: &mut Mounted,
     alloc: Global,
@@ -32,7 +33,8 @@ pub(crate) fn mark_left<B: Bay>(
     ensures goes { GoesOn m.old result m.new (B.state bay.old) (B.state bay.new) }
     ensures marked { OnOk result (AreMarked m.old x inner failed m.new.catalog.tables) }
     ensures still { left_of m.old x inner failed ≡ 0 → bay.new ≡ bay.old }
-    // A group that is mounted with the piece Free is held so all the while, and mounted with the bytes once it is done.
+    // A group that is mounted with the piece Free is held so all the while, and mounted with the
+    // bytes once it is done.
     ensures held { RecordsHeld m.old x inner failed result m.new (B.state bay.old)
         (B.state bay.new) }
     // Heads, names, homes and marks stay, but that copies are marked.
@@ -78,7 +80,8 @@ fn is_left(m: &Mounted, extent: &Extent, inner: u64, failed: DiskSet, copy: u8) 
         && !took(place(m, extent, copy, inner), failed)
 }
 
-/// Whether the copy at a place took the bytes: it is there, and its disk isn't one of those that failed.
+/// Whether the copy at a place took the bytes: it is there, and its disk isn't one of those that
+/// failed.
 fn took(place: Option<Place>, failed: DiskSet) -> bool
     ensures { result ≡ took failed place }
 {

@@ -10,8 +10,8 @@ use asm_base::{DiskSet, ExtentId};
 use bay::{Bay, Fault};
 use record_laws::{Flight, Mounted};
 
-/// Writes to the new copy of the move that is on its way, where it moves the extent. The move is given up where that fails, or where a
-/// disk has failed, since its mode is about to change.
+/// Writes to the new copy of the move that is on its way, where it moves the extent. The move is
+/// given up where that fails, or where a disk has failed, since its mode is about to change.
 pub(crate) fn follow_move<B: Bay>(
     m: &mut Mounted,
     bay: &mut B,

@@ -23,11 +23,13 @@ use record_laws::Mounted;
 use refusal_lines::{DiskRef, Refusal};
 use std::alloc::Global;
 
-/// Writes and syncs bytes of an extent, from an inner byte on, at its usable copies. A copy that didn't take them is marked stale, and a
-/// disk that failed is taken Offline since `now`, in seconds. The new copy of a move that is on its way takes them too, as far as it was
-/// copied; the move is given up where that fails or a mode changes. The inner byte and the length are multiples of 512 bytes. Gives the
-/// set of the disks that failed. Refusals: Lost, where no copy is usable; WriteFault, where all usable ones failed, with the disk of the
-/// first; Dismounted; NoMemory, after which the group takes no calls where some copies took the bytes.
+/// Writes and syncs bytes of an extent, from an inner byte on, at its usable copies. A copy that
+/// didn't take them is marked stale, and a disk that failed is taken Offline since `now`, in
+/// seconds. The new copy of a move that is on its way takes them too, as far as it was copied; the
+/// move is given up where that fails or a mode changes. The inner byte and the length are multiples
+/// of 512 bytes. Gives the set of the disks that failed. Refusals: Lost, where no copy is usable;
+/// WriteFault, where all usable ones failed, with the disk of the first; Dismounted; NoMemory,
+/// after which the group takes no calls where some copies took the bytes.
 pub fn write_piece<B: Bay>(
     m: &mut Mounted,
     alloc: Global,
@@ -52,11 +54,13 @@ pub fn write_piece<B: Bay>(
     ensures failed { IfOk result (λ failed. AreRisen m.old failed (B.state bay.old)
         (B.state bay.new)) }
     ensures some { OnOk result (AreNone (places_at m.old x inner) → ⊥) }
-    // Each copy that is there and didn't take the bytes bears a mark, and the disks that failed are Offline.
+    // Each copy that is there and didn't take the bytes bears a mark, and the disks that failed are
+    // Offline.
     ensures marked { IfOk result (λ failed. AreMarked m.old x inner failed m.new.catalog.tables) }
     ensures offline { IfOk result (λ failed. AreOffline failed now m.new.register.value) }
     ensures mounted { OnOk result (IsMounted m.new) }
-    // A group that is mounted is held with the piece's cells Free all the while, and mounted with the bytes once it is done.
+    // A group that is mounted is held with the piece's cells Free all the while, and mounted with
+    // the bytes once it is done.
     ensures held { PieceHeld m.old x inner bytes.now result m.new (B.state bay.old)
         (B.state bay.new) }
     // Where no copy is usable nothing was done.
@@ -94,7 +98,8 @@ fn write_mounted<B: Bay>(
     ensures marked { IfOk result (λ failed. AreMarked m.old x inner failed m.new.catalog.tables) }
     ensures offline { IfOk result (λ failed. AreOffline failed now m.new.register.value) }
     ensures mounted { OnOk result (IsMounted m.new) }
-    // A group that is mounted is held with the piece's cells Free all the while, and mounted with the bytes once it is done.
+    // A group that is mounted is held with the piece's cells Free all the while, and mounted with
+    // the bytes once it is done.
     ensures held { PieceHeld m.old x inner bytes.now result m.new (B.state bay.old)
         (B.state bay.new) }
     // Where no copy is usable nothing was done.
@@ -124,7 +129,8 @@ fn refusal_of(x: ExtentId, error: WriteError) -> Refusal
     }
 }
 
-/// Records what failed. Where memory is wanted the group takes no more calls, as copies differ then.
+/// Records what failed. Where memory is wanted the group takes no more calls, as copies differ
+/// then.
 fn settle<B: Bay>(
     m: &mut Mounted,
     alloc: Global,
@@ -143,7 +149,8 @@ fn settle<B: Bay>(
     ensures still { failed ≡ 0 → left_of m.old x inner failed ≡ 0 → bay.new ≡ bay.old }
     // Heads, names, homes and marks stay, but that copies are marked.
     ensures places { OnOk result (MarksMore m.old.catalog.tables m.new.catalog.tables) }
-    // A group that is mounted with the piece Free is held so all the while, and mounted with the bytes once it is done.
+    // A group that is mounted with the piece Free is held so all the while, and mounted with the
+    // bytes once it is done.
     ensures held { RecordsHeld m.old x inner failed result m.new (B.state bay.old)
         (B.state bay.new) }
     // Where the disks that failed serve, turns are taken by faults alone.
@@ -161,8 +168,8 @@ fn settle<B: Bay>(
     }
 }
 
-/// Marks the copies that didn't take the bytes, and takes the disks that failed Offline: marks come first, so that no image shows a
-/// copy as current that lacks the bytes.
+/// Marks the copies that didn't take the bytes, and takes the disks that failed Offline: marks come
+/// first, so that no image shows a copy as current that lacks the bytes.
 fn record_faults<B: Bay>(
     m: &mut Mounted,
     alloc: Global,
@@ -181,7 +188,8 @@ fn record_faults<B: Bay>(
     ensures still { failed ≡ 0 → left_of m.old x inner failed ≡ 0 → bay.new ≡ bay.old }
     // Heads, names, homes and marks stay, but that copies are marked.
     ensures places { OnOk result (MarksMore m.old.catalog.tables m.new.catalog.tables) }
-    // A group that is mounted with the piece Free is held so all the while, and mounted with the bytes once it is done.
+    // A group that is mounted with the piece Free is held so all the while, and mounted with the
+    // bytes once it is done.
     ensures held { RecordsHeld m.old x inner failed result m.new (B.state bay.old)
         (B.state bay.new) }
     // Where the disks that failed serve, turns are taken by faults alone.

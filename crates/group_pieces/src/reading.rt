@@ -24,8 +24,8 @@ pub enum ReadError {
     Fault { disk: u8 },
 }
 
-/// Fills the buffer with the bytes of an extent from an inner byte on, from the first usable copy that reads. The inner byte and the
-/// length are multiples of 512 bytes.
+/// Fills the buffer with the bytes of an extent from an inner byte on, from the first usable copy
+/// that reads. The inner byte and the length are multiples of 512 bytes.
 pub fn read_piece<B: Bay>(
     m: &Mounted,
     bay: &mut B,

@@ -15,8 +15,8 @@ use bay::{Bay, Fault};
 use disk_sizes::region_bytes;
 use record_laws::Mounted;
 
-/// Writes and syncs bytes of units of an attached disk, from an inner byte of them on. The inner byte and the length are multiples of
-/// 512 bytes.
+/// Writes and syncs bytes of units of an attached disk, from an inner byte of them on. The inner
+/// byte and the length are multiples of 512 bytes.
 pub fn write_spare<B: Bay>(
     m: &Mounted,
     bay: &mut B,
@@ -52,7 +52,8 @@ fn byte_of(m: &Mounted, home: Home, inner: u64) -> u64
     home.unit as u64 * m.catalog().shape().au as u64 + inner
 }
 
-/// Writes and syncs bytes at a home that a move goes to. Fault where the disk has no such bytes behind its directory region, too.
+/// Writes and syncs bytes at a home that a move goes to. Fault where the disk has no such bytes
+/// behind its directory region, too.
 pub(crate) fn write_moved<B: Bay>(
     m: &Mounted,
     bay: &mut B,
@@ -73,7 +74,8 @@ pub(crate) fn write_moved<B: Bay>(
     write_synced(bay, place.slot, place.at, bytes)
 }
 
-/// Where so many bytes from an inner byte of a home on are, if its disk is attached and has them behind its directory region.
+/// Where so many bytes from an inner byte of a home on are, if its disk is attached and has them
+/// behind its directory region.
 fn run_at(m: &Mounted, home: Home, inner: u64, len: u64) -> Option<Place>
     requires { inner < 2 ^ 32 }
     ensures run { IfSome result (IsRunAt m.now len) }

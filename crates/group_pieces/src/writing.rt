@@ -20,8 +20,9 @@ pub enum WriteError {
     Fault { disk: u8 },
 }
 
-/// Writes and syncs bytes of an extent, from an inner byte on, at its usable copies, past faults. Gives the set of the disks that
-/// failed, where at least one copy took the bytes. The inner byte and the length are multiples of 512 bytes.
+/// Writes and syncs bytes of an extent, from an inner byte on, at its usable copies, past faults.
+/// Gives the set of the disks that failed, where at least one copy took the bytes. The inner byte
+/// and the length are multiples of 512 bytes.
 pub fn write_usable<B: Bay>(
     m: &Mounted,
     bay: &mut B,

@@ -47,8 +47,8 @@ fn are_alike(header: &Header, other: &Header) -> bool
     header.group.is_same(&other.group) && is_same_shape(shape_of(header), shape_of(other))
 }
 
-/// Whether a disk has the id of another one, and isn't a further disk of its group: it has another name or shape, or the
-/// other's number and birth.
+/// Whether a disk has the id of another one, and isn't a further disk of its group: it has another
+/// name or shape, or the other's number and birth.
 fn clashes(disk: &Headed, other: &Headed) -> bool
     ensures { result ≡ clashes disk.now other.now }
 {

@@ -25,7 +25,8 @@ pub enum Verdict {
     Short { seen: u8, need: u8 },
 }
 
-/// An id of which a majority was read, and the slot and block of the first body that doesn't decode.
+/// An id of which a majority was read, and the slot and block of the first body that doesn't
+/// decode.
 #[derive(Clone, Copy, Debug, PartialEq, Eq)]
 pub struct WholeId {
     pub id: u64,
@@ -40,7 +41,8 @@ pub struct ShortId {
     pub need: u8,
 }
 
-/// What was found of the ids of a name: one that is whole, whether there is a second one, and the greatest of those that are short.
+/// What was found of the ids of a name: one that is whole, whether there is a second one, and the
+/// greatest of those that are short.
 #[derive(Clone, Copy, Debug, PartialEq, Eq)]
 pub struct Choice {
     pub whole: Option<WholeId>,
@@ -152,7 +154,8 @@ fn put_unread(read: &[Member], members: &[Member], unread: &mut Vec<u32>) -> Res
     put_unread(read, rest, unread)
 }
 
-/// Puts the slots of the members that a survey couldn't read behind others. Of a survey that is refused nothing is told.
+/// Puts the slots of the members that a survey couldn't read behind others. Of a survey that is
+/// refused nothing is told.
 fn note_unread(
     answer: &Result<Survey, SurveyError>,
     members: &[Member],
@@ -220,7 +223,8 @@ fn with_verdict(choice: Choice, id: u64, verdict: Verdict) -> Choice
     }
 }
 
-/// Surveys these ids, one after the other, and chooses one. The slots of members that couldn't be read are put behind others.
+/// Surveys these ids, one after the other, and chooses one. The slots of members that couldn't be
+/// read are put behind others.
 pub fn choose<B: Bay>(
     alloc: Global,
     bay: &mut B,

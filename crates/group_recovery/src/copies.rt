@@ -1,4 +1,5 @@
-// The directory copies that are read: those that a record names on disks of its entries that were read and have all their units.
+// The directory copies that are read: those that a record names on disks of its entries that were
+// read and have all their units.
 ghost use Rattle.std.specs.Prelude.{◌≡◌, ◌++◌, ◌==◌, [], IfOk, OnOk};
 ghost use Rattle.std.specs.List.{list_any};
 ghost use Rattle.asm_formats.specs.Regions.{has_region};
@@ -35,7 +36,8 @@ pub fn has_region(dir_blocks: u32, size: u64) -> bool
     region_bytes(dir_blocks) <= size
 }
 
-/// Whether a member of an id was read, has all its units and a whole directory region, and a copy there that the record names.
+/// Whether a member of an id was read, has all its units and a whole directory region, and a copy
+/// there that the record names.
 fn is_named_copy(id: u64, read: &[Member], status: &PstRecord, headed: &Headed) -> bool
     ensures { result ≡ is_named_copy id read.now status.now headed.now }
 {

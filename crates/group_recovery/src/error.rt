@@ -5,14 +5,16 @@ ghost use Rattle.group_recovery.specs.declared.error.MountError.TheVariants.{NoM
 
 use asm_base::{Name, NoMemory};
 
-/// Why a group isn't mounted. In the order of the tests, but that want of memory comes at any point.
+/// Why a group isn't mounted. In the order of the tests, but that want of memory comes at any
+/// point.
 #[derive(Debug, Drop)]
 pub enum MountError {
     /// No open header of the name was read, but those of ids that are gone.
     NoGroup,
     /// Two ids of the name have a majority each.
     TwoGroups,
-    /// Of a set fewer disks were read, or took the claim, than are needed. One is needed where no record was read.
+    /// Of a set fewer disks were read, or took the claim, than are needed. One is needed where no
+    /// record was read.
     NoMajority { seen: u8, need: u8 },
     /// The first block that must decode and doesn't, or the record at fault.
     Damaged { slot: u32, block: u64 },

@@ -16,7 +16,8 @@ pub struct Headed {
     pub header: Header,
 }
 
-/// Looks at every image, and gives those with an open header. Each is attached and synced before its header is read.
+/// Looks at every image, and gives those with an open header. Each is attached and synced before
+/// its header is read.
 pub fn find_headed<B: Bay>(
     alloc: Global,
     bay: &mut B,

@@ -113,9 +113,11 @@ fn found_of(id: u64, slots: u32, headed: Vec<Headed>, unread: &[u32]) -> Found
 }
 
 impl Found {
-    /// Attaches and syncs every image, reads the headers and surveys each id of the name, all its members. The one id with a majority of each set of its
-    /// record is taken; an id that is gone is passed over. Disks that failed are left out, those in the surveys too. The refusals are tried in this order:
-    /// NoGroup, TwoGroups, NoMajority of the greatest id, Damaged in a claim or status body. Nothing is written.
+    /// Attaches and syncs every image, reads the headers and surveys each id of the name, all its
+    /// members. The one id with a majority of each set of its record is taken; an id that is gone
+    /// is passed over. Disks that failed are left out, those in the surveys too. The refusals are
+    /// tried in this order: NoGroup, TwoGroups, NoMajority of the greatest id, Damaged in a claim
+    /// or status body. Nothing is written.
     pub fn find<B: Bay>(
         alloc: Global,
         bay: &mut B,

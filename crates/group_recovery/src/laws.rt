@@ -46,17 +46,20 @@ pub fn mount_narrows()
     ensures { MountNarrows }
 {}
 
-/// A sound image that is surveyed is sound by a history whose records have numbers below those of the next epoch.
+/// A sound image that is surveyed is sound by a history whose records have numbers below those of
+/// the next epoch.
 pub fn surveyed_is_below()
     ensures { SurveyedIsBelow }
 {}
 
-/// Where headers and the bytes behind the directory regions stay, members and their user bytes are kept.
+/// Where headers and the bytes behind the directory regions stay, members and their user bytes are
+/// kept.
 pub fn left_users_are_kept()
     ensures { LeftUsersAreKept }
 {}
 
-/// A named copy that lags behind may be brought up once the record alone counts: at each moment the image is sound.
+/// A named copy that lags behind may be brought up once the record alone counts: at each moment the
+/// image is sound.
 pub fn bringing_keeps()
     ensures { BringingKeeps }
 {}

@@ -15,7 +15,8 @@ fn serves(mode: Mode) -> bool
     matches!(mode, Mode::Online | Mode::Syncing | Mode::Dropping)
 }
 
-/// Whether an image is the disk of an entry: a member of the id with its number and birth, and at least its units.
+/// Whether an image is the disk of an entry: a member of the id with its number and birth, and at
+/// least its units.
 fn is_disk_of(id: u64, entry: PstEntry, headed: &Headed) -> bool
     ensures { result ≡ is_disk_of id entry headed.now }
 {

@@ -39,8 +39,9 @@ pub enum MountOption {
     NoForce,
 }
 
-/// A group of which a majority was read, with its directories: its id, how many images there are and those with an open header,
-/// what was surveyed, the shape, and the records of the directories as a store and as tables.
+/// A group of which a majority was read, with its directories: its id, how many images there are
+/// and those with an open header, what was surveyed, the shape, and the records of the directories
+/// as a store and as tables.
 #[derive(Drop)]
 pub struct Quorate {
     pub id: u64,
@@ -60,8 +61,8 @@ struct GroupRead {
     store: Store,
 }
 
-/// Refuses a group whose last epoch, 2^64 - 1, is used up: no disk can take a claim above it, and a majority of the record's
-/// holders is needed.
+/// Refuses a group whose last epoch, 2^64 - 1, is used up: no disk can take a claim above it, and a
+/// majority of the record's holders is needed.
 fn check_epoch(survey: &Survey) -> Result<(), MountError>
     ensures left { OnOk result (survey.now.epoch + 1 < 2 ^ 64) }
     ensures cause { IfErr result (IsLastEpochRefusal survey.now) }
@@ -164,7 +165,8 @@ fn check_missing(
     }
 }
 
-/// Surveys the members of an id among these images, and loads their directories. An epoch must be left for the claim.
+/// Surveys the members of an id among these images, and loads their directories. An epoch must be
+/// left for the claim.
 fn read_group<B: Bay>(
     alloc: Global,
     bay: &mut B,
@@ -296,11 +298,12 @@ fn quorate_of<B: Bay>(
 }
 
 impl Found {
-    /// Syncs the group's disks, reads its record and loads its directories. The refusals are tried in this order: NoMajority,
-    /// Damaged in a claim or status body, NoMajority where the last epoch is used up (no disk can take a claim above it, and a
-    /// majority of the record's holders is needed), Damaged in the header of a member that isn't a disk of the group,
-    /// DirectoriesLost, Damaged in the directories, MissingDisk where the mount isn't forced. NoGroup comes where the group is
-    /// found gone. Nothing is written.
+    /// Syncs the group's disks, reads its record and loads its directories. The refusals are tried
+    /// in this order: NoMajority, Damaged in a claim or status body, NoMajority where the last
+    /// epoch is used up (no disk can take a claim above it, and a majority of the record's holders
+    /// is needed), Damaged in the header of a member that isn't a disk of the group,
+    /// DirectoriesLost, Damaged in the directories, MissingDisk where the mount isn't forced.
+    /// NoGroup comes where the group is found gone. Nothing is written.
     pub fn quorate<B: Bay>(
         self,
         alloc: Global,

@@ -64,8 +64,8 @@ fn marked_disks(catalog: &Catalog, entries: &[PstEntry]) -> DiskSet
     set
 }
 
-/// The entry of a disk after a mount: one that would serve and is missing is Offline since this second, and an Online one
-/// with a stale copy is Syncing.
+/// The entry of a disk after a mount: one that would serve and is missing is Offline since this
+/// second, and an Online one with a stale copy is Syncing.
 fn entry_after(entry: PstEntry, missing: bool, marked: bool, now: u64, repair: u64) -> PstEntry
     ensures value { result ≡ entry_after_mount missing marked now repair entry }
     ensures kept { is_entry entry ≡ true → is_entry result ≡ true }
@@ -134,8 +134,8 @@ fn disks_of(copies: &[DirCopy]) -> DiskSet
     disks_of(rest).with(first.number)
 }
 
-/// The record of a mount: missing disks are Offline since now, Online ones with a stale copy Syncing, only copies of the
-/// store are named, and the partners are those of the entries.
+/// The record of a mount: missing disks are Offline since now, Online ones with a stale copy
+/// Syncing, only copies of the store are named, and the partners are those of the entries.
 pub fn next_record(alloc: Global, quorate: &Quorate, now: u64) -> Result<PstRecord, NoMemory>
     requires { MakesRecord quorate.now }
     ensures next { IfOk result (IsNextRecord quorate.now now) }

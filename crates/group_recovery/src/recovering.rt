@@ -34,8 +34,9 @@ use status_register::{Member, Register, Survey, is_of_entry, missing};
 use status_table::{PstEntry, PstRecord};
 use std::alloc::Global;
 
-/// What a group was mounted to: its name as its headers have it, its catalog, its records on the copies that have them, its
-/// register, and its attached disks with the sizes of their images in bytes.
+/// What a group was mounted to: its name as its headers have it, its catalog, its records on the
+/// copies that have them, its register, and its attached disks with the sizes of their images in
+/// bytes.
 #[derive(Drop)]
 pub struct Parts {
     pub name: Name,
@@ -47,8 +48,8 @@ pub struct Parts {
     pub disks: Vec<(Member, u64)>,
 }
 
-/// What a mount is to write and to give beside what it has read: the record, the group's name, and the disks that are those of
-/// its entries, also with the sizes of their images.
+/// What a mount is to write and to give beside what it has read: the record, the group's name, and
+/// the disks that are those of its entries, also with the sizes of their images.
 #[derive(Drop)]
 struct Anew {
     next: PstRecord,
@@ -78,7 +79,8 @@ fn is_own(id: u64, entries: &[PstEntry], headed: &Headed) -> bool
         && (is_of_entry(entries, member_of(headed)) && has_units(entries, headed))
 }
 
-/// Puts the disks of an id that are disks of entries behind others, each with the size of its image.
+/// Puts the disks of an id that are disks of entries behind others, each with the size of its
+/// image.
 fn put_disks(
     id: u64,
     entries: &[PstEntry],
@@ -183,7 +185,8 @@ fn refusal_of_renew(headed: &[Headed], error: RenewError) -> MountError
     }
 }
 
-/// What a mount at this second is to write and to give. NoMajority, where too few disks of a set are there with all their units.
+/// What a mount at this second is to write and to give. NoMajority, where too few disks of a set
+/// are there with all their units.
 fn make_anew(alloc: Global, quorate: &Quorate, now: u64) -> Result<Anew, MountError>
     requires makes { MakesRecord quorate.now }
     requires renews { (next : Status) → IsNextRecord quorate.now now next
@@ -204,8 +207,8 @@ fn make_anew(alloc: Global, quorate: &Quorate, now: u64) -> Result<Anew, MountEr
     })
 }
 
-/// Writes the record of a survey anew, and gives its register with all these members that are disks of its entries, also those
-/// that couldn't be synced.
+/// Writes the record of a survey anew, and gives its register with all these members that are disks
+/// of its entries, also those that couldn't be synced.
 fn write_register<B: Bay>(
     bay: &mut B,
     survey: Survey,
@@ -221,7 +224,8 @@ fn write_register<B: Bay>(
     ensures attached { KeepsAttached (B.state bay.old) (B.state bay.new) }
     ensures front { Runs (IsSlotOf survey.members) (ChangesOnly (FrontOf survey.members))
         (B.state bay.old) (B.state bay.new) }
-    // What `renew` says of the groups, and that the register keeps the history with all these members.
+    // What `renew` says of the groups, and that the register keeps the history with all these
+    // members.
     ensures groups { EachMount survey next.now
         (λ mount. KeepsGroups mount (B.state bay.old) (B.state bay.new)) }
     ensures held { OnOk result (EachMount survey next.now
@@ -285,11 +289,12 @@ fn write_parts<B: Bay>(bay: &mut B, quorate: Quorate, anew: Anew) -> Result<Part
 }
 
 impl Quorate {
-    /// Claims the next epoch, and writes the group's record anew: missing disks are Offline since now, Online ones with a stale
-    /// copy Syncing, and only directory copies that have the content are named. Gives what the group is mounted to: a disk is
-    /// attached where its image is the one of an entry and has at least its units. Refusals: NoMajority, where so few disks of a
-    /// set are attached, or so few members took the claim; Dead, where too few took the record; NoMemory, before the first
-    /// write or where a name in a refusal wants it.
+    /// Claims the next epoch, and writes the group's record anew: missing disks are Offline since
+    /// now, Online ones with a stale copy Syncing, and only directory copies that have the content
+    /// are named. Gives what the group is mounted to: a disk is attached where its image is the one
+    /// of an entry and has at least its units. Refusals: NoMajority, where so few disks of a set
+    /// are attached, or so few members took the claim; Dead, where too few took the record;
+    /// NoMemory, before the first write or where a name in a refusal wants it.
     pub fn recover<B: Bay>(self, alloc: Global, bay: &mut B, now: u64) -> Result<Parts, MountError>
         requires { IsQuorum self (B.state bay.old) }
         ensures parts { IfOk result (λ parts. ArePartsOf self now parts (B.state bay.new)) }
@@ -303,7 +308,8 @@ impl Quorate {
         // These are members of its id, and stay so.
         ensures members { Runs (IsSlotIn self.headed.items) (ChangesMembers self.id)
             (B.state bay.old) (B.state bay.new) }
-        // Each image of each moment stands for groups that it might stand for before; in the end one group is left.
+        // Each image of each moment stands for groups that it might stand for before; in the end
+        // one group is left.
         ensures leaves { (groups : List Group) → StoodFor self groups (B.state bay.old)
             → LeavesGroups self groups result (B.state bay.old) (B.state bay.new) }
     {

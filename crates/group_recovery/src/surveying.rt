@@ -68,8 +68,8 @@ fn survey_members<B: Bay>(
     answer_of(answer)
 }
 
-/// Syncs the disks of an id and surveys those that could be synced. What is read is what each image that a stop may leave says.
-/// A group that is gone is none. Nothing is written.
+/// Syncs the disks of an id and surveys those that could be synced. What is read is what each image
+/// that a stop may leave says. A group that is gone is none. Nothing is written.
 pub fn survey_named<B: Bay>(
     alloc: Global,
     bay: &mut B,

@@ -1,4 +1,5 @@
-// The members of a group are synced, so that what is read of them is what a stop leaves, and then surveyed.
+// The members of a group are synced, so that what is read of them is what a stop leaves, and then
+// surveyed.
 ghost use Rattle.std.specs.Prelude.{◌≡◌, ◌≤◌, ◌+◌, ◌*◌, ◌++◌, ◌∷◌, [], length, IfOk, IfErr, OnOk};
 ghost use Rattle.bay.specs.Image.{Same};
 ghost use Rattle.bay.specs.State.{KeepsAttached, IsSlot};

@@ -34,8 +34,8 @@ pub struct Renewed {
     pub failed: DiskSet,
 }
 
-/// Claims the epoch after a survey, and writes the record anew under it. At each moment the disks hold what a mount may leave, and
-/// in the end the record is complete.
+/// Claims the epoch after a survey, and writes the record anew under it. At each moment the disks
+/// hold what a mount may leave, and in the end the record is complete.
 pub fn renew<B: Bay>(bay: &mut B, survey: Survey, next: &PstRecord) -> Result<Renewed, RenewError>
     requires slots { HaveSlots (B.state bay.old) survey.members }
     requires apart { HaveOwnSlots survey.members }
@@ -60,7 +60,8 @@ pub fn renew<B: Bay>(bay: &mut B, survey: Survey, next: &PstRecord) -> Result<Re
     ensures attached { KeepsAttached (B.state bay.old) (B.state bay.new) }
     ensures calls { (B.state bay.new).calls ≤ (B.state bay.old).calls
         + 13 * (length survey.members + 64) }
-    // Each image of each moment stands for what those at the start did, and in the end one group is held.
+    // Each image of each moment stands for what those at the start did, and in the end one group is
+    // held.
     ensures groups { EachMount survey next.now
         (λ mount. KeepsGroups mount (B.state bay.old) (B.state bay.new)) }
     ensures held { OnOk result (EachMount survey next.now

@@ -11,7 +11,8 @@ use catalog_laws::Catalog;
 use itoa::Buffer;
 use std::alloc::Global;
 
-/// The rows of lsattr: one of each attribute, in folded order. Sizes are in bytes, and the repair time is in seconds.
+/// The rows of lsattr: one of each attribute, in folded order. Sizes are in bytes, and the repair
+/// time is in seconds.
 pub fn attribute_rows(alloc: Global, catalog: &Catalog) -> Result<Vec<AttrRow>, NoMemory>
     ensures { IfOk result (λ rows. rows.items
         ≡ attribute_rows catalog.now.shape catalog.now.tables.templates.settings.attributes) }

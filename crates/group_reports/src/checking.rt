@@ -46,8 +46,8 @@ impl Checked {
     }
 }
 
-/// How many extents the files of a group have, and how many of them aren't full: CHECK. It takes no memory, and goes over
-/// the extents once.
+/// How many extents the files of a group have, and how many of them aren't full: CHECK. It takes no
+/// memory, and goes over the extents once.
 pub fn check(catalog: &Catalog, status: &PstRecord) -> Checked
     ensures { result ≡ checked_of status.now.entries (all_extents catalog.now) }
 {
@@ -138,8 +138,8 @@ fn checked_one(
     }
 }
 
-/// The first extent that has all its current copies on a disk, which would be lost if the disk were dropped by force. It
-/// takes no memory, and goes over the extents up to there.
+/// The first extent that has all its current copies on a disk, which would be lost if the disk were
+/// dropped by force. It takes no memory, and goes over the extents up to there.
 pub fn first_lost(catalog: &Catalog, status: &PstRecord, disk: u8) -> Option<Extent>
     ensures { result ≡ first_lost status.now.entries catalog.now disk }
 {

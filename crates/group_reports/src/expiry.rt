@@ -1,4 +1,5 @@
-//! What comes by itself in a group: the disk that expires next, the one that is written anew, and the rebalance.
+//! What comes by itself in a group: the disk that expires next, the one that is written anew, and
+//! the rebalance.
 
 ghost use Rattle.std.specs.Prelude.{◌≡◌, ◌&&◌, ◌+◌, nat_le, find};
 ghost use Rattle.group_reports.specs.Disks.{expiring, holds_all, is_repair_time_up, is_moving, is_syncing, may_go, number_of_entry_if_any, syncing};
@@ -43,8 +44,9 @@ pub fn is_moving(catalog: &Catalog) -> bool
     }
 }
 
-/// The disk that expiry drops next at a second: the least Offline disk whose time is up, that has neither the only directory
-/// copy nor all current copies of an extent. The extents are asked of such disks alone.
+/// The disk that expiry drops next at a second: the least Offline disk whose time is up, that has
+/// neither the only directory copy nor all current copies of an extent. The extents are asked of
+/// such disks alone.
 pub fn expiring(catalog: &Catalog, status: &PstRecord, now: u64) -> Option<u8>
     ensures { result ≡ expiring catalog.now status.now now }
 {

@@ -7,8 +7,8 @@ ghost use Rattle.group_reports.specs.Files.{files_from};
 use catalog_laws::Catalog;
 use file_directory::FileHead;
 
-/// The file with the least number from one on, with its head. None where no file has such a number. It takes the logarithm
-/// of the number of files.
+/// The file with the least number from one on, with its head. None where no file has such a number.
+/// It takes the logarithm of the number of files.
 #[tactic(auto, using(crate::proofs::FileWalk::next_file, crate::proofs::FileWalk::no_head, crate::proofs::FileWalk::past_all, crate::proofs::FileWalk::none_in))]
 pub(crate) fn next_file(catalog: &Catalog, least: u64) -> Option<(u32, &FileHead)>
     // The files from there on are this one and those behind it.

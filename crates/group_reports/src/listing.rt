@@ -21,8 +21,9 @@ use refusal_lines::Refusal;
 use std::alloc::Global;
 use verb_paths::{has_star, is_match};
 
-/// The rows of ls at a path in a group of this name: the names in a directory, those that match the last part where it has a
-/// `*`, or a file's own name. NoName: nothing is there. NotDirectory: a pattern is looked for in what is no directory.
+/// The rows of ls at a path in a group of this name: the names in a directory, those that match the
+/// last part where it has a `*`, or a file's own name. NoName: nothing is there. NotDirectory: a
+/// pattern is looked for in what is no directory.
 pub fn rows_listed(
     alloc: Global,
     group: &Name,
@@ -117,7 +118,8 @@ fn rows_of(
     Ok(rows)
 }
 
-/// The rows of the names in a directory that match a pattern, in folded order, where the group has this name. All match `*`.
+/// The rows of the names in a directory that match a pattern, in folded order, where the group has
+/// this name. All match `*`.
 pub fn rows_under(
     alloc: Global,
     group: &Name,

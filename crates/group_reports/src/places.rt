@@ -20,7 +20,8 @@ pub fn is_directory(catalog: &Catalog, node: u32) -> bool
     }
 }
 
-/// The directory at a path in the group. NoName: nothing is there. NotDirectory: what is there is the name of a file.
+/// The directory at a path in the group. NoName: nothing is there. NotDirectory: what is there is
+/// the name of a file.
 pub fn directory_at(catalog: &Catalog, path: &Path) -> Result<u32, Refusal>
     ensures { result ≡ directory_at catalog.now.tables path.now.parts }
 {
@@ -73,7 +74,8 @@ pub(crate) fn node_named(
     Ok(catalog.find(&Path { group, parts }))
 }
 
-/// The path of a node in a group of this name, as the nodes spell it. None where there is no such node, as for the root.
+/// The path of a node in a group of this name, as the nodes spell it. None where there is no such
+/// node, as for the root.
 #[tactic(auto, using(crate::proofs::Paths::path_is))]
 pub fn path_at(
     alloc: Global,

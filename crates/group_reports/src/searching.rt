@@ -18,8 +18,9 @@ use std::alloc::Global;
 use std::collections::BTreeMap;
 use verb_paths::is_match;
 
-/// The paths of files and aliases below a directory whose last part matches a pattern, in the order of their texts without
-/// case. The group has this name. Work goes by the number of the group's files.
+/// The paths of files and aliases below a directory whose last part matches a pattern, in the order
+/// of their texts without case. The group has this name. Work goes by the number of the group's
+/// files.
 pub fn paths_found(
     alloc: Global,
     group: &Name,

@@ -43,8 +43,8 @@ impl Taken {
     }
 }
 
-/// What the files below a directory take whose system names lie there. The group has this name. Work goes by the number of
-/// the group's files.
+/// What the files below a directory take whose system names lie there. The group has this name.
+/// Work goes by the number of the group's files.
 #[tactic(auto, using(crate::proofs::Sums::taken_start, crate::proofs::Sums::taken_more, crate::proofs::Sums::taken_end))]
 pub fn usage_below(
     alloc: Global,

@@ -30,7 +30,8 @@ impl Model for NewDisk {
     ghost view = { λ d. record { path = d.path; name = d.name; size = d.size; force = d.force } };
 }
 
-/// Disks that a statement gives to a group, in one failure group or, without a name, each in its own.
+/// Disks that a statement gives to a group, in one failure group or, without a name, each in its
+/// own.
 #[derive(Debug, Drop)]
 pub struct NewFailgroup {
     pub quorum: bool,

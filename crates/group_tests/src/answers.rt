@@ -8,7 +8,8 @@ use relocation::{Resynced, Slice};
 #[derive(Clone, Copy, PartialEq, Eq)]
 pub enum Answer {
     Done,
-    /// The call isn't one that may be made, the record may not come next, or there is no place for the disk: nothing was called.
+    /// The call isn't one that may be made, the record may not come next, or there is no place for
+    /// the disk: nothing was called.
     MayNot,
     /// The group is dismounted by a disk, which is one of this set.
     Dismounted(u64),
@@ -86,7 +87,8 @@ fn answer_in(refusal: &Refusal) -> Answer {
     }
 }
 
-/// What comes of a call. A refusal is dropped by a call here alone, since what goes in place is proved in place.
+/// What comes of a call. A refusal is dropped by a call here alone, since what goes in place is
+/// proved in place.
 pub fn answer_of(called: Result<(), Refusal>) -> Answer {
     match called {
         Ok(()) => Answer::Done,

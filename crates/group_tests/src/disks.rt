@@ -1,4 +1,5 @@
-//! Disks in memory that fail, images that are attached, and sectors that are read by no call of a group.
+//! Disks in memory that fail, images that are attached, and sectors that are read by no call of a
+//! group.
 
 ghost use Rattle.std.specs.Prelude.{◌≡◌, ◌≤◌, ◌+◌, IfSome, IsSome, Some};
 ghost use Rattle.bay_mem.specs.MemState.{IsQuiet, state_of};

@@ -31,7 +31,8 @@ pub enum Step {
     Copy(u8, Answer),
     /// A disk leaves.
     Leave(u8, Answer),
-    /// The image of a slot is attached as a disk of a number and a birth, where there is a place for it.
+    /// The image of a slot is attached as a disk of a number and a birth, where there is a place
+    /// for it.
     Attach(u32, u8, u64, Answer),
     /// The group is closed.
     Close,
@@ -47,7 +48,8 @@ pub enum Step {
     FillFile(&'static [u8], u64, u8, Answer),
     /// The file at a path goes.
     RemoveFile(&'static [u8], Answer),
-    /// The move of a copy of file 256 is on its way: the extent, the copy, the home and the bytes that are copied.
+    /// The move of a copy of file 256 is on its way: the extent, the copy, the home and the bytes
+    /// that are copied.
     FlyTo(u32, u8, Unit, u64),
     /// A piece is read.
     Read(Piece, Answer),

@@ -15,7 +15,8 @@ use std::alloc::Global;
 /// The bytes of an image.
 pub const SIZE: u64 = 4_194_304;
 
-/// Does the steps on a group, where there is one, and lets it go. The places of the steps are counted from one on.
+/// Does the steps on a group, where there is one, and lets it go. The places of the steps are
+/// counted from one on.
 fn judged(
     alloc: Global,
     name: &'static str,
@@ -107,7 +108,8 @@ fn play_at(
     }
 }
 
-/// Plays a row: steps on a new group of four disks, and what comes then. Fails by its name where a step isn't right.
+/// Plays a row: steps on a new group of four disks, and what comes then. Fails by its name where a
+/// step isn't right.
 pub fn play(alloc: Global, name: &'static str, steps: &[Step], then: Then) -> Result<(), Wrong> {
     match MemBay::new(
         alloc,

@@ -13,7 +13,8 @@ use line_buffer::LineBuffer;
 use refusal_lines::Refusal;
 use std::alloc::Global;
 
-/// Drops the least Offline disk whose time is up at a second and that may go, where there is one, and writes the line of it.
+/// Drops the least Offline disk whose time is up at a second and that may go, where there is one,
+/// and writes the line of it.
 pub fn drop_expired<B: Bay>(
     m: &mut Mounted,
     alloc: Global,
@@ -46,7 +47,8 @@ pub fn drop_expired<B: Bay>(
     }
 }
 
-/// Writes the line of an expiry that dismounted the group. There is none for want of memory, and no other refusal comes.
+/// Writes the line of an expiry that dismounted the group. There is none for want of memory, and no
+/// other refusal comes.
 fn end_expiry(m: &Mounted, refusal: Refusal, line: &mut LineBuffer) -> Turned
     ensures work { IsWork result }
     ensures line { OnEvent result (IsLineOf m.now.name BeforeText line.new) }

@@ -17,7 +17,8 @@ pub enum Failure {
     NoMemory,
 }
 
-/// What a refusal of an expiry or a slice says. Its disks are numbers, and it has no cause but these.
+/// What a refusal of an expiry or a slice says. Its disks are numbers, and it has no cause but
+/// these.
 pub fn failure_of(refusal: &Refusal) -> Failure
     ensures { result ≡ failure_of refusal.now }
 {
@@ -47,8 +48,8 @@ fn dismounted_by(disk: &DiskRef) -> Failure
     }
 }
 
-/// A disk's name for an event line. Each disk that a call on the group names has its record, so that the group's own name stands for
-/// none.
+/// A disk's name for an event line. Each disk that a call on the group names has its record, so
+/// that the group's own name stands for none.
 pub fn shown_name(m: &Mounted, disk: u8) -> &Name
     ensures { result.now ≡ shown_name m.now disk }
 {

@@ -1,4 +1,5 @@
-//! What a group does between two commands: expired disks are dropped before a command's text, slices of resync and rebalance run after its reply.
+//! What a group does between two commands: expired disks are dropped before a command's text,
+//! slices of resync and rebalance run after its reply.
 #![tactic(auto)]
 
 pub use disk_modes::{

@@ -18,8 +18,8 @@ use refusal_lines::Refusal;
 use relocation::{Resynced as Synced, Slice, slice, sync_slice, syncing_disk};
 use std::alloc::Global;
 
-/// How a slice of a rebalance ended, or the slices of a whole one, with the steps of it and each disk by its name. None for want of
-/// memory.
+/// How a slice of a rebalance ended, or the slices of a whole one, with the steps of it and each
+/// disk by its name. None for want of memory.
 pub fn rebalanced<'a>(
     m: &'a Mounted,
     sliced: &Result<Slice, Refusal>,
@@ -57,8 +57,8 @@ fn failed_rebalance<'a>(m: &'a Mounted, failure: Failure, steps: u64) -> Option<
     }
 }
 
-/// How a slice of a resync ended, or the slices of a whole one, with the steps of it and each disk by its name. None for want of
-/// memory.
+/// How a slice of a resync ended, or the slices of a whole one, with the steps of it and each disk
+/// by its name. None for want of memory.
 pub fn resynced<'a>(
     m: &'a Mounted,
     synced: &Result<Synced, Refusal>,
@@ -143,7 +143,8 @@ fn write_resync(
     }
 }
 
-/// Runs a slice of the resync of the least Syncing disk, where there is one, and writes the line of it.
+/// Runs a slice of the resync of the least Syncing disk, where there is one, and writes the line of
+/// it.
 pub fn resync_slice<B: Bay>(
     m: &mut Mounted,
     alloc: Global,
@@ -166,7 +167,8 @@ pub fn resync_slice<B: Bay>(
     }
 }
 
-/// Runs a slice of the rebalance, where one is active with a power of at least 1, and writes the line of it.
+/// Runs a slice of the rebalance, where one is active with a power of at least 1, and writes the
+/// line of it.
 pub fn rebalance_slice<B: Bay>(
     m: &mut Mounted,
     alloc: Global,

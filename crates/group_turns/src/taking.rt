@@ -1,4 +1,5 @@
-// What a group does between two commands, in its turn: expired disks are dropped before a command's text, slices run after its reply.
+// What a group does between two commands, in its turn: expired disks are dropped before a command's
+// text, slices run after its reply.
 ghost use Rattle.std.specs.Prelude.{◌≡◌};
 ghost use Rattle.disk_modes.specs.group_engine.Members.{LetsGo};
 ghost use Rattle.disk_modes.specs.group_engine.Mounts.{IsMounted, Takes};
@@ -33,7 +34,8 @@ pub enum Turned {
     NoMemory,
 }
 
-/// Takes a turn of a group, and writes the line of what happened. For a group that takes no calls nothing is due.
+/// Takes a turn of a group, and writes the line of what happened. For a group that takes no calls
+/// nothing is due.
 pub fn take_turn<B: Bay>(
     m: &mut Mounted,
     alloc: Global,

@@ -10,7 +10,8 @@ ghost use Rattle.asm_base.proofs.ItemTables.{AreEntries, IsEntry};
 use asm_base::{Key, NoMemory, Value};
 use std::alloc::Global;
 
-/// What a table keeps by its keys. With its key it is an item of the formats, and so what one record says.
+/// What a table keeps by its keys. With its key it is an item of the formats, and so what one
+/// record says.
 pub trait Listed<K: Ord + Copy>: Sized + Drop {
     /// The item that it is at a key.
     ghost item_of: { K × Self → Item };

@@ -58,8 +58,8 @@ impl<K: Ord + Copy + Drop, T: Listed<K>> KeyTable<K, T> {
         self.map.iter()
     }
 
-    /// What is kept at the keys from this one on, whether it is there or not, in the order of the keys. Those before it are
-    /// passed over by their keys.
+    /// What is kept at the keys from this one on, whether it is there or not, in the order of the
+    /// keys. Those before it are passed over by their keys.
     pub fn iter_from(&self, key: K) -> Range<'_, K, T>
         ensures { result ≡ from_key K.cmp self.now key }
     {
@@ -98,8 +98,8 @@ impl<K: Ord + Copy + Drop, T: Listed<K>> KeyTable<K, T> {
         self.map.remove(&key).is_some()
     }
 
-    /// Keeps at the key of a record what its value says. `false`, with the table as it was, where the value says nothing of
-    /// the kind. Where there is no memory the table stays.
+    /// Keeps at the key of a record what its value says. `false`, with the table as it was, where
+    /// the value says nothing of the kind. Where there is no memory the table stays.
     pub fn put_record(&mut self, alloc: Global, key: Key, value: &Value) -> Result<bool, NoMemory>
         requires { IsTrue (T.is_mine key) }
         ensures put { IfOk result (λ put. OnTrue put ((k : K) → bytes_at K.cmp T.item_of self.new k
@@ -166,7 +166,8 @@ impl<K: Ord + Copy + Drop, T: Listed<K>> KeyTable<K, T> {
         Ok(Some(table))
     }
 
-    /// Takes up one record more, or passes over one of another kind. `false` where it doesn't follow.
+    /// Takes up one record more, or passes over one of another kind. `false` where it doesn't
+    /// follow.
     fn take_up(&mut self, alloc: Global, key: Key, value: &Value) -> Result<bool, NoMemory>
         ensures { IfOk result (λ taken. (if T.is_mine key then add_record K.cmp T.entry_of self.old (key, value.now) else Some self.old)
             ≡ (if taken then Some self.new else None)) }

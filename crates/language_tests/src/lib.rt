@@ -1,4 +1,5 @@
-//! Tests of texts: the two languages, DISKGROUP statements and asmcmd lines, and the texts and words of a session.
+//! Tests of texts: the two languages, DISKGROUP statements and asmcmd lines, and the texts and
+//! words of a session.
 #![tactic(auto)]
 
 #[cfg(test)]

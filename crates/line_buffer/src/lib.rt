@@ -1,4 +1,5 @@
-//! A buffer for one line of output. It takes no memory, so a line can be printed when there is none.
+//! A buffer for one line of output. It takes no memory, so a line can be printed when there is
+//! none.
 #![tactic(auto)]
 
 ghost use Rattle.std.specs.Prelude.{◌≡◌, ◌≤◌, ◌<◌, ◌+◌, ◌++◌, ◌∷◌, [], length};

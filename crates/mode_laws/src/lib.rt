@@ -1,5 +1,6 @@
-//! Disks change their modes by what happens to them alone: by the statement that names them, a failed write, expiry, or what a
-//! mount finds. Each function does nothing; its contract is the law.
+//! Disks change their modes by what happens to them alone: by the statement that names them, a
+//! failed write, expiry, or what a mount finds. Each function does nothing; its contract is the
+//! law.
 #![tactic(auto)]
 
 ghost use Rattle.std.specs.Prelude.{ℕ};
@@ -15,7 +16,8 @@ pub fn modes_are_left_by_events()
     ensures { (since repair : ℕ) → TableOfModes since repair }
 {}
 
-/// A statement on disks changes the modes of the disks that it names alone, and a RESIZE their units.
+/// A statement on disks changes the modes of the disks that it names alone, and a RESIZE their
+/// units.
 pub fn statements_change_modes()
     ensures offline { OfflineChanges }
     ensures drop { DropChanges }
@@ -34,7 +36,8 @@ pub fn mounts_change_modes()
     ensures { MountChanges }
 {}
 
-/// In a group that a mount takes over they have changed so, and without FORCE the mount has found each disk.
+/// In a group that a mount takes over they have changed so, and without FORCE the mount has found
+/// each disk.
 pub fn taking_over_changes_modes<B: Bay>(start: &B, end: &B)
     ensures { TakingOverChanges (B.state start.now) (B.state end.now) }
 {}
@@ -45,7 +48,8 @@ pub fn failed_writes_change_modes()
     ensures failed { FailedAreTaken }
 {}
 
-/// A disk that comes, goes, comes back, or is at the end of its resync, changes the entries by that alone.
+/// A disk that comes, goes, comes back, or is at the end of its resync, changes the entries by that
+/// alone.
 pub fn disks_come_and_go()
     ensures joining { JoiningChanges }
     ensures leaving { LeavingChanges }

@@ -1,4 +1,5 @@
-// The directory copies that lag behind are brought up by the mount: those that the record named, on disks that were read.
+// The directory copies that lag behind are brought up by the mount: those that the record named, on
+// disks that were read.
 ghost use Rattle.std.specs.Prelude.{◌≡◌, ◌+◌, ◌*◌, ◌<◌, ◌≤◌, None, Some, get_or, OnOk, IfErr};
 ghost use Rattle.refusal_lines.specs.declared.refusal.Refusal.TheVariants.{NoMemory as WithoutMemory};
 ghost use Rattle.asm_formats.specs.Regions.{has_region};
@@ -62,7 +63,8 @@ fn without_copy(m: &Mounted) -> Result<(), Refusal>
     }
 }
 
-/// Brings the directory copy of a disk up, where the disk is attached with room for one. Where its slot fails, the copy is left out.
+/// Brings the directory copy of a disk up, where the disk is attached with room for one. Where its
+/// slot fails, the copy is left out.
 fn bring_up<B: Bay>(alloc: Global, bay: &mut B, m: &mut Mounted, disk: u8) -> Result<(), Refusal>
     requires small { disk < 64 }
     requires mounted { IsMounted m.old }

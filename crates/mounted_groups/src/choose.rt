@@ -70,7 +70,8 @@ pub fn next_id(floor: u64, ids: &[u64]) -> u64
     next
 }
 
-/// The name of the first disk: the first 25 bytes of the group's name, and the disk's number in four digits.
+/// The name of the first disk: the first 25 bytes of the group's name, and the disk's number in
+/// four digits.
 pub fn first_disk_name(alloc: Global, group: &Name) -> Result<Name, NoMemory>
     requires { IsTrue (is_name group.now) }
     ensures named { IfOk result (λ disk. disk ≡ take 25 group.now ++ codes "_0000") }

@@ -1,4 +1,5 @@
-// What a stop left undone of a group is ended by the mount: records of disks without an entry, and the pending operation.
+// What a stop left undone of a group is ended by the mount: records of disks without an entry, and
+// the pending operation.
 ghost use Rattle.std.specs.Prelude.{◌≡◌, OnOk};
 ghost use Rattle.mounted_groups.specs.Clearing.{CleansUp, HaveDropped, IsDead, IsRefusalOf, is_left_over, without_left_over};
 ghost use Rattle.group_engine.specs.Mounts.{IsMounted, Takes};
@@ -65,7 +66,8 @@ fn drop_records<B: Bay>(alloc: Global, bay: &mut B, m: &mut Mounted) -> Result<(
     Ok(())
 }
 
-/// Ends what a stop left undone: records of disks without an entry, and the pending operation. After Ok the group takes calls.
+/// Ends what a stop left undone: records of disks without an entry, and the pending operation.
+/// After Ok the group takes calls.
 pub fn clean_up<B: Bay>(alloc: Global, bay: &mut B, m: &mut Mounted) -> Result<(), Refusal>
     requires mounted { IsMounted m.old }
     requires takes { Takes m.old (B.state bay.old) }

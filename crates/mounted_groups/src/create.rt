@@ -26,12 +26,13 @@ use group_recovery::Store;
 use refusal_lines::Refusal;
 use std::alloc::Global;
 
-/// Creates an EXTERNAL group on the image at a path, which is one of the program's images. The ids in the headers that were
-/// read are put into `ids`. Images in the slots `held` are attached to groups: they are DiskTaken by their headers, and where
-/// such a header isn't there any more, which no call leaves so, NoMemory is answered. The first part of the answer is the
-/// group's id where the creation came to write: at least `floor`, and above each of these ids. The second is the new group,
-/// mounted. Refusals in their order: NoDisk, DiskTaken, TooSmall, WriteFault; NoMemory at any point, also once the disk has
-/// its new header.
+/// Creates an EXTERNAL group on the image at a path, which is one of the program's images. The ids
+/// in the headers that were read are put into `ids`. Images in the slots `held` are attached to
+/// groups: they are DiskTaken by their headers, and where such a header isn't there any more, which
+/// no call leaves so, NoMemory is answered. The first part of the answer is the group's id where
+/// the creation came to write: at least `floor`, and above each of these ids. The second is the new
+/// group, mounted. Refusals in their order: NoDisk, DiskTaken, TooSmall, WriteFault; NoMemory at
+/// any point, also once the disk has its new header.
 pub fn create_group<B: Bay>(
     alloc: Global,
     bay: &mut B,

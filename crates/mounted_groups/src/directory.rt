@@ -13,8 +13,8 @@ use change_directory::DirCopy;
 use group_recovery::{Store, StoreError, kept_have_records};
 use std::alloc::Global;
 
-/// Makes the directory copy of a new group on its disk, where no log slot is open. At each moment the copy has no content, or
-/// that of the new group.
+/// Makes the directory copy of a new group on its disk, where no log slot is open. At each moment
+/// the copy has no content, or that of the new group.
 pub fn give_directory<B: Bay>(
     alloc: Global,
     bay: &mut B,

@@ -20,8 +20,8 @@ fn has_file(m: &Mounted) -> bool
     }
 }
 
-/// Closes the header of the disk of a number, where it is attached. Where its slot fails the header may stay: the group is
-/// gone all the same.
+/// Closes the header of the disk of a number, where it is attached. Where its slot fails the header
+/// may stay: the group is gone all the same.
 fn close_at<B: Bay>(m: &Mounted, bay: &mut B, number: u8)
     requires small { number < 64 }
     requires headers { HaveHeaders m.now (B.state bay.old) }
@@ -45,9 +45,10 @@ fn close_all<B: Bay>(m: &Mounted, bay: &mut B)
     }
 }
 
-/// Drops a group: writes its record marked gone, and then closes the headers of its attached disks, past faults. From then on
-/// the group takes no calls. Refusals in their order: Dismounted, GroupNotEmpty where it has a file and the contents aren't to
-/// go with it, and Dismounted where too few disks took the record. NoMemory comes of a group that is closed.
+/// Drops a group: writes its record marked gone, and then closes the headers of its attached disks,
+/// past faults. From then on the group takes no calls. Refusals in their order: Dismounted,
+/// GroupNotEmpty where it has a file and the contents aren't to go with it, and Dismounted where
+/// too few disks took the record. NoMemory comes of a group that is closed.
 pub fn drop_group<B: Bay>(m: &mut Mounted, bay: &mut B, contents: bool) -> Result<(), Refusal>
     requires takes { Takes m.old (B.state bay.old) }
     ensures { DropsGroup m.old contents result m.new (B.state bay.old) (B.state bay.new) }

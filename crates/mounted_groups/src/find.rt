@@ -36,7 +36,8 @@ pub fn slot_of(paths: &[String], path: &[u8]) -> Option<u32>
     None
 }
 
-/// Looks at every image, puts the ids in the headers that were read into `ids`, and gives what the look at one slot showed.
+/// Looks at every image, puts the ids in the headers that were read into `ids`, and gives what the
+/// look at one slot showed.
 pub fn look_at_all<B: Bay>(
     alloc: Global,
     bay: &mut B,

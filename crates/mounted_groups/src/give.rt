@@ -12,7 +12,8 @@ use disk_forming::{give_header, give_record};
 use group_recovery::Store;
 use std::alloc::Global;
 
-/// Gives the disk of a new group all its parts. Memory is taken for the directory copy, after the header is there.
+/// Gives the disk of a new group all its parts. Memory is taken for the directory copy, after the
+/// header is there.
 pub fn give_parts<B: Bay>(
     alloc: Global,
     bay: &mut B,

@@ -1,4 +1,5 @@
-//! The disks of a group: how a group comes to be on them, how it is mounted and goes, and how an image is made.
+//! The disks of a group: how a group comes to be on them, how it is mounted and goes, and how an
+//! image is made.
 #![tactic(auto)]
 
 pub use group_engine::{Attached, Mounted};

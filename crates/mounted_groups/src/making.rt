@@ -46,10 +46,11 @@ fn check_free(alloc: Global, path: &[u8], looked: Looked) -> Result<(), Refusal>
     }
 }
 
-/// Makes an image of zeros of a size in bytes at a path, which is one of the program's images. Images in the slots `held` are
-/// attached to groups. Refusals: NoDisk where the path is none of the images, or the making failed; DiskTaken where the image
-/// is attached to a group, or was a member of one; ReadFault where the old image failed. Where the making fails the image is
-/// as it was, none, or zeros of any length, and isn't attached.
+/// Makes an image of zeros of a size in bytes at a path, which is one of the program's images.
+/// Images in the slots `held` are attached to groups. Refusals: NoDisk where the path is none of
+/// the images, or the making failed; DiskTaken where the image is attached to a group, or was a
+/// member of one; ReadFault where the old image failed. Where the making fails the image is as it
+/// was, none, or zeros of any length, and isn't attached.
 pub fn create_disk<B: Bay>(
     alloc: Global,
     bay: &mut B,

@@ -1,4 +1,5 @@
-//! A group is found by its name and mounted: its record is claimed and written anew, and what a stop left undone is ended.
+//! A group is found by its name and mounted: its record is claimed and written anew, and what a
+//! stop left undone is ended.
 ghost use Rattle.std.specs.Prelude.{◌≡◌, ◌≤◌, None, length, OnOk};
 ghost use Rattle.group_engine.specs.Mounts.{IsMounted, IsWhole, Takes};
 ghost use Rattle.mounted_groups.specs.Bringing.{BringsCopiesUp};
@@ -48,16 +49,16 @@ fn mounted_of(parts: Parts) -> Mounted
     Mounted::new(name, catalog, store, register, disks)
 }
 
-/// A group whose record is written anew, and the disks whose directory copies the record that was read named, as far as they were
-/// read.
+/// A group whose record is written anew, and the disks whose directory copies the record that was
+/// read named, as far as they were read.
 #[derive(Drop)]
 struct Taken {
     group: Mounted,
     named: DiskSet,
 }
 
-/// Finds the group of a name and writes its record anew. Images in the slots `held` are left out. What a stop left undone of
-/// it isn't ended yet.
+/// Finds the group of a name and writes its record anew. Images in the slots `held` are left out.
+/// What a stop left undone of it isn't ended yet.
 fn take_over<B: Bay>(
     alloc: Global,
     bay: &mut B,
@@ -103,12 +104,13 @@ fn finish<B: Bay>(
     clean_up(alloc, bay, m)
 }
 
-/// Mounts the group of a name. Images in the slots `held` are attached to other groups, and are no members. The refusals are
-/// tried in this order: NoGroup, TwoGroups, NoMajority, Damaged in a claim or status body, NoMajority where the last epoch is
-/// used up, Damaged in the header of a member that isn't a disk of the group, DirectoriesLost, Damaged in the directories,
-/// MissingDisk where the mount isn't forced, NoMajority at the claim, Dead where too few disks took the record anew or no
-/// directory copy a commit. NoMemory comes at any point. A directory copy that lags behind is brought up, where its disk was
-/// read and takes it.
+/// Mounts the group of a name. Images in the slots `held` are attached to other groups, and are no
+/// members. The refusals are tried in this order: NoGroup, TwoGroups, NoMajority, Damaged in a
+/// claim or status body, NoMajority where the last epoch is used up, Damaged in the header of a
+/// member that isn't a disk of the group, DirectoriesLost, Damaged in the directories, MissingDisk
+/// where the mount isn't forced, NoMajority at the claim, Dead where too few disks took the record
+/// anew or no directory copy a commit. NoMemory comes at any point. A directory copy that lags
+/// behind is brought up, where its disk was read and takes it.
 pub fn mount_group<B: Bay>(
     alloc: Global,
     bay: &mut B,

@@ -30,7 +30,8 @@ enum AtPath {
     DropAlias,
 }
 
-/// An edit of the names with two paths: the old one and the new one, or the alias and that of its file.
+/// An edit of the names with two paths: the old one and the new one, or the alias and that of its
+/// file.
 #[derive(Clone, Copy)]
 enum BetweenPaths {
     RenameDir,
@@ -83,7 +84,8 @@ fn clause_at(
     }
 }
 
-/// The edit that a clause with two paths asks for. None where one of them isn't a path of the group.
+/// The edit that a clause with two paths asks for. None where one of them isn't a path of the
+/// group.
 fn clause_between(
     alloc: Global,
     group: &Name,
@@ -104,7 +106,8 @@ fn clause_between(
     }
 }
 
-/// Edits a group, as a command asks. Its refusals in order: NoGroup, Dismounted, those of the edit, and Dismounted by its commit.
+/// Edits a group, as a command asks. Its refusals in order: NoGroup, Dismounted, those of the edit,
+/// and Dismounted by its commit.
 pub fn edit_named<B: Bay, H: Host>(
     desk: &mut Desk<B, H>,
     text: &[u8],
@@ -123,7 +126,8 @@ pub fn edit_named<B: Bay, H: Host>(
     answer_of(desk.alloc, done)
 }
 
-/// The refusal of an edit that a command asks for in vain, behind NoGroup and Dismounted of its group. Nothing is done.
+/// The refusal of an edit that a command asks for in vain, behind NoGroup and Dismounted of its
+/// group. Nothing is done.
 pub fn refused_in<B: Bay, H: Host>(
     desk: &mut Desk<B, H>,
     text: &[u8],
@@ -140,8 +144,8 @@ pub fn refused_in<B: Bay, H: Host>(
     refused(desk.alloc, refusal)
 }
 
-/// The edit of a clause. Its refusals in order: NoGroup, Dismounted, NoName where a path isn't one of the group, and then those
-/// of the edit.
+/// The edit of a clause. Its refusals in order: NoGroup, Dismounted, NoName where a path isn't one
+/// of the group, and then those of the edit.
 fn edit_clause<B: Bay, H: Host>(
     desk: &mut Desk<B, H>,
     text: &[u8],
@@ -177,8 +181,8 @@ fn edit_by_verb<B: Bay, H: Host>(
     edit_named(desk, text, group, edit)
 }
 
-/// The edit of a verb at its path. Its refusals in order: NoGroup, also where the path comes to `+`, Dismounted, those of the edit,
-/// and Dismounted by its commit.
+/// The edit of a verb at its path. Its refusals in order: NoGroup, also where the path comes to
+/// `+`, Dismounted, those of the edit, and Dismounted by its commit.
 fn edit_verb<B: Bay, H: Host>(
     desk: &mut Desk<B, H>,
     text: &[u8],
@@ -329,7 +333,8 @@ pub fn remove_alias<B: Bay, H: Host>(desk: &mut Desk<B, H>, text: &[u8], path: T
     edit_verb(desk, text, path.as_slice(), AtPath::DropAlias)
 }
 
-/// mkalias: as ADD ALIAS in the group that the alias names. NoGroup comes also where the alias's path comes to `+`.
+/// mkalias: as ADD ALIAS in the group that the alias names. NoGroup comes also where the alias's
+/// path comes to `+`.
 pub fn make_alias<B: Bay, H: Host>(
     desk: &mut Desk<B, H>,
     text: &[u8],
@@ -346,8 +351,9 @@ pub fn make_alias<B: Bay, H: Host>(
     }
 }
 
-/// A new alias of the file at a path. Its refusals in order: NoGroup and Dismounted of the alias's group, NoGroup where the
-/// path of the file comes to `+`, NoName where it is one of another group, and then those of the edit.
+/// A new alias of the file at a path. Its refusals in order: NoGroup and Dismounted of the alias's
+/// group, NoGroup where the path of the file comes to `+`, NoName where it is one of another group,
+/// and then those of the edit.
 fn alias_path<B: Bay, H: Host>(
     desk: &mut Desk<B, H>,
     text: &[u8],

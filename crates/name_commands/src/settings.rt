@@ -58,7 +58,8 @@ fn modified_by(name: Name, words: &TemplateWords) -> TemplateEdit
     }
 }
 
-/// ADD TEMPLATE. Its refusals in order: NoGroup, Dismounted, NameTaken, BadRedundancy, TooMany, and Dismounted by its commit.
+/// ADD TEMPLATE. Its refusals in order: NoGroup, Dismounted, NameTaken, BadRedundancy, TooMany, and
+/// Dismounted by its commit.
 pub fn add_template<B: Bay, H: Host>(
     desk: &mut Desk<B, H>,
     text: &[u8],
@@ -74,7 +75,8 @@ pub fn add_template<B: Bay, H: Host>(
     edit_named(desk, text, &group, &GroupEdit::Templates(edit))
 }
 
-/// MODIFY TEMPLATE. Its refusals in order: NoGroup, Dismounted, NoTemplate, BadRedundancy, and Dismounted by its commit.
+/// MODIFY TEMPLATE. Its refusals in order: NoGroup, Dismounted, NoTemplate, BadRedundancy, and
+/// Dismounted by its commit.
 pub fn modify_template<B: Bay, H: Host>(
     desk: &mut Desk<B, H>,
     text: &[u8],
@@ -90,7 +92,8 @@ pub fn modify_template<B: Bay, H: Host>(
     edit_named(desk, text, &group, &GroupEdit::Templates(edit))
 }
 
-/// DROP TEMPLATE. Its refusals in order: NoGroup, Dismounted, NoTemplate, SystemTemplate, and Dismounted by its commit.
+/// DROP TEMPLATE. Its refusals in order: NoGroup, Dismounted, NoTemplate, SystemTemplate, and
+/// Dismounted by its commit.
 pub fn drop_template<B: Bay, H: Host>(
     desk: &mut Desk<B, H>,
     text: &[u8],
@@ -105,8 +108,8 @@ pub fn drop_template<B: Bay, H: Host>(
     edit_named(desk, text, &group, &GroupEdit::Templates(edit))
 }
 
-/// SET ATTRIBUTE. Its refusals in order: NoGroup, Dismounted, BadAttribute, and Dismounted by its commit. No attribute has a
-/// name with other bytes than those of names.
+/// SET ATTRIBUTE. Its refusals in order: NoGroup, Dismounted, BadAttribute, and Dismounted by its
+/// commit. No attribute has a name with other bytes than those of names.
 pub fn set_attribute<B: Bay, H: Host>(
     desk: &mut Desk<B, H>,
     text: &[u8],

@@ -64,7 +64,8 @@ pub fn needed_groups(kind: GroupKind) -> usize
     }
 }
 
-/// Whether the disk is in the failure group of this name, and that is of the kind, where one is said.
+/// Whether the disk is in the failure group of this name, and that is of the kind, where one is
+/// said.
 pub fn is_in_failgroup(row: &DiskRow, kind: Option<FailgroupKind>, name: &Name) -> bool
     ensures { result ≡ is_row_in (maybe_kind_said kind) name.now row.now }
 {

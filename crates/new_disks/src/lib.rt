@@ -1,5 +1,5 @@
-//! The disks that a creation or an ADD names: whether a name of theirs is taken, and their failure groups. No call takes
-//! memory.
+//! The disks that a creation or an ADD names: whether a name of theirs is taken, and their failure
+//! groups. No call takes memory.
 #![tactic(auto)]
 
 pub use group_sql::{Attribute, NewDisk, NewFailgroup};

@@ -6,8 +6,8 @@ ghost use Rattle.asm_world.specs.NewDisks.{clash, clashes_with, has_pair, is_nam
 
 use crate::rows::{DiskRow, PlannedDisk};
 
-/// Whether two of the new disks have one name or one path, or one has the name of a disk that is there, or a failure group
-/// is said to be of two kinds.
+/// Whether two of the new disks have one name or one path, or one has the name of a disk that is
+/// there, or a failure group is said to be of two kinds.
 pub fn is_name_taken(rows: &[DiskRow], disks: &[PlannedDisk]) -> bool
     ensures { result ≡ is_name_taken rows.now disks.now }
 {

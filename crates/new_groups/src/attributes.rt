@@ -13,8 +13,8 @@ use new_disks::Attribute;
 use refusal_lines::Refusal;
 use std::alloc::Global;
 
-/// The creation with all its attributes, whose unit must have eight sectors at least. NoMemory is answered, too, where the
-/// shape isn't one of the formats, which no attribute leaves so.
+/// The creation with all its attributes, whose unit must have eight sectors at least. NoMemory is
+/// answered, too, where the shape isn't one of the formats, which no attribute leaves so.
 fn finished(alloc: Global, creation: Creation) -> Result<Creation, Refusal>
     requires { IsNewCreation creation }
     ensures given { IfOk result (λ c. created_with (creation_meant creation) []
@@ -74,8 +74,9 @@ fn with_attributes(
     }
 }
 
-/// The shape and the settings that the attributes of a creation make. They are tried in the order given, each value, also one
-/// that a later one replaces; that a unit has eight sectors is tried last. Refused as BadAttribute with the name.
+/// The shape and the settings that the attributes of a creation make. They are tried in the order
+/// given, each value, also one that a later one replaces; that a unit has eight sectors is tried
+/// last. Refused as BadAttribute with the name.
 pub fn creation_of(
     alloc: Global,
     kind: GroupKind,

@@ -47,11 +47,12 @@ fn form_ready<B: Bay>(
     }
 }
 
-/// Creates a group on images of the program. The ids in the headers that were read are put into `ids`. The first part of the
-/// answer is the group's id where the creation came to write: at least the floor, and above each of these ids. The second is
-/// the new group, mounted. Refusals in their order: BadAttribute, TooMany, NoDisk, DiskTaken or WriteFault, NameTaken,
-/// TooSmall, TooFewGroups; then WriteFault by a disk that failed. NoMemory at any point, also where a part of the group
-/// doesn't agree with another, which no call leaves so.
+/// Creates a group on images of the program. The ids in the headers that were read are put into
+/// `ids`. The first part of the answer is the group's id where the creation came to write: at least
+/// the floor, and above each of these ids. The second is the new group, mounted. Refusals in their
+/// order: BadAttribute, TooMany, NoDisk, DiskTaken or WriteFault, NameTaken, TooSmall,
+/// TooFewGroups; then WriteFault by a disk that failed. NoMemory at any point, also where a part of
+/// the group doesn't agree with another, which no call leaves so.
 pub fn create_group<B: Bay>(
     alloc: Global,
     bay: &mut B,

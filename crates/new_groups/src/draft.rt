@@ -13,8 +13,8 @@ use new_disks::PlannedDisk;
 use status_table::PstRecord;
 use std::alloc::Global;
 
-/// A new group: its name, its shape, its disks with the headers that they get, its first record, and the first records of its
-/// directories.
+/// A new group: its name, its shape, its disks with the headers that they get, its first record,
+/// and the first records of its directories.
 #[derive(Drop)]
 pub struct Draft {
     pub name: Name,
@@ -79,7 +79,8 @@ fn headed_disks(
     Ok(headed)
 }
 
-/// The group of these disks on these images, with so many units each. None where its record isn't one of the format.
+/// The group of these disks on these images, with so many units each. None where its record isn't
+/// one of the format.
 pub fn make_draft(
     alloc: Global,
     group: &Name,

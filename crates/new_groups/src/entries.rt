@@ -72,8 +72,8 @@ fn with_disk(
     with_entry(status, entry)
 }
 
-/// The record with an entry more for each of the disks. `named` are the disks from the first on, of which the record has the
-/// first ones.
+/// The record with an entry more for each of the disks. `named` are the disks from the first on, of
+/// which the record has the first ones.
 fn with_disks(status: PstRecord, named: &[PlannedDisk], units: &[u32]) -> PstRecord {
     let mut status = status;
     for (i, disk) in named.iter().enumerate() {
@@ -97,7 +97,8 @@ fn with_sets(alloc: Global, status: &PstRecord, kind: GroupKind) -> Result<PstRe
     Ok(with_partners(&named, &sets))
 }
 
-/// The first record of a group of these disks with so many units each. None where it isn't one of the format.
+/// The first record of a group of these disks with so many units each. None where it isn't one of
+/// the format.
 pub fn first_record(
     alloc: Global,
     id: u64,

@@ -1,4 +1,5 @@
-//! The first records of a new group's directories: its disks, the system templates and the settings.
+//! The first records of a new group's directories: its disks, the system templates and the
+//! settings.
 ghost use Rattle.std.specs.Prelude.{IfOk, OnOk};
 ghost use Rattle.directory_store.specs.Contents.{ArePutItems, IsPutItem};
 
@@ -17,7 +18,8 @@ fn info_of(disk: &Headed) -> Result<DiskInfo, NoMemory> {
     })
 }
 
-/// The record of a new disk. Want of memory is answered, too, where the directories couldn't hold it.
+/// The record of a new disk. Want of memory is answered, too, where the directories couldn't hold
+/// it.
 fn first_record(alloc: Global, disk: &Headed) -> Result<(Key, Value), NoMemory>
     ensures { IfOk result IsPutItem }
 {

@@ -1,4 +1,5 @@
-//! The disks of a new group get their parts: headers, directory copies, claims, and last the record.
+//! The disks of a new group get their parts: headers, directory copies, claims, and last the
+//! record.
 ghost use Rattle.std.specs.Prelude.{◌≡◌, [], IfErr, IfOk, IsTrue};
 ghost use Rattle.refusal_lines.specs.Refusals.{meaning_of};
 ghost use Rattle.asm_group.specs.Shape.{is_shape};

@@ -1,4 +1,5 @@
-//! New groups of every kind: what a creation is refused for, what its disks become, and how they are formed and mounted.
+//! New groups of every kind: what a creation is refused for, what its disks become, and how they
+//! are formed and mounted.
 #![tactic(auto)]
 
 pub use mounted_groups::{Headed, mount_group};

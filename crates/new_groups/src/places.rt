@@ -166,7 +166,8 @@ fn is_of_session(taken: &[Taken], member: Taken) -> bool
     }
 }
 
-/// Whether the header shows a disk that may not be taken: FORCE takes those that aren't disks of groups in the session.
+/// Whether the header shows a disk that may not be taken: FORCE takes those that aren't disks of
+/// groups in the session.
 fn is_member_taken(taken: &[Taken], force: bool, shown: Shown) -> bool
     ensures { result ≡ is_member_taken taken.now force shown }
 {
@@ -191,8 +192,8 @@ fn is_unread(shown: Shown) -> bool
     matches!(shown, Shown::Unread)
 }
 
-/// Whether the disk may be given to a new group. A header that couldn't be read comes first: by it alone can it be told whether
-/// the disk is taken.
+/// Whether the disk may be given to a new group. A header that couldn't be read comes first: by it
+/// alone can it be told whether the disk is taken.
 fn check_free(
     alloc: Global,
     known: &Known,
@@ -216,8 +217,8 @@ fn check_free(
     }
 }
 
-/// Whether the disks may be given to a new group. Refused by the first that may not: DiskTaken, or WriteFault where its header
-/// couldn't be read.
+/// Whether the disks may be given to a new group. Refused by the first that may not: DiskTaken, or
+/// WriteFault where its header couldn't be read.
 pub fn check_all_free(
     alloc: Global,
     known: &Known,

@@ -106,7 +106,8 @@ fn free_places(
     }
 }
 
-/// The units of the disks, which make a group of the kind. Refused as NameTaken, TooSmall, TooFewGroups in this order.
+/// The units of the disks, which make a group of the kind. Refused as NameTaken, TooSmall,
+/// TooFewGroups in this order.
 fn right_units(
     alloc: Global,
     shape: &Shape,
@@ -230,8 +231,8 @@ fn look<B: Bay>(
     Ok(looked)
 }
 
-/// Does all that comes before the first write. The refusals in order: BadAttribute, TooMany, NoDisk, DiskTaken or WriteFault,
-/// NameTaken, TooSmall, TooFewGroups.
+/// Does all that comes before the first write. The refusals in order: BadAttribute, TooMany,
+/// NoDisk, DiskTaken or WriteFault, NameTaken, TooSmall, TooFewGroups.
 pub fn prepare<B: Bay>(
     alloc: Global,
     bay: &mut B,

@@ -1,4 +1,5 @@
-//! Refusals of a creation. Each wants memory for the text that it names: where there is none, it is NoMemory.
+//! Refusals of a creation. Each wants memory for the text that it names: where there is none, it is
+//! NoMemory.
 ghost use Rattle.asm_group.specs.Refusal.{BadAttribute, TooSmall};
 ghost use Rattle.mounted_groups.specs.Probes.{SaysRefusal};
 

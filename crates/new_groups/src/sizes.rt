@@ -13,7 +13,8 @@ use new_disks::PlannedDisk;
 use refusal_lines::Refusal;
 use std::alloc::Global;
 
-/// The units that a disk is to have: those of the size that is said, or those of its image of so many bytes.
+/// The units that a disk is to have: those of the size that is said, or those of its image of so
+/// many bytes.
 #[tactic(auto, using(asm_images::proofs::UserBytes::shape_au))]
 fn units_asked(shape: &Shape, size: Option<u64>, bytes: u64) -> u64
     requires { IsTrue (is_shape shape.now) }
@@ -25,7 +26,8 @@ fn units_asked(shape: &Shape, size: Option<u64>, bytes: u64) -> u64
     }
 }
 
-/// The units of a disk. Refused as TooSmall where its image has fewer than are said, or they are fewer than it needs.
+/// The units of a disk. Refused as TooSmall where its image has fewer than are said, or they are
+/// fewer than it needs.
 fn units_for(
     alloc: Global,
     shape: &Shape,
@@ -51,7 +53,8 @@ fn units_for(
     Ok(units as u32)
 }
 
-/// The units of the disks, in their order. Refused as TooSmall by the first that has fewer than are said or needed.
+/// The units of the disks, in their order. Refused as TooSmall by the first that has fewer than are
+/// said or needed.
 pub fn all_units(
     alloc: Global,
     shape: &Shape,

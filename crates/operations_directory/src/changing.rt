@@ -13,8 +13,8 @@ use crate::table::OperationTable;
 use asm_base::{Key, Value};
 
 impl OperationTable {
-    /// Takes up what a record says. `false`, with the table as it was, where it is no record of an operation. It takes no
-    /// memory.
+    /// Takes up what a record says. `false`, with the table as it was, where it is no record of an
+    /// operation. It takes no memory.
     #[tactic(auto, using(crate::proofs::ChangeLaws::operation_put, crate::proofs::ChangeLaws::operation_table))]
     pub fn put_record(&mut self, key: Key, value: &Value) -> bool
         requires { key.kind ≡ operations_kind }

@@ -3,7 +3,8 @@
 use asm_base::PendingKind;
 use std::marker::Model;
 
-/// What was begun on a file and isn't ended. Contracts see it as the pending operation of the formats.
+/// What was begun on a file and isn't ended. Contracts see it as the pending operation of the
+/// formats.
 #[derive(Clone, Copy, Debug)]
 pub struct Pending {
     pub kind: PendingKind,

@@ -81,7 +81,8 @@ impl OperationTable {
         Ok(())
     }
 
-    /// The table whose records these are, or None where a record of its kind isn't of the formats. It takes no memory.
+    /// The table whose records these are, or None where a record of its kind isn't of the formats.
+    /// It takes no memory.
     pub fn from_records(records: &Records) -> Result<Option<OperationTable>, NoMemory>
         // What is read is a table that has these records.
         ensures found { IfOk result (λ read. IfSome read
@@ -117,7 +118,8 @@ impl OperationTable {
         self.with_operation(operation)
     }
 
-    /// The same by what the record says. Records come in the order of their keys: the rebalance, and then the operation.
+    /// The same by what the record says. Records come in the order of their keys: the rebalance,
+    /// and then the operation.
     fn with_operation(self, operation: Operation) -> Option<OperationTable>
         ensures { result ≡ with_operation self operation }
     {

@@ -12,7 +12,8 @@ use std::alloc::Global;
 use std::collections::BTreeMap;
 
 impl PageMap {
-    /// Of each record the page on which it stands, by number, with its block. Other pages of a copy are zeros.
+    /// Of each record the page on which it stands, by number, with its block. Other pages of a copy
+    /// are zeros.
     pub fn pages(&self, alloc: Global) -> Result<Vec<(u32, Block)>, NoMemory>
         ensures { IfOk result (λ pages. Lists self.now pages.items) }
     {

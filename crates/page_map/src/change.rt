@@ -203,8 +203,8 @@ pub(crate) fn listed(
     pages.into_iter().collect(alloc).map_err(|_| NoMemory)
 }
 
-/// Adds the records whose keys are new, and gives the pages that the whole change touches. Where there is no memory the
-/// records and their pages stay.
+/// Adds the records whose keys are new, and gives the pages that the whole change touches. Where
+/// there is no memory the records and their pages stay.
 #[tactic(auto, using(crate::proofs::Adding::adds_table))]
 fn add_new(
     alloc: Global,
@@ -236,7 +236,8 @@ fn add_new(
     }
 }
 
-/// Gives the keys of these records, which are all there, their values. Of two with one key the later counts.
+/// Gives the keys of these records, which are all there, their values. Of two with one key the
+/// later counts.
 fn set_all(map: &mut PageMap, values: &mut Vec<(Key, Value)>)
     requires there { (k : FormatKey) → is_put values.old.items k ≡ true
         → is_some (place_at map.old.places k) ≡ true }
@@ -260,10 +261,10 @@ fn remove_all(map: &mut PageMap, gone: &[Key])
     remove_all(map, rest);
 }
 
-/// Applies a change, and gives the pages that change, by number, each with what stands on it then. Full, with nothing
-/// changed, exactly where more records are new than there is room for. All memory is taken before anything changes, and
-/// without it nothing does. The calls nest as deep as the change is long, so more records than a commit takes are given
-/// in parts.
+/// Applies a change, and gives the pages that change, by number, each with what stands on it then.
+/// Full, with nothing changed, exactly where more records are new than there is room for. All
+/// memory is taken before anything changes, and without it nothing does. The calls nest as deep as
+/// the change is long, so more records than a commit takes are given in parts.
 pub fn apply(
     alloc: Global,
     map: &mut PageMap,

@@ -1,4 +1,5 @@
-//! The directories of a group: records by key, each on a page of its own, and what a change does to both.
+//! The directories of a group: records by key, each on a page of its own, and what a change does to
+//! both.
 #![tactic(auto)]
 
 pub use allocator::Units;

@@ -54,8 +54,8 @@ fn put_page(alloc: Global, map: &mut PageMap, page: u32, block: &Block) -> Resul
     Ok(())
 }
 
-/// The map of the records of these pages, each on its page: they ascend, and each is the block of a record. All other pages
-/// are free. Twin is the first page with the key of an earlier one.
+/// The map of the records of these pages, each on its page: they ascend, and each is the block of a
+/// record. All other pages are free. Twin is the first page with the key of an earlier one.
 pub fn from_pages(
     alloc: Global,
     pages: u32,

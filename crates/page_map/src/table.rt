@@ -80,7 +80,8 @@ impl PageMap {
         self.places.iter()
     }
 
-    /// The pages that are left for other records than the active rebalance and the pending operation.
+    /// The pages that are left for other records than the active rebalance and the pending
+    /// operation.
     pub fn room(&self) -> u64
         ensures room { result ≡ room self.now }
         ensures table { IsPageTable self.now }

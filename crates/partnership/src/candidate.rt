@@ -52,7 +52,8 @@ pub fn is_target(disk: &PstEntry) -> bool
     matches!(disk.mode, Mode::Online) && !disk.quorum
 }
 
-/// The disk, where it may take a copy of so many units. `units` has its map at the place of its number.
+/// The disk, where it may take a copy of so many units. `units` has its map at the place of its
+/// number.
 #[tactic(auto, unfolding(crate::specs::Candidates::candidate_at))]
 pub fn candidate_on(disk: &PstEntry, units: &[Units], n: u32) -> Option<Candidate>
     requires { 0 < n }
@@ -101,7 +102,8 @@ pub fn lowest(units: &Units, n: u32) -> Option<u32>
     units.lowest(n)
 }
 
-/// Whether a is tried before b: it is less full, or as full and of a lower number. Fills are compared by cross products.
+/// Whether a is tried before b: it is less full, or as full and of a lower number. Fills are
+/// compared by cross products.
 #[tactic(auto, unfolding(crate::specs::Candidates::is_less_full))]
 fn is_before(a: &Candidate, b: &Candidate) -> bool
     ensures { result ≡ is_less_full a.now b.now }

@@ -54,7 +54,8 @@ impl Choice {
     }
 }
 
-/// So many disks in rounds over the failure groups, quorum groups first. Each round takes the next disk of each group.
+/// So many disks in rounds over the failure groups, quorum groups first. Each round takes the next
+/// disk of each group.
 #[tactic(auto, using(crate::proofs::Rounds::round_step, crate::proofs::Rounds::rounds_start, crate::proofs::Rounds::rounds_end, crate::proofs::Rounds::none_left))]
 pub fn in_rounds(quorum: &[PstEntry], regular: &[PstEntry], rounds: usize, count: usize) -> Choice
     requires quorum_numbers { FitInSet quorum.now }

@@ -16,9 +16,10 @@ use crate::room::Room;
 use allocator::{DiskSet, Home, Homes, Units};
 use status_table::PstEntry;
 
-/// Homes for one to three copies of a new extent of n units, or None where there is no space. The first goes to the
-/// first disk, the least full before the fuller, that is Online and regular, has room, and has partners for the others.
-/// Those go in turn to such partners of it, each in another failure group. `units` has the map of disk k at place k.
+/// Homes for one to three copies of a new extent of n units, or None where there is no space. The
+/// first goes to the first disk, the least full before the fuller, that is Online and regular, has
+/// room, and has partners for the others. Those go in turn to such partners of it, each in another
+/// failure group. `units` has the map of disk k at place k.
 #[tactic(auto, using(crate::proofs::Placement::homes_are))]
 pub fn choose_homes(disks: &[PstEntry], units: &[Units], copies: u8, n: u32) -> Option<Homes>
     requires { 0 < n }
@@ -182,7 +183,8 @@ fn third_disk(
     next_disk(disks, room, first.disk.partners, &taken)
 }
 
-/// The first disk in order of a set that may take a copy and lies outside of the failure groups that are taken.
+/// The first disk in order of a set that may take a copy and lies outside of the failure groups
+/// that are taken.
 #[tactic(auto, using(crate::proofs::Turns::tried_from, crate::proofs::Turns::tried_start, crate::proofs::Turns::both_tests))]
 fn next_disk(disks: &[PstEntry], room: &Room, set: DiskSet, taken: &[u8]) -> Option<Candidate>
     ensures { result ≡ candidate_tried_first

@@ -1,4 +1,5 @@
-//! Which disks are partners, where new copies go, and which disks hold the status tables and directory copies.
+//! Which disks are partners, where new copies go, and which disks hold the status tables and
+//! directory copies.
 #![tactic(auto)]
 
 pub use status_table::{

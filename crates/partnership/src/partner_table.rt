@@ -23,9 +23,9 @@ pub enum Pass {
 /// The most partners of a disk.
 const MOST_PARTNERS: usize = 8;
 
-/// The partners of each disk, in the order of the disks, which ascend by number. All pairs of regular disks that stay
-/// and lie in different failure groups are taken in ascending order, in two passes, as long as both disks have fewer
-/// than eight partners.
+/// The partners of each disk, in the order of the disks, which ascend by number. All pairs of
+/// regular disks that stay and lie in different failure groups are taken in ascending order, in two
+/// passes, as long as both disks have fewer than eight partners.
 pub fn partners(alloc: Global, disks: &[PstEntry]) -> Result<Vec<DiskSet>, NoMemory>
     ensures sets { IfOk result (λ sets. sets.items
         ≡ map (λ (e : Entry). partner_set disks.now e.number) disks.now) }

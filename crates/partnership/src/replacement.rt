@@ -14,13 +14,15 @@ use crate::candidate::{Candidate, candidate_on, home_of, is_target, with_next};
 use allocator::{DiskSet, Home, Units};
 use status_table::PstEntry;
 
-/// Whether disk d may take a copy of an extent: it is Online and regular, holds none of its copies, shares no failure
-/// group with a kept one, and is a partner of the first kept one's disk, where one is kept. `holders` are the homes of
-/// all copies, `kept` those of the copies that stay, on disks that stay.
+/// Whether disk d may take a copy of an extent: it is Online and regular, holds none of its copies,
+/// shares no failure group with a kept one, and is a partner of the first kept one's disk, where
+/// one is kept. `holders` are the homes of all copies, `kept` those of the copies that stay, on
+/// disks that stay.
 #[tactic(auto, using(crate::proofs::Kept::eligible_is))]
 pub fn eligible(disks: &[PstEntry], kept: &[Home], holders: &[Home], d: u8) -> bool
     ensures value { result ≡ may_take_at disks.now kept.now holders.now (entry_of disks.now d) }
-    // Where the homes are those of an extent of which one copy is to be replaced, the disk is eligible for that.
+    // Where the homes are those of an extent of which one copy is to be replaced, the disk is
+    // eligible for that.
     ensures placement { (replaced : ℕ) (homes : Homes)
         → AreHomesOf disks.now replaced homes kept.now holders.now
         → result ≡ is_eligible_at disks.now replaced homes (entry_of disks.now d) }
@@ -37,8 +39,9 @@ fn may_take_at(disks: &[PstEntry], kept: &[Home], holders: &[Home], d: u8) -> bo
     }
 }
 
-/// The home of a copy of n units: the lowest run of the first eligible disk with room, the least full before the fuller.
-/// None where there is no such disk. `units` has the map of disk k at place k.
+/// The home of a copy of n units: the lowest run of the first eligible disk with room, the least
+/// full before the fuller. None where there is no such disk. `units` has the map of disk k at place
+/// k.
 #[tactic(auto, using(crate::proofs::Kept::copy_is))]
 pub fn choose_copy(
     disks: &[PstEntry],
@@ -50,7 +53,8 @@ pub fn choose_copy(
     requires { 0 < n }
     ensures chosen { result ≡ chosen_copy disks.now kept.now holders.now
         (candidates n disks.now units.now) }
-    // Where the units are those of a group's records, and the homes those of an extent, the home takes a copy's place.
+    // Where the units are those of a group's records, and the homes those of an extent, the home
+    // takes a copy's place.
     ensures placement { (s : Shape) (items : List Item) (replaced : ℕ) (homes : Homes)
         → AreUnitsOf s items disks.now units.now
         → AreHomesOf disks.now replaced homes kept.now holders.now
@@ -72,7 +76,8 @@ pub fn choose_copy_on(
     requires { 0 < n }
     ensures chosen { result ≡ chosen_copy_of (Some on) disks.now kept.now holders.now
         (candidates n disks.now units.now) }
-    // Where the units are those of a group's records, and the homes those of an extent, the home takes a copy's place.
+    // Where the units are those of a group's records, and the homes those of an extent, the home
+    // takes a copy's place.
     ensures placement { (s : Shape) (items : List Item) (replaced : ℕ) (homes : Homes)
         → AreUnitsOf s items disks.now units.now
         → AreHomesOf disks.now replaced homes kept.now holders.now

@@ -14,8 +14,8 @@ use std::marker::Model;
 /// As many as a byte has values, which are the numbers of disks.
 const NUMBERS: usize = 256;
 
-/// The units of the disks, and where a copy of so many units would begin on each: the search through the map of a disk is
-/// made once, however often the disk is asked for.
+/// The units of the disks, and where a copy of so many units would begin on each: the search
+/// through the map of a disk is made once, however often the disk is asked for.
 #[derive(Drop)]
 pub struct Room<'a> {
     /// The map of disk k at place k.

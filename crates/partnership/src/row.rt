@@ -11,10 +11,12 @@ use allocator::{Home, Homes, Units};
 use status_table::PstEntry;
 use striping::units_of;
 
-/// Homes for new extents in turn, each chosen as `choose_homes` does while the units of those before it are used: that of
-/// index `first` at the first place of the row, and so on. How many extents have homes: all of the row, or those before the
-/// first for which there is no space. The places behind them are as they were. `units` has the map of disk k at place k, and
-/// has the units of the row's homes used afterwards. `step` is the group's number of extents of each size. It takes no memory.
+/// Homes for new extents in turn, each chosen as `choose_homes` does while the units of those
+/// before it are used: that of index `first` at the first place of the row, and so on. How many
+/// extents have homes: all of the row, or those before the first for which there is no space. The
+/// places behind them are as they were. `units` has the map of disk k at place k, and has the units
+/// of the row's homes used afterwards. `step` is the group's number of extents of each size. It
+/// takes no memory.
 pub fn choose_row(
     disks: &[PstEntry],
     units: &mut [Units],

@@ -17,10 +17,11 @@ use crate::replacement::entry_of;
 use allocator::{DiskSet, GroupKind, Mode};
 use status_table::{PstEntry, PstRecord};
 
-/// The holders of status tables where a group of this kind has these disks: one in an EXTERNAL group; three in a NORMAL
-/// one, or one where it has fewer than three disks; five in a HIGH one, or three where it has fewer than five. They are
-/// taken in rounds over the failure groups, quorum groups first, each kind in the order of its least disks; each round
-/// takes the least disk of each group that isn't taken yet.
+/// The holders of status tables where a group of this kind has these disks: one in an EXTERNAL
+/// group; three in a NORMAL one, or one where it has fewer than three disks; five in a HIGH one, or
+/// three where it has fewer than five. They are taken in rounds over the failure groups, quorum
+/// groups first, each kind in the order of its least disks; each round takes the least disk of each
+/// group that isn't taken yet.
 #[tactic(auto, using(crate::proofs::TableSets::holders_are, crate::proofs::Selected::numbered))]
 pub fn first_holders(kind: GroupKind, disks: &[PstEntry]) -> DiskSet
     requires few { length disks.now ≤ 64 }
@@ -33,8 +34,8 @@ pub fn first_holders(kind: GroupKind, disks: &[PstEntry]) -> DiskSet
     in_rounds(quorum.as_slice(), regular.as_slice(), disks.len(), count).set
 }
 
-/// The disks of the first directory copies: the least disk of each of the first regular failure groups, of one in an
-/// EXTERNAL group and of three at most in others.
+/// The disks of the first directory copies: the least disk of each of the first regular failure
+/// groups, of one in an EXTERNAL group and of three at most in others.
 #[tactic(auto, using(crate::proofs::TableSets::directories_are, crate::proofs::Selected::numbered))]
 pub fn first_directories(kind: GroupKind, disks: &[PstEntry]) -> DiskSet
     requires few { length disks.now ≤ 64 }
@@ -66,8 +67,9 @@ fn copy_count(kind: GroupKind) -> usize
     }
 }
 
-/// Where the status tables move: to the next holders where there are some; else to those that the Online disks would
-/// give, where these are more than the holders, or where they are some and a holder's disk leaves the group.
+/// Where the status tables move: to the next holders where there are some; else to those that the
+/// Online disks would give, where these are more than the holders, or where they are some and a
+/// holder's disk leaves the group.
 #[tactic(auto, unfolding(asm_placement::specs::TableDisks::is_status_move_due))]
 pub fn status_target(kind: GroupKind, status: &PstRecord) -> Option<DiskSet>
     requires { IsTrue (is_status status.now) }
@@ -132,9 +134,10 @@ fn leaves(disks: &[PstEntry], d: u8) -> bool
     }
 }
 
-/// The disk that takes a further directory copy, where one is due: fewer failure groups have one on a disk that stays
-/// than are to have one, which is one in an EXTERNAL group and three at most in others, of those with an Online regular
-/// disk. It is the least Online regular disk of a failure group that has none.
+/// The disk that takes a further directory copy, where one is due: fewer failure groups have one on
+/// a disk that stays than are to have one, which is one in an EXTERNAL group and three at most in
+/// others, of those with an Online regular disk. It is the least Online regular disk of a failure
+/// group that has none.
 #[tactic(auto, unfolding(asm_placement::specs::TableDisks::directory_target))]
 pub fn directory_target(kind: GroupKind, status: &PstRecord) -> Option<u8>
     ensures { result ≡ directory_target kind status.now }
@@ -151,7 +154,8 @@ pub fn directory_target(kind: GroupKind, status: &PstRecord) -> Option<u8>
     }
 }
 
-/// The least disk that may take a copy and lies in another failure group than each of the disks that hold one.
+/// The least disk that may take a copy and lies in another failure group than each of the disks
+/// that hold one.
 fn first_outside(disks: &[PstEntry], holding: &[PstEntry]) -> Option<u8>
     ensures { result ≡ option_map (λ (e : Entry). e.number)
         (find (λ (e : Entry). is_target e

@@ -72,7 +72,8 @@ fn home(disk: u8, unit: u32) -> Option<Home> {
     Some(Home { disk, unit })
 }
 
-/// Extents of a first mirrored file lie on disks 0 and 1, then on disks 2 and 3, then on disks 0 and 1 again.
+/// Extents of a first mirrored file lie on disks 0 and 1, then on disks 2 and 3, then on disks 0
+/// and 1 again.
 #[test]
 fn homes_in_turn(rt: HostRuntime) {
     let disks = four();
@@ -114,8 +115,8 @@ fn full_partners(rt: HostRuntime) {
     assert!(rt; choose_homes(&pairs, &units, 2, 1).is_none());
 }
 
-/// Disk 3 is dropped, with four extents on two pairs of disks: the copy of extent 1 goes to disk 0, and then that of
-/// extent 3 to disk 1.
+/// Disk 3 is dropped, with four extents on two pairs of disks: the copy of extent 1 goes to disk 0,
+/// and then that of extent 3 to disk 1.
 #[test]
 fn copies_of_a_dropped_disk(rt: HostRuntime) {
     let mut disks = [single(0, 6), single(1, 5), single(2, 3), single(3, 0)];
@@ -137,7 +138,8 @@ fn copies_of_a_dropped_disk(rt: HostRuntime) {
     );
 }
 
-/// Each disk's units stand at the place of its number; a disk whose number has no place takes no copy.
+/// Each disk's units stand at the place of its number; a disk whose number has no place takes no
+/// copy.
 #[test]
 fn units_by_number(rt: HostRuntime) {
     let disks = [single(1, 8), single(3, 2)];

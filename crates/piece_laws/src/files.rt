@@ -23,7 +23,8 @@ pub fn freed_forgets()
     ensures { FreedForgets }
 {}
 
-/// A group that is held, and differs from another one in a span alone, is held as that one with the span's cells Free.
+/// A group that is held, and differs from another one in a span alone, is held as that one with the
+/// span's cells Free.
 pub fn span_is_free()
     ensures { SpanIsFree }
 {}

@@ -1,4 +1,5 @@
-//! What writes to the copies of an extent, and reads of one, mean for the group. Each function does nothing; its contract is the law.
+//! What writes to the copies of an extent, and reads of one, mean for the group. Each function does
+//! nothing; its contract is the law.
 #![tactic(auto)]
 
 pub use striping::units_of;

@@ -2,7 +2,8 @@
 ghost use Rattle.piece_laws.specs.PieceLaws.{FewerCurrentHold, FreedIsHeld, ReadingAgrees, SettlingKnows, WritingFrees};
 ghost use Rattle.piece_laws.specs.SpareLaws.{SpareWriteKeeps};
 
-/// While a piece is written to some copies, however torn, the group is held with the piece's cells Free.
+/// While a piece is written to some copies, however torn, the group is held with the piece's cells
+/// Free.
 pub fn writing_frees()
     ensures { WritingFrees }
 {}

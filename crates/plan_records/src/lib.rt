@@ -1,5 +1,5 @@
-//! What the plans of a catalog are made of: changes of a few records and copies of changes, heads, operations and names of
-//! files, the records of settings and templates, and refusals.
+//! What the plans of a catalog are made of: changes of a few records and copies of changes, heads,
+//! operations and names of files, the records of settings and templates, and refusals.
 #![tactic(auto)]
 
 pub use alias_edits::{Node, TreeChange, TreeEdit, TreeError, node_record, plan, plan_file};

@@ -19,8 +19,8 @@ pub struct NameParts<'a> {
     pub tag: &'a Name,
 }
 
-/// The name of a new file at a path. None where no file may have the path: where it hasn't three parts, or one of them is
-/// too long, or the type is the one of volumes.
+/// The name of a new file at a path. None where no file may have the path: where it hasn't three
+/// parts, or one of them is too long, or the type is the one of volumes.
 #[tactic(auto, using(crate::proofs::NewNames::name_is, crate::proofs::NewNames::long_db, crate::proofs::NewNames::long_kind, crate::proofs::NewNames::long_tag, crate::proofs::NewNames::of_volumes, crate::proofs::NewNames::other_path))]
 pub fn new_name(path: &Path) -> Option<NameParts<'_>>
     ensures name { IfSome result (λ name. name_at path.now.parts ≡ Some (name_meant name)) }
@@ -53,7 +53,8 @@ fn is_of_volumes(kind: &Name) -> bool
     kind.as_bytes().eq_ignore_ascii_case(b"ASMVOL")
 }
 
-/// The path of the system name: the tag has the file's number and its incarnation behind it, each after a dot.
+/// The path of the system name: the tag has the file's number and its incarnation behind it, each
+/// after a dot.
 pub fn system_path(
     alloc: Global,
     group: &Name,

@@ -33,8 +33,8 @@ impl Kind {
     }
 }
 
-/// A call on the disks: how many lines of the script were read when it came, its slot, what it does, and where a write how many
-/// bytes it has.
+/// A call on the disks: how many lines of the script were read when it came, its slot, what it
+/// does, and where a write how many bytes it has.
 #[derive(Clone, Copy)]
 pub struct Call {
     pub line: u64,

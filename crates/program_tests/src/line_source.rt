@@ -4,8 +4,8 @@ ghost use Rattle.std.specs.Prelude.{◌≤◌, length};
 use bay::{Fault, Source};
 use std::cell::Cell;
 
-/// A script of which each read gives a line, so that commands run when their line was read and not the next. The cell has the number
-/// of reads so far.
+/// A script of which each read gives a line, so that commands run when their line was read and not
+/// the next. The cell has the number of reads so far.
 #[derive(Drop)]
 pub struct LineSource<'a> {
     rest: &'a [u8],

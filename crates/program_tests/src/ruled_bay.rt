@@ -7,15 +7,16 @@ use bay_mem::{MemBay, NoMemory};
 use std::alloc::Global;
 use std::cell::Cell;
 
-/// Disks in memory, the rules by which their calls fail, and the record of the calls of a run; where it is asked for, also one of
-/// what they wrote and whether they were done.
+/// Disks in memory, the rules by which their calls fail, and the record of the calls of a run;
+/// where it is asked for, also one of what they wrote and whether they were done.
 #[derive(Drop)]
 pub struct RuledBay<'a> {
     disks: MemBay,
     rules: Vec<Rule>,
     record: Vec<Call>,
     trace: Trace,
-    /// The places and lengths of the run's reads and writes, bit by bit: it has the bits that one of them has.
+    /// The places and lengths of the run's reads and writes, bit by bit: it has the bits that one
+    /// of them has.
     pieces: u64,
     stop: Option<u64>,
     line: &'a Cell<u64>,
@@ -25,7 +26,8 @@ impl<'a> RuledBay<'a> {
     ghost use Rattle.bay_mem.specs.MemState as mem;
     ghost use Rattle.program_tests.specs.Untold.{Stays};
 
-    /// Disks of zeros of these sizes by slot. The cell has the number of lines that were read of a script.
+    /// Disks of zeros of these sizes by slot. The cell has the number of lines that were read of a
+    /// script.
     pub fn new(
         alloc: Global,
         sizes: &[Option<u64>],
@@ -131,7 +133,8 @@ impl<'a> RuledBay<'a> {
         self.pieces = self.pieces | at | len as u64;
     }
 
-    // A call comes. Want of memory for the record or for a failure is not told: the row fails by what comes of it.
+    // A call comes. Want of memory for the record or for a failure is not told: the row fails by
+    // what comes of it.
     fn begin(&mut self, kind: Kind, slot: u32, bytes: u64)
         ensures { Stays (mem.state_of self.old.disks) (mem.state_of self.new.disks) }
     {

@@ -16,8 +16,8 @@ pub struct Outside {
     pub clock: MemClock,
 }
 
-/// What a run left, but for the disks: what it printed, its status, how many replies it counted, and the count of the disks' calls at
-/// the end of each.
+/// What a run left, but for the disks: what it printed, its status, how many replies it counted,
+/// and the count of the disks' calls at the end of each.
 #[derive(Drop)]
 pub struct Seen {
     pub sink: MemSink,
@@ -26,7 +26,8 @@ pub struct Seen {
     pub marks: Vec<u64>,
 }
 
-/// Runs a script on disks. All rows and trials are played by this one call, so that the program is made once for them.
+/// Runs a script on disks. All rows and trials are played by this one call, so that the program is
+/// made once for them.
 pub fn perform<'a>(
     alloc: Global,
     words: &[String],

@@ -2,7 +2,8 @@
 use crate::calls::Kind;
 use std::alloc::{AllocError, Global};
 
-/// A call on a disk: what it asked, of which slot, from which byte on, the bytes that it was to write, and whether it was done.
+/// A call on a disk: what it asked, of which slot, from which byte on, the bytes that it was to
+/// write, and whether it was done.
 #[derive(Drop)]
 pub struct TracedCall {
     pub kind: Kind,

@@ -14,9 +14,9 @@ use catalog_laws::Catalog;
 use partnership::PstRecord;
 use std::marker::Model;
 
-/// For each stage of the search for the next move the chunk of extents at which it begins, by file and number; none where
-/// it is at the end. Before it nothing is due, so those chunks needn't be asked again while they and the status record's
-/// entries stay as they are.
+/// For each stage of the search for the next move the chunk of extents at which it begins, by file
+/// and number; none where it is at the end. Before it nothing is due, so those chunks needn't be
+/// asked again while they and the status record's entries stay as they are.
 #[derive(Clone, Copy)]
 pub struct Cursor {
     pub(crate) recopy: Option<(u32, u32)>,
@@ -62,10 +62,11 @@ impl Cursor {
         }
     }
 
-    /// Brings the cursor up to a change of one extent's homes or marks, as a move of a copy is: a place behind the extent's
-    /// chunk goes back to it where something is due there at the place's stage, and stays where nothing is. So the chunks
-    /// behind aren't asked again. The search for a balancing shift, which goes by the used units of all disks, goes back to
-    /// the start. It takes no memory, and asks the one chunk at most once for each stage.
+    /// Brings the cursor up to a change of one extent's homes or marks, as a move of a copy is: a
+    /// place behind the extent's chunk goes back to it where something is due there at the place's
+    /// stage, and stays where nothing is. So the chunks behind aren't asked again. The search for a
+    /// balancing shift, which goes by the used units of all disks, goes back to the start. It takes
+    /// no memory, and asks the one chunk at most once for each stage.
     pub fn follow(&mut self, catalog: &Catalog, status: &PstRecord, extent: ExtentId)
         requires tables { AreTables catalog.now.tables }
         // It is a cursor after each change by which all chunks but the extent's stay as they were.

@@ -77,7 +77,8 @@ pub fn wants_shift(disks: &[PstEntry], extent: &Extent, copy: u8) -> bool
     is_dropping(disks, extent, copy) || is_doubled(disks, extent, copy)
 }
 
-/// Whether the copy's disk and that of an earlier copy share a failure group, and neither leaves the group.
+/// Whether the copy's disk and that of an earlier copy share a failure group, and neither leaves
+/// the group.
 fn is_doubled(disks: &[PstEntry], extent: &Extent, copy: u8) -> bool
     requires { copy < 3 }
     ensures { result ≡ is_doubled disks.now (copy_of extent.now copy) }

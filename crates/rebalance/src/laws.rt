@@ -3,8 +3,9 @@
 ghost use Rattle.rebalance.specs.Cursors.{MarksChangeOne, MovesChangeOne};
 ghost use Rattle.rebalance.specs.Falling.{NextMayBePlanned, PlannedMovesAreRegular, PlannedWorkFalls};
 
-/// The catalog's plan of the next move may be made: where a copy is written anew, that which clears its mark, and where it
-/// gets a home, that which moves it there. By the tables that it leads to no home lies on a quorum disk either.
+/// The catalog's plan of the next move may be made: where a copy is written anew, that which clears
+/// its mark, and where it gets a home, that which moves it there. By the tables that it leads to no
+/// home lies on a quorum disk either.
 pub fn next_moves_may_be_planned()
     ensures may { NextMayBePlanned }
     ensures regular { PlannedMovesAreRegular }
@@ -15,7 +16,8 @@ pub fn planned_moves_lower_the_work()
     ensures { PlannedWorkFalls }
 {}
 
-/// The plan of a copy's move, or of an extent's marks, leads to tables in which all chunks but the extent's are as they were.
+/// The plan of a copy's move, or of an extent's marks, leads to tables in which all chunks but the
+/// extent's are as they were.
 pub fn planned_moves_change_one_chunk()
     ensures moves { MovesChangeOne }
     ensures marks { MarksChangeOne }

@@ -1,4 +1,5 @@
-//! The next move of a group's rebalance, and what it stands on: the shares of the disks, and what an extent lacks. No call takes memory.
+//! The next move of a group's rebalance, and what it stands on: the shares of the disks, and what
+//! an extent lacks. No call takes memory.
 #![tactic(auto)]
 
 pub use catalog_laws::{

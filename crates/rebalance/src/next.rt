@@ -24,13 +24,14 @@ use crate::stages::{Stage, said_by_tables};
 use catalog_laws::Catalog;
 use partnership::PstRecord;
 
-/// What the rebalance of a group does next, or how it ends: the first of these that applies, extents by file and index and
-/// copies by number. A stale copy on an Online disk is written anew, where another can be read; a copy that is absent or on
-/// a Forced disk gets a home, and one on a Dropping disk or in the failure group of an earlier copy another one, on the
-/// first disk in order that may take it; a directory copy is added; the status tables move; an extent without a usable copy
-/// is lost; a copy that must go elsewhere has no space; a copy shifts from a disk above its share to one below; else all is
-/// done. Each move lowers the work that is left. It takes no memory, and goes over all extents once for each stage that has
-/// nothing to say.
+/// What the rebalance of a group does next, or how it ends: the first of these that applies,
+/// extents by file and index and copies by number. A stale copy on an Online disk is written anew,
+/// where another can be read; a copy that is absent or on a Forced disk gets a home, and one on a
+/// Dropping disk or in the failure group of an earlier copy another one, on the first disk in order
+/// that may take it; a directory copy is added; the status tables move; an extent without a usable
+/// copy is lost; a copy that must go elsewhere has no space; a copy shifts from a disk above its
+/// share to one below; else all is done. Each move lowers the work that is left. It takes no
+/// memory, and goes over all extents once for each stage that has nothing to say.
 pub fn next_move(catalog: &Catalog, status: &PstRecord) -> Next
     requires { IsStatusOf catalog.now status.now }
     ensures is_next { (items : List Item) → AreItemsOf catalog.now.tables items
@@ -41,8 +42,9 @@ pub fn next_move(catalog: &Catalog, status: &PstRecord) -> Next
     next_move_from(catalog, status, &mut cursor)
 }
 
-/// The same, but the chunks before the cursor's places aren't asked: nothing is due there. The cursor goes on to the first
-/// chunk of each stage that was asked in which something is due, also where no disk has room for it.
+/// The same, but the chunks before the cursor's places aren't asked: nothing is due there. The
+/// cursor goes on to the first chunk of each stage that was asked in which something is due, also
+/// where no disk has room for it.
 #[tactic(auto, using(crate::proofs::Searching::next_is))]
 pub fn next_move_from(catalog: &Catalog, status: &PstRecord, cursor: &mut Cursor) -> Next
     requires status { IsStatusOf catalog.now status.now }
@@ -90,8 +92,8 @@ fn or_done(next: Option<Next>) -> Next
     }
 }
 
-/// What is to be done next, where something is: what the first stage says, with directory copies and status tables between
-/// the work that is due and the rest.
+/// What is to be done next, where something is: what the first stage says, with directory copies
+/// and status tables between the work that is due and the rest.
 fn all_said(search: &Search<'_>, status: &PstRecord, cursor: &mut Cursor) -> Option<Next>
     requires status { IsTrue (is_status status.now) }
     requires tables { AreTables search.now.catalog.now.tables }
@@ -132,8 +134,9 @@ fn tables_said(catalog: &Catalog, status: &PstRecord) -> Option<Next>
     said_by_tables(catalog.shape().kind, status)
 }
 
-/// What was said, or else what the first extent of the group says at a stage, by file and index. The chunks before the place
-/// aren't asked then, and it goes on to the first chunk in which something is due.
+/// What was said, or else what the first extent of the group says at a stage, by file and index.
+/// The chunks before the place aren't asked then, and it goes on to the first chunk in which
+/// something is due.
 fn or_said(
     said: Option<Next>,
     search: &Search<'_>,

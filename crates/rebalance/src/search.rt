@@ -79,7 +79,8 @@ impl Search<'_> {
         self.asked_of(&found.extent).first_said(stage)
     }
 
-    /// Whether something is due in a chunk, where its file has a head. Where nothing is due, nothing is said.
+    /// Whether something is due in a chunk, where its file has a head. Where nothing is due,
+    /// nothing is said.
     pub fn is_due_in(&self, stage: Stage, at: (u32, u32), extents: &[Homes]) -> bool
         requires { length extents.now ≤ 256 }
         ensures { result ≡ is_due_in stage self.now.disks.now self.now.catalog.now self.now.shares

@@ -16,8 +16,8 @@ use asm_base::{DiskSet, Mode};
 use partnership::{PstEntry, PstRecord};
 use std::marker::Model;
 
-/// The used and the user units of the Online regular disks together. The share of a disk is the part of the used ones
-/// that falls to it by its user units, rounded down.
+/// The used and the user units of the Online regular disks together. The share of a disk is the
+/// part of the used ones that falls to it by its user units, rounded down.
 #[derive(Clone, Copy)]
 pub struct Shares {
     used: u64,
@@ -89,7 +89,8 @@ impl Shares {
     #[tactic(auto, using(crate::proofs::Sharing::share_placed))]
     pub fn share(&self, units: &[Units], d: u8) -> u32
         ensures value { result ≡ share_at self.now (slice_get units.now d) }
-        // Where the units and the sums are those of a group's records, it is the disk's share of the placement.
+        // Where the units and the sums are those of a group's records, it is the disk's share of
+        // the placement.
         ensures placement { (s : Shape) (items : List Item) (es : List Entry) (e : Entry)
             → AreUnitsOf s items es units.now → self.now ≡ sums_of s items es
             → entry_of es d ≡ Some e → result ≡ share s items es e }

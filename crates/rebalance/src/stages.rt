@@ -24,15 +24,16 @@ use partnership::{
     PstEntry, PstRecord, choose_copy, choose_copy_on, directory_target, status_target,
 };
 
-/// The stages of the search in which the extents are asked, in their order. Between `Shift` and `Lost` come the moves of
-/// directory copies and of status tables.
+/// The stages of the search in which the extents are asked, in their order. Between `Shift` and
+/// `Lost` come the moves of directory copies and of status tables.
 #[derive(Clone, Copy, Debug, PartialEq, Eq)]
 pub enum Stage {
     /// A stale copy on an Online disk, with a usable copy elsewhere.
     Recopy,
     /// A copy that is absent or on a Forced disk, with a usable copy and a disk that can take it.
     Fill,
-    /// In the same way, a copy on a Dropping disk, or one that shares its failure group with an earlier copy.
+    /// In the same way, a copy on a Dropping disk, or one that shares its failure group with an
+    /// earlier copy.
     Shift,
     /// No usable copy.
     Lost,
@@ -66,7 +67,8 @@ fn table_move(kind: GroupKind, status: &PstRecord) -> Option<Next>
     Some(Next::Move(Move::Status { to }))
 }
 
-/// What the first copy of an extent says at a stage, by its number. `units` has the map of disk k at place k.
+/// What the first copy of an extent says at a stage, by its number. `units` has the map of disk k
+/// at place k.
 pub fn said_first(
     disks: &[PstEntry],
     units: &[Units],
@@ -215,7 +217,8 @@ impl AskedExtent<'_> {
         )
     }
 
-    /// The home to which a copy shifts to balance the disks, where its own is on a disk above its share: on one below.
+    /// The home to which a copy shifts to balance the disks, where its own is on a disk above its
+    /// share: on one below.
     fn balancing(&self, copy: u8) -> Option<Home>
         requires { 0 < self.now.extent.now.units }
         ensures { result ≡ balancing_at self.now.disks.now self.now.units.now self.now.shares.now

@@ -149,7 +149,8 @@ fn added_disk(rt: HostRuntime) {
     assert!(rt; said_first(status.entries(), &units, &shares, &extent, Stage::Balance).is_none());
 }
 
-/// A holder that has a directory copy is dropped: disk 3 takes the copy, and the tables move to disks 1, 2 and 3.
+/// A holder that has a directory copy is dropped: disk 3 takes the copy, and the tables move to
+/// disks 1, 2 and 3.
 #[test]
 fn dropped_holder(rt: HostRuntime) {
     let mut status = four(Mode::Dropping, Mode::Online);

@@ -1,10 +1,11 @@
-//! What holds in each state, whatever happens. Each law is the contract of a function that does nothing.
+//! What holds in each state, whatever happens. Each law is the contract of a function that does
+//! nothing.
 
 ghost use Rattle.register_machine.specs.Laws.{Always, BegunFollow, CompletedIsFound, CompletedIsHeld, EpochsAreSeen, LastIsGreatest, NumbersRise, NeverUndone, StatusIsCurrent, SurveyIsCurrent};
 ghost use Rattle.register_machine.specs.Mounts.{CanBeMounted};
 
-/// Whichever disks are left, Status is the record that was completed last, or one begun after it, and these have greater
-/// numbers and follow it.
+/// Whichever disks are left, Status is the record that was completed last, or one begun after it,
+/// and these have greater numbers and follow it.
 pub fn status_is_current()
     ensures survey { Always SurveyIsCurrent }
     ensures status { Always StatusIsCurrent }
@@ -25,7 +26,8 @@ pub fn numbers_are_new()
     ensures epochs { Always EpochsAreSeen }
 {}
 
-/// Wherever the last program stopped, disks that are enough for their greatest record can be mounted, while there are epochs.
+/// Wherever the last program stopped, disks that are enough for their greatest record can be
+/// mounted, while there are epochs.
 pub fn enough_disks_mount()
     ensures { Always CanBeMounted }
 {}

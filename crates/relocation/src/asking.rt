@@ -35,11 +35,13 @@ pub(crate) enum Asked {
     Status { to: DiskSet },
     /// The rebalance ends.
     End { end: Slice },
-    /// What comes next can't be told. It doesn't come: the tables of a group that takes calls keep the rules.
+    /// What comes next can't be told. It doesn't come: the tables of a group that takes calls keep
+    /// the rules.
     Unknown,
 }
 
-/// What comes next: the move that is on its way goes on, or is given up where it can't; else it is the next one.
+/// What comes next: the move that is on its way goes on, or is given up where it can't; else it is
+/// the next one.
 pub(crate) fn ask<B: Bay>(m: &mut Mounted, bay: &B) -> Asked
     requires mounted { IsMounted m.old }
     requires takes { Takes m.old (B.state bay.now) }

@@ -15,8 +15,8 @@ use refusal_lines::Refusal;
 use resync::{Attached, Mounted, PstRecord, entry_of};
 use std::alloc::Global;
 
-/// Whether a disk leaves once nothing is left to do: it is Dropping or Forced, no holder and none of the next ones, and others have
-/// directory copies.
+/// Whether a disk leaves once nothing is left to do: it is Dropping or Forced, no holder and none
+/// of the next ones, and others have directory copies.
 fn is_to_leave(status: &PstRecord, disk: u8) -> bool
     requires { disk < 64 }
 {
@@ -46,8 +46,8 @@ fn is_attached(m: &Mounted, slot: u32) -> bool
     m.disks().iter().any(|attached| has_slot(attached, slot))
 }
 
-/// Closes the header of a disk that has left, where no attached disk is in its slot. Where that fails it may stay: the disk is no more
-/// one of the group all the same.
+/// Closes the header of a disk that has left, where no attached disk is in its slot. Where that
+/// fails it may stay: the disk is no more one of the group all the same.
 fn close_left<B: Bay>(m: &Mounted, bay: &mut B, slot: u32)
     requires takes { Takes m.now (B.state bay.old) }
     requires header { HasHeaderSlot (B.state bay.old) slot m.now.catalog.shape.sector }
@@ -134,7 +134,8 @@ fn empty_out<B: Bay>(m: &mut Mounted, alloc: Global, bay: &mut B, end: Slice) ->
     }
 }
 
-/// Ends the rebalance. Where nothing is left to do the emptied disks leave before. Refusals: Dismounted; NoMemory.
+/// Ends the rebalance. Where nothing is left to do the emptied disks leave before. Refusals:
+/// Dismounted; NoMemory.
 pub(crate) fn end_with<B: Bay>(
     m: &mut Mounted,
     alloc: Global,

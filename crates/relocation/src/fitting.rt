@@ -39,8 +39,8 @@ pub(crate) fn is_in_place(catalog: &Catalog, x: ExtentId, copy: u8, to: Home) ->
     home_of(catalog, x, copy) == Some(to)
 }
 
-/// Whether a move can go on: bytes are left to copy, they can be read, and its home is that of the stale copy, or free units to which the
-/// copy may move.
+/// Whether a move can go on: bytes are left to copy, they can be read, and its home is that of the
+/// stale copy, or free units to which the copy may move.
 pub(crate) fn can_go_on(m: &Mounted, flight: Flight) -> bool
     requires shape { IsTrue (is_shape m.now.catalog.shape) }
 {

@@ -1,6 +1,7 @@
-//! The slices of a rebalance. A slice does at most so many steps as the rebalance's power: a step copies at most 1 MiB of one copy of an
-//! extent, or a directory copy, or moves the status tables. One move may be on its way over many slices. Where nothing is left to do the
-//! emptied disks leave, and the rebalance ends.
+//! The slices of a rebalance. A slice does at most so many steps as the rebalance's power: a step
+//! copies at most 1 MiB of one copy of an extent, or a directory copy, or moves the status tables.
+//! One move may be on its way over many slices. Where nothing is left to do the emptied disks
+//! leave, and the rebalance ends.
 #![tactic(auto)]
 
 pub use resync::{

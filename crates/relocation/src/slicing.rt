@@ -14,10 +14,12 @@ use refusal_lines::Refusal;
 use resync::{Flight, Mounted, items_say_tables, piece_buffer, tables_have_items};
 use std::alloc::Global;
 
-/// Does at most so many steps of the active rebalance, and after the last of them asks for the end again. Gives the number of steps
-/// beside the answer, also of one that is refused; ends and disks that leave are no steps. Refusals: ReadFault, where all usable copies of
-/// an extent failed, and the move that is on its way stays; WriteFault, where its target did, and the move is given up, or where the disk
-/// of a new directory copy did: the rebalance stays active then, and no mode changes; Dismounted; NoMemory.
+/// Does at most so many steps of the active rebalance, and after the last of them asks for the end
+/// again. Gives the number of steps beside the answer, also of one that is refused; ends and disks
+/// that leave are no steps. Refusals: ReadFault, where all usable copies of an extent failed, and
+/// the move that is on its way stays; WriteFault, where its target did, and the move is given up,
+/// or where the disk of a new directory copy did: the rebalance stays active then, and no mode
+/// changes; Dismounted; NoMemory.
 pub fn slice<B: Bay>(
     m: &mut Mounted,
     alloc: Global,
@@ -25,7 +27,8 @@ pub fn slice<B: Bay>(
     power: u16,
 ) -> (Result<Slice, Refusal>, u64)
     requires takes { Takes m.old (B.state bay.old) }
-    // The group's parts agree, it takes the next call, and the disks of others stay; some disks may have left.
+    // The group's parts agree, it takes the next call, and the disks of others stay; some disks may
+    // have left.
     ensures lets { LetsGo m.old m.new (B.state bay.old) (B.state bay.new) }
     ensures mounted { OnOk result.0 (IsMounted m.new) }
     ensures cause { IfErr result.0 (SliceCause m.old m.new (B.state bay.old) (B.state bay.new)) }
@@ -190,8 +193,9 @@ fn take_buffer(alloc: Global, buffer: &mut Vec<u8>) -> Result<(), NoMemory> {
     Ok(())
 }
 
-/// Does slices of this power until one doesn't answer More. Gives the number of all their steps beside the answer of the last. The
-/// refusals are those of a slice. By a power of 0 nothing is done, and the answer is More.
+/// Does slices of this power until one doesn't answer More. Gives the number of all their steps
+/// beside the answer of the last. The refusals are those of a slice. By a power of 0 nothing is
+/// done, and the answer is More.
 pub fn run_to_end<B: Bay>(
     m: &mut Mounted,
     alloc: Global,

@@ -17,8 +17,9 @@ use resync::{
 };
 use std::alloc::Global;
 
-/// A step of a copy's move: copies its next bytes, and with the last ones commits the move. Refusals: ReadFault, after which the move
-/// stays; WriteFault, after which it is given up; Dismounted; NoMemory.
+/// A step of a copy's move: copies its next bytes, and with the last ones commits the move.
+/// Refusals: ReadFault, after which the move stays; WriteFault, after which it is given up;
+/// Dismounted; NoMemory.
 pub(crate) fn copy_step<B: Bay>(
     m: &mut Mounted,
     alloc: Global,
@@ -78,7 +79,8 @@ fn copy_from<B: Bay>(
     }
 }
 
-/// The refusal of a step whose bytes weren't copied. The move is given up but where they can't be read now.
+/// The refusal of a step whose bytes weren't copied. The move is given up but where they can't be
+/// read now.
 fn stopped(m: &mut Mounted, error: CopyError) -> Refusal
     ensures group { m.new ≡ record m.old { flight = m.new.flight } }
     ensures refusal { result ≡ refusal_of error }
@@ -91,7 +93,8 @@ fn stopped(m: &mut Mounted, error: CopyError) -> Refusal
     refusal_of(error)
 }
 
-/// So many bytes more of the move that is on its way are copied: it goes on, or is committed where they were the last.
+/// So many bytes more of the move that is on its way are copied: it goes on, or is committed where
+/// they were the last.
 fn advance<B: Bay>(m: &mut Mounted, alloc: Global, bay: &mut B, len: u64) -> Result<(), Refusal>
     requires mounted { IsMounted m.old }
     requires takes { Takes m.old (B.state bay.old) }
@@ -106,7 +109,8 @@ fn advance<B: Bay>(m: &mut Mounted, alloc: Global, bay: &mut B, len: u64) -> Res
     }
 }
 
-/// The move that is on its way with so many bytes more copied. None where that are all of them, or no move is.
+/// The move that is on its way with so many bytes more copied. None where that are all of them, or
+/// no move is.
 fn further(m: &Mounted, len: u64) -> Option<Flight> {
     match m.in_flight() {
         Some(flight) => {
@@ -147,8 +151,8 @@ fn commit_flight<B: Bay>(m: &mut Mounted, alloc: Global, bay: &mut B) -> Result<
     }
 }
 
-/// The change by which a move is made all of whose bytes are copied: the mark of the copy in place goes, or the copy has its new home.
-/// It changes the chunk of the extent alone.
+/// The change by which a move is made all of whose bytes are copied: the mark of the copy in place
+/// goes, or the copy has its new home. It changes the chunk of the extent alone.
 fn plan_of(catalog: &Catalog, alloc: Global, flight: Flight) -> Result<Change, Refusal>
     ensures { IfOk result (λ change. IsPlanIn (flight.x.file, flight.x.index / 256) catalog.now
         change.put change.gone) }
@@ -204,8 +208,9 @@ pub(crate) fn add_directory<B: Bay>(
     m.copy_directory(alloc, bay, to)
 }
 
-/// The status tables move to these disks: by a record that names them as the next holders, where that isn't the one that holds, and then
-/// by one that names them alone. Refusals: Dismounted; NoMemory.
+/// The status tables move to these disks: by a record that names them as the next holders, where
+/// that isn't the one that holds, and then by one that names them alone. Refusals: Dismounted;
+/// NoMemory.
 pub(crate) fn move_tables<B: Bay>(
     m: &mut Mounted,
     alloc: Global,

@@ -70,7 +70,8 @@ fn is_there(session: &Session, group: &Option<Name>) -> bool
     }
 }
 
-/// What lsdg tells of the group of a name, or of all groups in the order of mounting. NoGroup: no group has the name.
+/// What lsdg tells of the group of a name, or of all groups in the order of mounting. NoGroup: no
+/// group has the name.
 pub fn groups_told(
     session: &Session,
     alloc: Global,

@@ -99,7 +99,8 @@ fn rows_of_groups(session: &Session, alloc: Global, pattern: &[u8]) -> Result<Ve
     }
 }
 
-/// The rows of ls at a path from the top, of which the first part is a group's name: at the top the mounted groups.
+/// The rows of ls at a path from the top, of which the first part is a group's name: at the top the
+/// mounted groups.
 fn rows_at(session: &Session, alloc: Global, parts: &[Text]) -> Result<Vec<LsRow>, Refusal>
     ensures rows { IfOk result (λ rows. AreRowsListed session.now parts.now rows.items) }
     ensures cause { IfErr result (IsUnlisted session.now parts.now) }
@@ -111,7 +112,8 @@ fn rows_at(session: &Session, alloc: Global, parts: &[Text]) -> Result<Vec<LsRow
     }
 }
 
-/// The rows at one part: of a pattern the mounted groups that match, else those in the group of the name.
+/// The rows at one part: of a pattern the mounted groups that match, else those in the group of the
+/// name.
 fn rows_of_one(session: &Session, alloc: Global, name: &[u8]) -> Result<Vec<LsRow>, Refusal>
     ensures rows { IfOk result (λ rows. MatchBool (has_star name.now)
         (rows.items ≡ rows_of_names (names_matching name.now session.now.entries))
@@ -189,7 +191,8 @@ fn lines_of(alloc: Global, rows: &[LsRow], long: bool) -> Result<List<Text>, Ref
     }
 }
 
-/// The parts from the top to which the path of ls leads, where one is said, else those of the place.
+/// The parts from the top to which the path of ls leads, where one is said, else those of the
+/// place.
 pub fn parts_led(
     alloc: Global,
     place: &[Name],
@@ -203,8 +206,8 @@ pub fn parts_led(
     }
 }
 
-/// What ls tells at a path from the top. Its refusals in order: NoGroup, Dismounted, NoName, and NotDirectory of what a pattern is
-/// looked for in.
+/// What ls tells at a path from the top. Its refusals in order: NoGroup, Dismounted, NoName, and
+/// NotDirectory of what a pattern is looked for in.
 pub fn listed(
     session: &Session,
     alloc: Global,

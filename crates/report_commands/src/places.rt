@@ -18,7 +18,8 @@ use session::{Answer, Desk, Mounted, Reply, Session, no_memory, refused};
 use std::alloc::Global;
 use verb_paths::{parts_in_group, resolve};
 
-/// cd. Its refusals in order: NoGroup, Dismounted, NoName, NotDirectory. The place is spelt as the group's names are.
+/// cd. Its refusals in order: NoGroup, Dismounted, NoName, NotDirectory. The place is spelt as the
+/// group's names are.
 pub fn cd<B: Bay, H: Host>(desk: &mut Desk<B, H>, text: &[u8], path: Text) -> Answer
     requires asked { command_of text.now ≡ Asked (Cd path) }
     requires ready { AreReady desk.old.session.groups (B.state desk.old.bay) }
@@ -43,7 +44,8 @@ fn put_names(place: &mut List<Name>, names: &[Name]) -> Result<(), NoMemory>
     Ok(())
 }
 
-/// The place of a node: the group's name, and the parts that lead to it as they are spelt there. The root has none.
+/// The place of a node: the group's name, and the parts that lead to it as they are spelt there.
+/// The root has none.
 fn place_of(alloc: Global, m: &Mounted, node: u32) -> Result<List<Name>, NoMemory>
     ensures { IfOk result (λ place. place ≡ place_of_directory m.now node) }
 {

@@ -1,4 +1,5 @@
-// Reports: lists of names, groups, disks, templates and attributes, and what files take. None asks a device or changes anything.
+// Reports: lists of names, groups, disks, templates and attributes, and what files take. None asks
+// a device or changes anything.
 ghost use Rattle.std.specs.Prelude.{◌≡◌};
 ghost use Rattle.asm_world.specs.Command.{Asked, Said, Ls, Find, Usage, ListGroups, ListDisks, ListTemplates, ListAttributes};
 ghost use Rattle.asm_world.specs.Language.{command_of};
@@ -26,7 +27,8 @@ fn tell<B: Bay, H: Host>(desk: &mut Desk<B, H>, text: &[u8], group: &Name, repor
     answer_lines(desk.alloc, lines)
 }
 
-/// ls. Its refusals in order: NoGroup, Dismounted, NoName, and NotDirectory of what a pattern is looked for in.
+/// ls. Its refusals in order: NoGroup, Dismounted, NoName, and NotDirectory of what a pattern is
+/// looked for in.
 pub fn ls<B: Bay, H: Host>(
     desk: &mut Desk<B, H>,
     text: &[u8],
@@ -68,7 +70,8 @@ pub fn find<B: Bay, H: Host>(
     answer_lines(desk.alloc, lines)
 }
 
-/// du, where no path is said of the session's place. Its refusals in order: NoGroup, Dismounted, NoName, NotDirectory.
+/// du, where no path is said of the session's place. Its refusals in order: NoGroup, Dismounted,
+/// NoName, NotDirectory.
 pub fn usage<B: Bay, H: Host>(desk: &mut Desk<B, H>, text: &[u8], path: Option<Text>) -> Answer
     requires asked { command_of text.now ≡ Asked (Usage path) }
     requires ready { AreReady desk.old.session.groups (B.state desk.old.bay) }
@@ -84,7 +87,8 @@ pub fn usage<B: Bay, H: Host>(desk: &mut Desk<B, H>, text: &[u8], path: Option<T
     answer_lines(desk.alloc, lines)
 }
 
-/// lsdg: the group of a name, or all of the session in the order of mounting. NoGroup: no group has the name.
+/// lsdg: the group of a name, or all of the session in the order of mounting. NoGroup: no group has
+/// the name.
 pub fn list_groups<B: Bay, H: Host>(
     desk: &mut Desk<B, H>,
     text: &[u8],

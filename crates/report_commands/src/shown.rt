@@ -99,7 +99,8 @@ pub fn told(
     }
 }
 
-/// The directory of du: that to which the path leads, where one is said, else the place. None where it comes to `+`.
+/// The directory of du: that to which the path leads, where one is said, else the place. None where
+/// it comes to `+`.
 pub fn directory_led(
     alloc: Global,
     place: &[Name],
@@ -139,7 +140,8 @@ fn usage_at(alloc: Global, m: &Mounted, path: &Path) -> Result<List<Text>, Refus
     }
 }
 
-/// What du tells of the directory at a path. Its refusals in order: NoGroup, Dismounted, NoName, NotDirectory.
+/// What du tells of the directory at a path. Its refusals in order: NoGroup, Dismounted, NoName,
+/// NotDirectory.
 pub fn used(session: &Session, alloc: Global, path: &Path) -> Result<List<Text>, Refusal>
     ensures used { IfOk result (λ lines. IsInGroup session.now path.now.group
         (λ m. IsUsageIn m path.now.parts lines)) }
@@ -180,7 +182,8 @@ fn found_at(alloc: Global, m: &Mounted, path: &Path, pattern: &[u8]) -> Result<L
     }
 }
 
-/// What find tells of the directory at a path. Its refusals in order: NoGroup, Dismounted, NoName, NotDirectory.
+/// What find tells of the directory at a path. Its refusals in order: NoGroup, Dismounted, NoName,
+/// NotDirectory.
 pub fn found(
     session: &Session,
     alloc: Global,

@@ -1,4 +1,5 @@
-//! What the tables of a group tell, as the world's reports. Each function does nothing; its contract is the law.
+//! What the tables of a group tell, as the world's reports. Each function does nothing; its
+//! contract is the law.
 #![tactic(auto)]
 
 ghost use Rattle.report_laws.specs.Finds.{FoundAreWorlds};
@@ -16,7 +17,8 @@ pub fn paths_lead()
     ensures { PathsLead }
 {}
 
-/// A directory by the tables is one of the world's group, which spells it as its nodes do, and what is none is none there.
+/// A directory by the tables is one of the world's group, which spells it as its nodes do, and what
+/// is none is none there.
 pub fn directories_are_the_worlds()
     ensures directory { DirectoriesAreWorlds }
     ensures none { NoDirectoriesAreWorlds }
@@ -44,8 +46,8 @@ pub fn lists_are_refused_as_the_worlds()
     ensures { ListsAreRefused }
 {}
 
-/// Names that are put among others one by one stand in folded order, and those of the mounted groups that match are the
-/// world's, of which all match `*`.
+/// Names that are put among others one by one stand in folded order, and those of the mounted
+/// groups that match are the world's, of which all match `*`.
 pub fn names_are_in_order()
     ensures inserted { NamesAreInserted }
     ensures matching { MatchesAreInOrder }

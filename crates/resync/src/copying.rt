@@ -39,8 +39,8 @@ fn zeros(alloc: Global, len: usize) -> Result<Vec<u8>, NoMemory>
     Ok(buffer)
 }
 
-/// What a slice answers where bytes of an extent aren't copied. A copy that has nowhere to go is tested for before, so that this want
-/// doesn't come.
+/// What a slice answers where bytes of an extent aren't copied. A copy that has nowhere to go is
+/// tested for before, so that this want doesn't come.
 pub fn refusal_of(error: CopyError) -> Refusal
     ensures { result ≡ refusal_of error }
 {
@@ -55,8 +55,9 @@ pub fn refusal_of(error: CopyError) -> Refusal
     }
 }
 
-/// Copies as many bytes of an extent as the buffer is long, from an inner byte on: reads them from the first usable copy that reads,
-/// and writes and syncs them in a copy at a home. No mode changes, and no mark.
+/// Copies as many bytes of an extent as the buffer is long, from an inner byte on: reads them from
+/// the first usable copy that reads, and writes and syncs them in a copy at a home. No mode
+/// changes, and no mark.
 pub fn copy_piece<B: Bay>(
     m: &Mounted,
     bay: &mut B,

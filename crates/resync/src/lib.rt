@@ -1,5 +1,6 @@
-//! Disks that come back: the copies on them that are stale are copied anew, extent by extent. A step copies one of them whole, syncs it
-//! and clears its mark; nothing else is written to user units.
+//! Disks that come back: the copies on them that are stale are copied anew, extent by extent. A
+//! step copies one of them whole, syncs it and clears its mark; nothing else is written to user
+//! units.
 #![tactic(auto)]
 
 pub use file_extents::{

@@ -10,8 +10,9 @@ pub fn extent_bytes(shape: Shape, index: u32) -> u64 {
     units_of(shape.step, index as u64) as u64 * shape.au as u64
 }
 
-/// How many bytes of an extent are copied at once from an inner byte on: those that are left, at most 1 MiB. None where none are, and
-/// where the inner byte or their number isn't one of whole sectors.
+/// How many bytes of an extent are copied at once from an inner byte on: those that are left, at
+/// most 1 MiB. None where none are, and where the inner byte or their number isn't one of whole
+/// sectors.
 #[tactic(auto, using(file_extents::proofs::Layouts::fits_in))]
 pub fn piece_len(shape: Shape, index: u32, inner: u64) -> Option<usize>
     ensures fits { IfSome result (λ n. FitsExtent shape index inner n) }

@@ -46,7 +46,8 @@ fn behind(x: ExtentId) -> Option<ExtentId> {
     None
 }
 
-/// The next extent of which a stale copy lies on a disk, and another copy is usable. Those without such a copy are passed over.
+/// The next extent of which a stale copy lies on a disk, and another copy is usable. Those without
+/// such a copy are passed over.
 pub(crate) fn next_stale(m: &Mounted, disk: u8, search: &mut Search) -> Option<ExtentId>
     requires shape { IsTrue (is_shape m.now.catalog.shape) }
 {

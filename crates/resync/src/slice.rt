@@ -25,7 +25,8 @@ pub enum Resynced {
     More,
     /// No mark is left, and the disk is Online.
     Online,
-    /// The disk is Online. Marks are left of extents that have no usable copy, of which this is the first.
+    /// The disk is Online. Marks are left of extents that have no usable copy, of which this is the
+    /// first.
     Left(ExtentId),
 }
 
@@ -62,10 +63,12 @@ fn is_back(m: &Mounted, disk: u8) -> bool {
     }
 }
 
-/// Does up to 64 steps of a disk's resync. A step copies one stale copy whole and clears its mark. Where no stale copy is left that can
-/// be copied the disk becomes Online, and the move that is on its way is given up. A disk that isn't Syncing stays as it is, with the
-/// answer Online. Gives the number of steps beside the answer, also of one that is refused. Refusals: ReadFault, where all usable copies
-/// of an extent failed, and WriteFault, where the disk did: no mode changes then, and the mark stays; Dismounted; NoMemory.
+/// Does up to 64 steps of a disk's resync. A step copies one stale copy whole and clears its mark.
+/// Where no stale copy is left that can be copied the disk becomes Online, and the move that is on
+/// its way is given up. A disk that isn't Syncing stays as it is, with the answer Online. Gives the
+/// number of steps beside the answer, also of one that is refused. Refusals: ReadFault, where all
+/// usable copies of an extent failed, and WriteFault, where the disk did: no mode changes then, and
+/// the mark stays; Dismounted; NoMemory.
 pub fn sync_slice<B: Bay>(
     m: &mut Mounted,
     alloc: Global,
@@ -193,7 +196,8 @@ fn clear_mark<B: Bay>(
     }
 }
 
-/// Nothing more can be copied: the disk is Online from then on, and the move that is on its way is given up.
+/// Nothing more can be copied: the disk is Online from then on, and the move that is on its way is
+/// given up.
 fn come_online<B: Bay>(
     m: &mut Mounted,
     alloc: Global,

@@ -33,9 +33,11 @@ pub enum Edit<'a> {
     Head(u8, u64),
     /// The head of file 257, and its system name in the same directory: its copies and bytes.
     Second(u8, u64),
-    /// A chunk of extents, by file and number: of each of its first extents the disk and the unit of two copies.
+    /// A chunk of extents, by file and number: of each of its first extents the disk and the unit
+    /// of two copies.
     Chunk(u32, u32, &'a [[u8; 4]]),
-    /// The stale marks of a chunk, by file and number: those of its first extents, bit k for copy k.
+    /// The stale marks of a chunk, by file and number: those of its first extents, bit k for copy
+    /// k.
     Marks(u32, u32, &'a [u8]),
     /// A node: its number, parent, kind, file and name.
     Node(u32, u32, NodeKind, u32, &'a [u8]),
@@ -49,8 +51,8 @@ pub enum Edit<'a> {
     Gone(u16, u32, u32),
 }
 
-/// Two disks of 64 units, and file 256 of 3 MiB, with its system name in a directory and its alias: each extent has a unit
-/// on each disk, and copy 1 of extent 1 is stale.
+/// Two disks of 64 units, and file 256 of 3 MiB, with its system name in a directory and its alias:
+/// each extent has a unit on each disk, and copy 1 of extent 1 is stale.
 const USUAL: [Edit<'static>; 8] = [
     Edit::Disk(0, 1),
     Edit::Disk(1, 2),

@@ -1,5 +1,5 @@
-//! The records of a small group, for tests: changes of one of them, and the catalog of such records; and moves of a
-//! catalog's copies.
+//! The records of a small group, for tests: changes of one of them, and the catalog of such
+//! records; and moves of a catalog's copies.
 #![tactic(auto)]
 
 mod group;

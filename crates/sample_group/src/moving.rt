@@ -17,9 +17,9 @@ use partnership::entry_of;
 use status_table::PstEntry;
 use std::alloc::Global;
 
-/// Moves a copy of an extent to a disk's lowest run of free units, by the plan of the move. False, with nothing changed,
-/// where the extent isn't there, has no such copy, or has another copy on the disk, or where that run doesn't begin at the
-/// unit.
+/// Moves a copy of an extent to a disk's lowest run of free units, by the plan of the move. False,
+/// with nothing changed, where the extent isn't there, has no such copy, or has another copy on the
+/// disk, or where that run doesn't begin at the unit.
 pub fn make_move(
     alloc: Global,
     catalog: &mut Catalog,

@@ -28,7 +28,8 @@ pub enum State {
     Quote,
 }
 
-/// How far the front of a script has been scanned, so that no byte of a long command is scanned twice.
+/// How far the front of a script has been scanned, so that no byte of a long command is scanned
+/// twice.
 #[derive(Clone, Copy, Debug)]
 pub struct Cutter {
     /// Where the first byte stands.
@@ -177,8 +178,9 @@ impl Cutter {
         Scan::Open(cutter)
     }
 
-    /// The next command of a script that begins with these bytes, where its end is among them; the cutter is then a fresh one,
-    /// for the bytes behind the command. Where it is not, the cutter goes on later, with more bytes behind these.
+    /// The next command of a script that begins with these bytes, where its end is among them; the
+    /// cutter is then a fresh one, for the bytes behind the command. Where it is not, the cutter
+    /// goes on later, with more bytes behind these.
     pub fn next(&mut self, bytes: &[u8]) -> Option<Span>
         requires { IsCutterOf bytes.now self.old }
         ensures within { IfSome result (λ span. span.at + span.len ≤ length bytes.now) }

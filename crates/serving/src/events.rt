@@ -1,4 +1,5 @@
-// Turns of groups, with a line of each event: expired disks are dropped before a command's text, slices run after its reply.
+// Turns of groups, with a line of each event: expired disks are dropped before a command's text,
+// slices run after its reply.
 ghost use Rattle.std.specs.Prelude.{◌≡◌};
 ghost use Rattle.serving.specs.Programs.{TellsTurns};
 ghost use Rattle.disk_commands.specs.session.Sessions.{AreReady};
@@ -15,8 +16,8 @@ use line_buffer::LineBuffer;
 const MAX_DISKS: usize = 64;
 
 impl<B: Bay, H: Host, K: Sink, C: Clock> Program<B, H, K, C> {
-    /// Takes a turn of the group at a place in the order of mounting, and prints the line of what happened. Says whether
-    /// something was due. It takes no memory of its own.
+    /// Takes a turn of the group at a place in the order of mounting, and prints the line of what
+    /// happened. Says whether something was due. It takes no memory of its own.
     fn take_turn(&mut self, place: usize, turn: Turn) -> Result<bool, Stop>
         requires ready { AreReady self.old.desk.session.groups (B.state self.old.desk.bay) }
         ensures { TellsTurns result (when_of turn) self.old self.new }
@@ -57,8 +58,8 @@ impl<B: Bay, H: Host, K: Sink, C: Clock> Program<B, H, K, C> {
         Ok(())
     }
 
-    /// Runs a slice of the resync of a group and then one of its rebalance, so that a disk which the first brings back is seen
-    /// by the second.
+    /// Runs a slice of the resync of a group and then one of its rebalance, so that a disk which
+    /// the first brings back is seen by the second.
     fn slice_group(&mut self, place: usize) -> Result<(), Stop>
         requires ready { AreReady self.old.desk.session.groups (B.state self.old.desk.bay) }
         ensures { TellsTurns result AfterReply self.old self.new }

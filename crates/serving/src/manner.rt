@@ -19,8 +19,8 @@ use std::alloc::Global;
 pub enum Manner {
     /// Each in full.
     InFull,
-    /// So many commands are left. The reply to each but the last is one byte, the last reply stands in full behind a line feed,
-    /// and events have no lines.
+    /// So many commands are left. The reply to each but the last is one byte, the last reply stands
+    /// in full behind a line feed, and events have no lines.
     InShort { left: u64 },
 }
 
@@ -38,7 +38,8 @@ impl Manner {
     }
 }
 
-/// Prints a reply in this manner, or the refusal for want of memory alone where there is none for the text of one.
+/// Prints a reply in this manner, or the refusal for want of memory alone where there is none for
+/// the text of one.
 pub fn tell_reply<K: Sink>(
     alloc: Global,
     sink: &mut K,

@@ -31,7 +31,8 @@ fn other_request(alloc: Global, text: &[u8], at: u64) -> Result<Request, ReadErr
     }
 }
 
-/// The command that a text asks for. Any other text is refused where its longest front that begins some command ends.
+/// The command that a text asks for. Any other text is refused where its longest front that begins
+/// some command ends.
 pub fn read_request(alloc: Global, text: &[u8]) -> Result<Request, ReadError>
     ensures reads { IsRequestRead result text.now }
 {

@@ -90,9 +90,9 @@ impl<B: Bay, H: Host, K: Sink, C: Clock> Program<B, H, K, C> {
         Ok(())
     }
 
-    /// Runs one command whole: the clock is read, expired disks are dropped, the command runs and its reply is printed, then
-    /// slices of resync and rebalance run. The memory for its mark is taken first, so that no line stands before a command that
-    /// gets no reply for want of that.
+    /// Runs one command whole: the clock is read, expired disks are dropped, the command runs and
+    /// its reply is printed, then slices of resync and rebalance run. The memory for its mark is
+    /// taken first, so that no line stands before a command that gets no reply for want of that.
     pub fn run_command(&mut self, text: &[u8]) -> Result<(), Stop>
         requires ready { AreReady self.old.desk.session.groups (B.state self.old.desk.bay) }
         ensures ready { AreReady self.new.desk.session.groups (B.state self.new.desk.bay) }

@@ -1,5 +1,5 @@
-// A script is read piece by piece. Each command is run as soon as its end was read, so that a user at a terminal is answered
-// line by line.
+// A script is read piece by piece. Each command is run as soon as its end was read, so that a user
+// at a terminal is answered line by line.
 ghost use Rattle.std.specs.Prelude.{◌≡◌, ℕ, ◌≤◌, false, List, [], OnOk, IsErrOf, length, drop};
 ghost use Rattle.std.specs.Io.KnownBytes.{Consumes};
 ghost use Rattle.bay.specs.Counts.{Rose};
@@ -21,7 +21,8 @@ pub const LIMIT: usize = 67_108_864;
 
 const PIECE: usize = 65_536;
 
-/// Reads a piece of the script, of which so many bytes more are allowed. 0 says that it is at its end.
+/// Reads a piece of the script, of which so many bytes more are allowed. 0 says that it is at its
+/// end.
 fn read_more<S: Source>(source: &mut S, pending: &mut Vec<u8>, room: usize) -> Result<usize, Stop>
     ensures taken { (taken : List ℕ) × Consumes (S.left source.old) (S.left source.new) taken
         × IsReadPiece result room taken pending.old.items pending.new.items (S.left source.new) }
@@ -74,7 +75,8 @@ impl<B: Bay, H: Host, K: Sink, C: Clock> Program<B, H, K, C> {
         self.answer_last(cutter, &pending)
     }
 
-    /// Answers the commands whose ends are among the pending bytes, and drops these and what is skipped behind them.
+    /// Answers the commands whose ends are among the pending bytes, and drops these and what is
+    /// skipped behind them.
     fn answer_ended(&mut self, cutter: &mut Cutter, pending: &mut Vec<u8>) -> Result<(), Stop>
         requires stands { IsCutterOf pending.old.items cutter.old }
         requires ready { AreReady self.old.desk.session.groups (B.state self.old.desk.bay) }

@@ -41,8 +41,8 @@ impl Session {
         let _count = self.groups.len();
     }
 
-    /// Edits the mounted group of a name. NoGroup where it isn't in the session, and Dismounted where it is so; then the refusals
-    /// of the edit, and Dismounted by its commit.
+    /// Edits the mounted group of a name. NoGroup where it isn't in the session, and Dismounted
+    /// where it is so; then the refusals of the edit, and Dismounted by its commit.
     pub fn edit<B: Bay>(
         &mut self,
         alloc: Global,

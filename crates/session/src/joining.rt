@@ -20,7 +20,8 @@ use std::alloc::Global;
 
 /// Images that are attached to one group.
 pub trait Attaching {
-    /// Attaches them, none in a slot that other groups hold, and gives the numbers of the disks that are to be resynced.
+    /// Attaches them, none in a slot that other groups hold, and gives the numbers of the disks
+    /// that are to be resynced.
     fn run<B: Bay>(
         self,
         m: &mut Mounted,
@@ -117,7 +118,8 @@ fn join_mounted<B: Bay, J: Attaching + Drop>(
     }
 }
 
-/// Attaches images to any group. One that takes no calls stays as it is, and the disks are not asked.
+/// Attaches images to any group. One that takes no calls stays as it is, and the disks are not
+/// asked.
 fn join_on<B: Bay, J: Attaching + Drop>(
     m: &mut Mounted,
     alloc: Global,
@@ -144,8 +146,9 @@ fn join_on<B: Bay, J: Attaching + Drop>(
 }
 
 impl Session {
-    /// Attaches images to the mounted group of a name, and gives the numbers of the disks that are to be resynced. NoGroup where it isn't
-    /// in the session, and Dismounted where it is so; then what the group refuses.
+    /// Attaches images to the mounted group of a name, and gives the numbers of the disks that are
+    /// to be resynced. NoGroup where it isn't in the session, and Dismounted where it is so; then
+    /// what the group refuses.
     pub fn join<B: Bay, J: Attaching + Drop>(
         &mut self,
         alloc: Global,

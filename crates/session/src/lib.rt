@@ -1,4 +1,5 @@
-//! The session: its groups by their names, its place, and what holds of each command that is answered.
+//! The session: its groups by their names, its place, and what holds of each command that is
+//! answered.
 #![tactic(auto)]
 
 pub use disk_joining::{

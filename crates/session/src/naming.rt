@@ -38,7 +38,8 @@ pub trait GroupWork {
         ensures does { IsMounted m.old → does self m.old result m.new (B.state bay.old) (B.state bay.new) };
 }
 
-/// Does a piece of work on any group. One that takes no calls stays as it is, and the disks are not asked.
+/// Does a piece of work on any group. One that takes no calls stays as it is, and the disks are not
+/// asked.
 fn work_on<B: Bay, W: GroupWork + Drop>(
     m: &mut Mounted,
     alloc: Global,
@@ -60,7 +61,8 @@ fn work_on<B: Bay, W: GroupWork + Drop>(
 }
 
 impl Session {
-    /// The mounted group of a name. NoGroup where it isn't in the session, and Dismounted where it is so.
+    /// The mounted group of a name. NoGroup where it isn't in the session, and Dismounted where it
+    /// is so.
     pub fn mounted(&self, alloc: Global, name: &Name) -> Result<&Mounted, Refusal>
         ensures found { IfOk result (λ m. IsGroupOf self.now name.now m.now) }
         ensures entered { OnOk result (is_mounted_as (entry_among self.now.entries name.now)
@@ -76,7 +78,8 @@ impl Session {
         }
     }
 
-    /// Does a piece of work on the mounted group of a name. NoGroup where it isn't in the session, and Dismounted where it is so.
+    /// Does a piece of work on the mounted group of a name. NoGroup where it isn't in the session,
+    /// and Dismounted where it is so.
     pub fn work<B: Bay, W: GroupWork + Drop>(
         &mut self,
         alloc: Global,

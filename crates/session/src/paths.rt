@@ -9,7 +9,8 @@ use group_turns::{clause_path, target};
 use refusal_lines::Refusal;
 use std::alloc::Global;
 
-/// The path of a clause in the group that the statement names. None where it isn't a path of that group.
+/// The path of a clause in the group that the statement names. None where it isn't a path of that
+/// group.
 pub fn path_in(alloc: Global, group: &Name, path: &[u8]) -> Result<Option<Path>, NoMemory>
     ensures { IfOk result (λ led. option_map (λ p. p.parts) led ≡ clause_path group.now path.now) }
 {

@@ -21,8 +21,8 @@ use std::marker::Model;
 /// The most groups that are mounted.
 pub const MAX_GROUPS: usize = 8;
 
-/// The groups of the session by their names, in the order of mounting, the parts of its place from the top, the least id that was
-/// not given yet, and the greatest time seen, in seconds.
+/// The groups of the session by their names, in the order of mounting, the parts of its place from
+/// the top, the least id that was not given yet, and the greatest time seen, in seconds.
 #[derive(Drop)]
 pub struct Session {
     pub(crate) groups: IndexMap<GroupName, Entry>,
@@ -126,7 +126,8 @@ impl Session {
         false
     }
 
-    /// Whether a group of the name is mounted. No two groups have one name, and each entry has its group and says whether it is mounted.
+    /// Whether a group of the name is mounted. No two groups have one name, and each entry has its
+    /// group and says whether it is mounted.
     pub fn has_mounted(&self, name: &Name) -> bool
         ensures mounted { result ≡ is_mounted_as (entry_among self.now.entries name.now) }
         ensures apart { AreNamesApart self.now.entries }
@@ -174,8 +175,8 @@ impl Session {
         }
     }
 
-    /// Enters the new group last. None of its name is there. There is room for it, where its place was
-    /// made before.
+    /// Enters the new group last. None of its name is there. There is room for it, where its place
+    /// was made before.
     pub fn enter(&mut self, name: Name, made: Option<u64>, group: Mounted) -> Result<(), NoMemory>
         requires fresh { IfSome made (λ id. self.old.given ≤ id) }
         requires absent { is_some (entry_among self.old.entries name) ≡ false }
@@ -199,8 +200,8 @@ impl Session {
         }
     }
 
-    /// Enters a group that was mounted, last, in place of one of its name that was dismounted. Its id counts as given. There is
-    /// room for it, where its place was made before.
+    /// Enters a group that was mounted, last, in place of one of its name that was dismounted. Its
+    /// id counts as given. There is room for it, where its place was made before.
     pub fn enter_mounted(&mut self, group: Mounted) -> Result<(), NoMemory>
         requires mounted { IsMounted group }
         ensures place { self.new.place ≡ self.old.place }
@@ -256,7 +257,8 @@ impl Session {
         }
     }
 
-    /// Takes the group of a name out of the session, and says whether it was there. The place stays.
+    /// Takes the group of a name out of the session, and says whether it was there. The place
+    /// stays.
     pub fn leave(&mut self, name: &Name) -> bool
         ensures found { result ≡ is_some (entry_among self.old.entries name.now) }
         ensures left { self.new.entries ≡ without_entry self.old.entries name.now }

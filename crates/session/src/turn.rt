@@ -16,7 +16,8 @@ impl Session {
         self.groups.len()
     }
 
-    /// Takes a turn of the group at a place in the order of mounting, from 0, and writes the line of what happened.
+    /// Takes a turn of the group at a place in the order of mounting, from 0, and writes the line
+    /// of what happened.
     pub fn turn<B: Bay>(
         &mut self,
         alloc: Global,

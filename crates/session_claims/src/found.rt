@@ -3,8 +3,8 @@ ghost use Rattle.session_claims.specs.Found.{FoundIsKnown, FoundIsMember, FoundI
 
 use bay::Bay;
 
-/// The id that a mount finds has a member on the disks as they were before, with the name that was asked for. So it was given
-/// or known, and where no mounted group has the name, none has the id.
+/// The id that a mount finds has a member on the disks as they were before, with the name that was
+/// asked for. So it was given or known, and where no mounted group has the name, none has the id.
 pub fn mounts_find<B: Bay>(start: &B)
     ensures member { FoundIsMember B.state (B.state start.now) }
     ensures known { FoundIsKnown B.state (B.state start.now) }

@@ -5,8 +5,8 @@ ghost use Rattle.staleness_directory.specs.Marks.{are_marks, marks_to};
 
 use std::marker::Model;
 
-/// The marks of a chunk: of each of its 256 extents a byte, whose bit k is set where copy k is stale. Contracts see the
-/// bytes.
+/// The marks of a chunk: of each of its 256 extents a byte, whose bit k is set where copy k is
+/// stale. Contracts see the bytes.
 #[derive(Clone, Copy, Debug)]
 pub struct Marks {
     pub bits: [u8; 256],

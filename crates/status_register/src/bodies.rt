@@ -49,7 +49,8 @@ pub fn read_both<B: Bay>(
     Ok((first, second))
 }
 
-/// What a body of a claim slot says: None where the gate is shut, and no claim where it isn't the spelling of one.
+/// What a body of a claim slot says: None where the gate is shut, and no claim where it isn't the
+/// spelling of one.
 pub fn claim_in(body: &Option<Block>) -> Option<Option<Claim>>
     ensures { result ≡ option_map decoded_claim (option_map (λ b. b.bytes) body.now) }
 {
@@ -59,7 +60,8 @@ pub fn claim_in(body: &Option<Block>) -> Option<Option<Claim>>
     }
 }
 
-/// What a body of a status slot says: None where the gate is shut, and no record where it isn't a spelling of one.
+/// What a body of a status slot says: None where the gate is shut, and no record where it isn't a
+/// spelling of one.
 pub fn record_in(body: &Option<Block>) -> Option<Option<PstRecord>>
     ensures said { result ≡ option_map decoded_status (option_map (λ b. b.bytes) body.now) }
     ensures allowed { ShowsAllowed result }

@@ -11,9 +11,10 @@ use crate::{Dead, Member};
 use bay::Bay;
 use status_table::{Block, Claim, encode_claim};
 
-/// Claims the epoch of a group's first record on its members, whose slots are closed, past faults: each of them must take the
-/// claim. `Dead` has the slot of one that failed. At each moment the disks have no record of the group, as before. Once all
-/// took the claim, `Register::first` may write a record of this epoch for which the members are enough.
+/// Claims the epoch of a group's first record on its members, whose slots are closed, past faults:
+/// each of them must take the claim. `Dead` has the slot of one that failed. At each moment the
+/// disks have no record of the group, as before. Once all took the claim, `Register::first` may
+/// write a record of this epoch for which the members are enough.
 pub fn claim_first<B: Bay>(bay: &mut B, id: u64, epoch: u64, members: &[Member]) -> Result<(), Dead>
     requires slots { HaveSlots (B.state bay.old) members.now }
     requires few { length members.now ≤ 512 }

@@ -54,8 +54,8 @@ fn record_number(id: u64, said: &Option<Option<PstRecord>>) -> Option<u128>
     }
 }
 
-/// The slot beside the one that holds, by the numbers in both: the first where neither has one. Where both have one
-/// number the first holds.
+/// The slot beside the one that holds, by the numbers in both: the first where neither has one.
+/// Where both have one number the first holds.
 fn other_gate(first: u64, second: u64, number: Option<u128>, other: Option<u128>) -> u64
     ensures gate { result ≡ other_gate first second number other }
     ensures one { (result ≡ first) ⊎ (result ≡ second) }
@@ -79,7 +79,8 @@ fn number_in(pair: SlotPair, id: u64, body: &Option<Block>) -> Option<u128>
     }
 }
 
-/// The gate of the slot of a pair that the next body is put into, in each image that a stop may leave.
+/// The gate of the slot of a pair that the next body is put into, in each image that a stop may
+/// leave.
 pub fn next_gate<B: Bay>(
     bay: &mut B,
     pair: SlotPair,

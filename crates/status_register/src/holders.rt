@@ -19,7 +19,8 @@ pub fn is_of_entry(entries: &[PstEntry], member: Member) -> bool
     }
 }
 
-/// The members with the one in a number's place behind them, if it is one of the disks of the record's sets.
+/// The members with the one in a number's place behind them, if it is one of the disks of the
+/// record's sets.
 fn with_holder(list: MemberList, place: Option<Member>, status: &PstRecord, disk: u8) -> MemberList
     requires { length list < 64 }
     ensures { result ≡ list ++ holder_in status.now disk place }

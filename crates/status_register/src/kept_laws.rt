@@ -1,5 +1,5 @@
-//! What a register keeps over the calls of others, and over a disk that is attached. Each function has an empty body: its
-//! contract is the law.
+//! What a register keeps over the calls of others, and over a disk that is attached. Each function
+//! has an empty body: its contract is the law.
 ghost use Rattle.std.specs.Prelude.{◌≡◌, ℕ, List, Option, true};
 ghost use Rattle.bay.specs.State.{KeepsAttached};
 ghost use Rattle.bay.specs.Moments.{NowOnly, Runs, Within};
@@ -15,7 +15,8 @@ ghost use Rattle.status_register.specs.declared.member.Member.{Member};
 
 use bay::{Bay, Slots, Step};
 
-/// An image has the history of a register after a step that leaves the first ten blocks of each disk of its group.
+/// An image has the history of a register after a step that leaves the first ten blocks of each
+/// disk of its group.
 pub fn history_stays()
     ensures { HistoryStays }
 {}
@@ -35,8 +36,8 @@ pub fn same_sets_reach()
     ensures { SameSetsReach }
 {}
 
-/// A register keeps its history over calls that leave the first ten blocks of each disk of its group, and may be written
-/// after them where the same disks are attached.
+/// A register keeps its history over calls that leave the first ten blocks of each disk of its
+/// group, and may be written after them where the same disks are attached.
 pub fn register_keeps_elsewhere<B: Bay, T: Slots, S: Step>(start: &B, end: &B)
     ensures keeps { (slots : ℕ) (register : Registered) (completed : Option Status) (begun : List Status) → Within S.leads (LeavesRegister slots register.id)
         → Runs T.among S.leads (B.state start.now) (B.state end.now)
@@ -45,8 +46,9 @@ pub fn register_keeps_elsewhere<B: Bay, T: Slots, S: Step>(start: &B, end: &B)
         → IsRegisterReady register (B.state start.now) → IsRegisterReady register (B.state end.now) }
 {}
 
-/// A register keeps its history with a disk more that is a member in each image that a stop may leave now. It may be written
-/// where the disk has a slot of its own, and reaches its record where the disk is that of its number's entry.
+/// A register keeps its history with a disk more that is a member in each image that a stop may
+/// leave now. It may be written where the disk has a slot of its own, and reaches its record where
+/// the disk is that of its number's entry.
 pub fn attached_keeps<B: Bay>(bay: &B)
     ensures keeps { (slots : ℕ) (register : Registered) (completed : Option Status) (begun : List Status) (m : Member)
         → NowOnly (B.state bay.now) (λ image. IsMemberOn slots register.id image m)

@@ -1,4 +1,5 @@
-// What a survey finds, in the words of the members of an image. Each function has an empty body: its contract is the law.
+// What a survey finds, in the words of the members of an image. Each function has an empty body:
+// its contract is the law.
 ghost use Rattle.status_register.specs.OrderLaws.{AttachedDisksDescend, GreaterNumbersFirst, OrderedPutsAreARow};
 ghost use Rattle.status_register.specs.SurveyLaws.{ClaimedRecordBegins, ClaimsKeepMembers, RecordsKeepMembers, ShownClaimIsSeen, StoredClaimsFit, StoredRecordCompletes, StoredRecordsFit, EpochPassesCurrentRecords, SurveyedRecordCounts};
 
@@ -12,12 +13,14 @@ pub fn surveyed_epoch_is_above()
     ensures { EpochPassesCurrentRecords }
 {}
 
-/// A claim that a majority of each set shows is seen by every set that is enough, so that a record of its epoch may be begun.
+/// A claim that a majority of each set shows is seen by every set that is enough, so that a record
+/// of its epoch may be begun.
 pub fn shown_claim_is_seen()
     ensures { ShownClaimIsSeen }
 {}
 
-/// While the last record that was begun is put on members, in whole or in part, the image fits the history.
+/// While the last record that was begun is put on members, in whole or in part, the image fits the
+/// history.
 pub fn stored_records_fit()
     ensures { StoredRecordsFit }
 {}
@@ -42,7 +45,8 @@ pub fn claimed_record_begins()
     ensures { ClaimedRecordBegins }
 {}
 
-/// Once the last record stands on members that are enough for it, it is the one that was last completed, and no other counts.
+/// Once the last record stands on members that are enough for it, it is the one that was last
+/// completed, and no other counts.
 pub fn stored_record_completes()
     ensures { StoredRecordCompletes }
 {}
@@ -52,7 +56,8 @@ pub fn attached_disks_descend()
     ensures { AttachedDisksDescend }
 {}
 
-/// While a record is put on them in this order, a disk is as it was, or each one of a greater number shows the record or failed.
+/// While a record is put on them in this order, a disk is as it was, or each one of a greater
+/// number shows the record or failed.
 pub fn greater_numbers_first()
     ensures { GreaterNumbersFirst }
 {}

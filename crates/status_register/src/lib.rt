@@ -1,4 +1,5 @@
-//! One status record of a disk group, kept by majorities of the disks that hold it. No call takes memory.
+//! One status record of a disk group, kept by majorities of the disks that hold it. No call takes
+//! memory.
 #![tactic(auto)]
 
 pub use status_table::{

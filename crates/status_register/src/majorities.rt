@@ -90,7 +90,8 @@ pub fn count_set(members: &[Member], entries: &[PstEntry], set: DiskSet) -> Pres
     presence
 }
 
-/// How many disks of a set are among the members, and how many are needed, where they aren't a majority.
+/// How many disks of a set are among the members, and how many are needed, where they aren't a
+/// majority.
 pub fn lacking(members: &[Member], entries: &[PstEntry], set: DiskSet) -> Option<(u8, u8)>
     ensures { result ≡ shortfall members.now (disks_of entries.now set ∷ []) }
 {
@@ -123,7 +124,8 @@ fn shortfall(
     }
 }
 
-/// Of the first set of a record without a majority among the members how many are there, and how many are needed.
+/// Of the first set of a record without a majority among the members how many are there, and how
+/// many are needed.
 pub fn missing(members: &[Member], status: &PstRecord) -> Option<(u8, u8)>
     ensures { result ≡ missing members.now (Some status.now) }
 {

@@ -1,6 +1,7 @@
 //! The disks that the register reads and writes.
 
-/// A disk of a group, by its number and birth, and the slot of its image. `sector` is the group's, 512 or 4,096 bytes.
+/// A disk of a group, by its number and birth, and the slot of its image. `sector` is the group's,
+/// 512 or 4,096 bytes.
 #[derive(Clone, Copy, Debug, PartialEq, Eq)]
 pub struct Member {
     pub slot: u32,

@@ -13,8 +13,8 @@ const NO_MEMBER: Member = Member {
     sector: 512,
 };
 
-/// At most 512 members, one for each slot of the bay: of a group more than 64 may have a header, where disks left it and were
-/// not read then. Contracts see the list of them.
+/// At most 512 members, one for each slot of the bay: of a group more than 64 may have a header,
+/// where disks left it and were not read then. Contracts see the list of them.
 #[derive(Debug, Drop)]
 pub struct MemberList {
     count: u16,

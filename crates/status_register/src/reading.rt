@@ -16,8 +16,8 @@ use crate::places::SlotPair;
 use bay::{Bay, Fault};
 use status_table::{Claim, PstRecord};
 
-/// What the slots of a disk say: the greatest epoch of the group's claims, or 0; the greatest of its records; and the first
-/// block where a claim or a record must stand and doesn't.
+/// What the slots of a disk say: the greatest epoch of the group's claims, or 0; the greatest of
+/// its records; and the first block where a claim or a record must stand and doesn't.
 #[derive(Drop)]
 pub struct Findings {
     pub epoch: u64,

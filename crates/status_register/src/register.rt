@@ -24,7 +24,8 @@ use bay::Bay;
 use status_table::{Block, Claim, DiskSet, PstEntry, PstRecord, encode_claim};
 use std::marker::Model;
 
-/// The record of a group, and the members that it is written to, by the numbers of their disks. Contracts see what it keeps.
+/// The record of a group, and the members that it is written to, by the numbers of their disks.
+/// Contracts see what it keeps.
 #[derive(Drop)]
 pub struct Register {
     id: u64,
@@ -47,8 +48,8 @@ impl Model for Register {
 }
 
 impl Register {
-    /// The register of a record that stands on members, as a creation has put it there: nothing is written. Of the members those
-    /// that are disks of the record's entries are attached.
+    /// The register of a record that stands on members, as a creation has put it there: nothing is
+    /// written. Of the members those that are disks of the record's entries are attached.
     pub fn standing<B: Bay>(bay: &B, value: &PstRecord, members: &[Member]) -> Register
         requires status { IsTrue (is_status value.now) }
         requires slots { HaveSlots (B.state bay.now) members.now }
@@ -110,10 +111,11 @@ impl Register {
         }
     }
 
-    /// Writes the first record of a group on the disks of its sets among the members, whose slots are closed, from the greatest
-    /// disk number down and past faults: each of them must take it. `Dead` has the slot of one that failed. At each moment a disk
-    /// has something of the record only where each one of a greater number shows it or failed in this call, and the disks fit the
-    /// history in which the record is begun. In the end it is completed.
+    /// Writes the first record of a group on the disks of its sets among the members, whose slots
+    /// are closed, from the greatest disk number down and past faults: each of them must take it.
+    /// `Dead` has the slot of one that failed. At each moment a disk has something of the record
+    /// only where each one of a greater number shows it or failed in this call, and the disks fit
+    /// the history in which the record is begun. In the end it is completed.
     pub fn first<B: Bay>(
         bay: &mut B,
         value: &PstRecord,
@@ -141,11 +143,13 @@ impl Register {
         }
     }
 
-    /// Writes the record under the next number, on all attached disks of its sets, in any mode, from the greatest disk number down
-    /// and past faults. Gives the set of those that failed. `Dead` comes where fewer than a majority of a set took the record,
-    /// with the slot of a disk of this set that failed; then the number is used up, and the record that holds is the one before.
-    /// At each moment a disk has something of the record only where each one of a greater number shows it or failed in this call,
-    /// and the disks fit the history in which the record is begun. Once a set is given it is completed.
+    /// Writes the record under the next number, on all attached disks of its sets, in any mode,
+    /// from the greatest disk number down and past faults. Gives the set of those that failed.
+    /// `Dead` comes where fewer than a majority of a set took the record, with the slot of a disk
+    /// of this set that failed; then the number is used up, and the record that holds is the one
+    /// before. At each moment a disk has something of the record only where each one of a greater
+    /// number shows it or failed in this call, and the disks fit the history in which the record is
+    /// begun. Once a set is given it is completed.
     pub fn write<B: Bay>(&mut self, bay: &mut B, next: &PstRecord) -> Result<DiskSet, Dead>
         requires status { IsTrue (is_status next.now) }
         requires group { next.now.id ≡ self.old.value.id }

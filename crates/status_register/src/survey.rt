@@ -16,7 +16,8 @@ use bay::Bay;
 use status_table::PstRecord;
 use std::marker::Model;
 
-/// What was read of a group's members: the greatest record, of which a majority of each set was read. Contracts see what was surveyed.
+/// What was read of a group's members: the greatest record, of which a majority of each set was
+/// read. Contracts see what was surveyed.
 #[derive(Drop)]
 pub struct Survey {
     id: u64,
@@ -35,7 +36,8 @@ impl Model for Survey {
 }
 
 impl Survey {
-    /// Reads the claim and status slots of the members of a group, and gives the greatest record. Nothing is synced: a mount has done so.
+    /// Reads the claim and status slots of the members of a group, and gives the greatest record.
+    /// Nothing is synced: a mount has done so.
     pub fn read<B: Bay>(bay: &mut B, id: u64, members: &[Member]) -> Result<Survey, SurveyError>
         requires slots { HaveSlots (B.state bay.old) members.now }
         requires few { length members.now ≤ 512 }
@@ -45,8 +47,8 @@ impl Survey {
         judge(id, members, tally)
     }
 
-    /// Claims an epoch above all that was read: the claim is put on every member, and a majority of each set of the record must take
-    /// it. At each moment the disks fit the history that they did.
+    /// Claims an epoch above all that was read: the claim is put on every member, and a majority of
+    /// each set of the record must take it. At each moment the disks fit the history that they did.
     pub fn claim<B: Bay>(self, bay: &mut B) -> Result<Register, SurveyError>
         requires slots { HaveSlots (B.state bay.old) self.members }
         requires apart { HaveOwnSlots self.members }

@@ -14,8 +14,9 @@ use crate::reading::{greater_of, read_slots};
 use bay::{Bay, Fault};
 use status_table::PstRecord;
 
-/// What the members that were read say: who was read, the greatest epoch of a claim, or 0, the greatest record, and the slot
-/// and the block where the first claim or record must stand and doesn't.
+/// What the members that were read say: who was read, the greatest epoch of a claim, or 0, the
+/// greatest record, and the slot and the block where the first claim or record must stand and
+/// doesn't.
 #[derive(Drop)]
 pub struct Tally {
     pub read: MemberList,

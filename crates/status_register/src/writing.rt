@@ -39,7 +39,8 @@ fn body_of(status: &PstRecord) -> Block
     body
 }
 
-/// Writes a record on the disks in their order, past faults. A majority of each of its sets must take it; gives the set of those that failed.
+/// Writes a record on the disks in their order, past faults. A majority of each of its sets must
+/// take it; gives the set of those that failed.
 pub fn write_on_majorities<B: Bay>(
     bay: &mut B,
     id: u64,
@@ -86,7 +87,8 @@ pub fn write_on_all<B: Bay>(
     }
 }
 
-/// Writes a record on those of the members in their numbers' places that are disks of its sets, past faults.
+/// Writes a record on those of the members in their numbers' places that are disks of its sets,
+/// past faults.
 pub fn write_record<B: Bay>(
     bay: &mut B,
     id: u64,
@@ -107,7 +109,8 @@ pub fn write_record<B: Bay>(
     write_on_majorities(bay, id, holders.members(), status)
 }
 
-/// Writes a record on those of the members in their numbers' places that are disks of its sets. Each of them must take it.
+/// Writes a record on those of the members in their numbers' places that are disks of its sets.
+/// Each of them must take it.
 pub fn write_first<B: Bay>(
     bay: &mut B,
     places: &[Option<Member>],

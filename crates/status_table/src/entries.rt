@@ -29,7 +29,8 @@ pub struct Entries {
     pub items: [PstEntry; 64],
 }
 
-/// The record with another mode of one disk, since a second. A disk without an entry changes nothing.
+/// The record with another mode of one disk, since a second. A disk without an entry changes
+/// nothing.
 pub fn with_mode(status: &PstRecord, disk: u8, mode: Mode, since: u64) -> PstRecord
     ensures value { result ≡ status_with_mode status.now disk mode since }
     // A record of the format stays one.
@@ -38,7 +39,8 @@ pub fn with_mode(status: &PstRecord, disk: u8, mode: Mode, since: u64) -> PstRec
     with_change(status, disk, EntryChange::InMode { mode, since })
 }
 
-/// The record with one disk Offline, since a second, to be dropped after so many seconds. A disk without an entry changes nothing.
+/// The record with one disk Offline, since a second, to be dropped after so many seconds. A disk
+/// without an entry changes nothing.
 pub fn with_offline(status: &PstRecord, disk: u8, since: u64, repair: u64) -> PstRecord
     ensures value { result ≡ status_with_offline status.now disk since repair }
     // A record of the format stays one.
@@ -56,7 +58,8 @@ pub fn with_units(status: &PstRecord, disk: u8, units: u32) -> PstRecord
     with_change(status, disk, EntryChange::WithUnits { units })
 }
 
-/// The record with other seconds after which one disk is dropped. A disk without an entry changes nothing.
+/// The record with other seconds after which one disk is dropped. A disk without an entry changes
+/// nothing.
 pub fn with_repair(status: &PstRecord, disk: u8, repair: u64) -> PstRecord
     ensures value { result ≡ status_with_repair status.now disk repair }
     // A record of the format stays one.
@@ -94,7 +97,8 @@ pub fn least_free_failgroup(status: &PstRecord) -> u8
 pub fn with_entry(status: &PstRecord, entry: PstEntry) -> PstRecord
     requires room { length status.now.entries < 64 }
     ensures value { result ≡ status_with_entry status.now entry }
-    // A record of the format stays one where the entry is one of the format, and no other has its number.
+    // A record of the format stays one where the entry is one of the format, and no other has its
+    // number.
     ensures kept { IsTrue (is_entry entry) → has_entry status.now.entries entry.number ≡ false
         → IsTrue (is_status status.now) → IsTrue (is_status result) }
 {

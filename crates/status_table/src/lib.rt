@@ -1,5 +1,5 @@
-//! The status record of a group, which says what each of its disks is for, the claim of an epoch, and
-//! their spellings in a block. No call takes memory.
+//! The status record of a group, which says what each of its disks is for, the claim of an epoch,
+//! and their spellings in a block. No call takes memory.
 #![tactic(auto)]
 
 pub use asm_base::{Block, DiskSet};

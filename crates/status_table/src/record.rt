@@ -56,8 +56,8 @@ impl PstEntry {
     }
 }
 
-/// What a group's disks are for. Contracts see it as the record of the formats, whose entries are the
-/// first `count`.
+/// What a group's disks are for. Contracts see it as the record of the formats, whose entries are
+/// the first `count`.
 #[derive(Debug, Drop)]
 pub struct PstRecord {
     /// The group's id.

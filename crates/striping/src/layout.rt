@@ -1,4 +1,5 @@
-//! The layout of a file over its extents: extents grow with their index, and those of a fine file take turns.
+//! The layout of a file over its extents: extents grow with their index, and those of a fine file
+//! take turns.
 
 ghost use Rattle.std.specs.Prelude.{◌≡◌, ◌+◌, ◌<◌, ◌≤◌, ◌^◌, ◌%◌, ◌↔◌, ℕ, MatchOption, IsTrue};
 ghost use Rattle.asm_placement.specs.Layout.{chunk_of, extent_len, extents_at_once, has_extent_by_size, start, units_of};
@@ -94,7 +95,8 @@ fn place_of(layout: Layout, offset: u64) -> (u64, u64)
     }
 }
 
-/// How many extents a file of so many bytes has: whole sets of eight where the file is fine, and none where it is empty.
+/// How many extents a file of so many bytes has: whole sets of eight where the file is fine, and
+/// none where it is empty.
 pub fn extents_for(layout: Layout, size: u64) -> u64
     requires { IsAllowedLayout layout }
     // The file has the extents below this number, and no others.
@@ -127,8 +129,8 @@ fn run_from(layout: Layout, extent: u64, inner: u64) -> u64
     }
 }
 
-/// The longest run of bytes at a span's start that lie in a row on one extent: the extent, the byte of it, and how
-/// many bytes they are. None where the span is empty.
+/// The longest run of bytes at a span's start that lie in a row on one extent: the extent, the byte
+/// of it, and how many bytes they are. None where the span is empty.
 pub fn next_piece(layout: Layout, span: Span) -> Option<(u64, u64, u64)>
     requires layout { IsAllowedLayout layout }
     requires end { span.at + span.len < 2 ^ 64 }

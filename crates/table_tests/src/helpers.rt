@@ -1,4 +1,5 @@
-// What several rooms use: how a row fails, and names, paths and extents. None stands for bytes that aren't one, or for want of memory.
+// What several rooms use: how a row fails, and names, paths and extents. None stands for bytes that
+// aren't one, or for want of memory.
 use asm_base::{ExtentId, Name, Path};
 use std::alloc::Global;
 use std::test::Fail;

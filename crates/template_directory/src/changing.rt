@@ -13,8 +13,8 @@ use asm_base::{Key, NoMemory, Value};
 use std::alloc::Global;
 
 impl TemplateTable {
-    /// Takes up the templates or the settings that a record says. `false` where it says neither. Where that is so, or there
-    /// is no memory, the table stays.
+    /// Takes up the templates or the settings that a record says. `false` where it says neither.
+    /// Where that is so, or there is no memory, the table stays.
     #[tactic(auto, using(crate::proofs::ReadingLaws::said_templates_allowed, crate::proofs::ReadingLaws::said_settings_allowed, crate::proofs::ChangeLaws::templates_put, crate::proofs::ChangeLaws::settings_put))]
     pub fn put_record(&mut self, alloc: Global, key: Key, value: &Value) -> Result<bool, NoMemory>
         ensures put { IfOk result (λ put. OnTrue put

@@ -15,7 +15,8 @@ use crate::template::Template;
 use asm_base::{GroupKind, Name, NoMemory, Stripe};
 use refusal_lines::{Limited, Refusal};
 
-/// An edit of a group's templates. Copies that aren't said are those that the group's kind usually has.
+/// An edit of a group's templates. Copies that aren't said are those that the group's kind usually
+/// has.
 #[derive(Debug, Drop)]
 pub enum TemplateEdit {
     /// Makes a template of a new name.
@@ -50,9 +51,9 @@ impl TemplateEdit {
 }
 
 impl TemplateTable {
-    /// Edits the templates of a group of a kind. The refusals are, in this order, of Add NameTaken, BadRedundancy and
-    /// TooMany, of Modify NoTemplate and BadRedundancy, of Drop NoTemplate and SystemTemplate, and NoMemory. After an
-    /// `Err` the table is as it was.
+    /// Edits the templates of a group of a kind. The refusals are, in this order, of Add NameTaken,
+    /// BadRedundancy and TooMany, of Modify NoTemplate and BadRedundancy, of Drop NoTemplate and
+    /// SystemTemplate, and NoMemory. After an `Err` the table is as it was.
     pub fn edit(&mut self, kind: GroupKind, edit: &TemplateEdit) -> Result<(), Refusal>
         requires { IsTrue (is_template_edit (template_edit_meant edit.now)) }
         ensures done { OnOk result (templates_edited kind (templates_by_name self.old.templates)
@@ -230,7 +231,8 @@ fn said_copies(kind: GroupKind, copies: Option<u8>) -> u8
     }
 }
 
-/// Whether a group's kind allows as many copies: EXTERNAL one alone, HIGH three alone, and NORMAL each number.
+/// Whether a group's kind allows as many copies: EXTERNAL one alone, HIGH three alone, and NORMAL
+/// each number.
 fn allows(kind: GroupKind, copies: Option<u8>) -> bool
     ensures { result ≡ allows_copies kind (said_copies kind copies) }
 {

@@ -25,7 +25,8 @@ use std::alloc::Global;
 /// Templates in a group, at most.
 pub(crate) const MOST_TEMPLATES: usize = 64;
 
-/// The templates that a record says, or None where it isn't that of templates, or isn't of the format.
+/// The templates that a record says, or None where it isn't that of templates, or isn't of the
+/// format.
 #[tactic(auto, using(crate::proofs::ReadingLaws::templates_are_said, crate::proofs::ReadingLaws::no_templates))]
 pub(crate) fn templates_in(
     alloc: Global,
@@ -41,7 +42,8 @@ pub(crate) fn templates_in(
     Ok(read)
 }
 
-/// The settings that a record says, or None where it isn't that of settings, or isn't of the format.
+/// The settings that a record says, or None where it isn't that of settings, or isn't of the
+/// format.
 #[tactic(auto, using(crate::proofs::ReadingLaws::settings_are_said, crate::proofs::ReadingLaws::no_settings))]
 pub(crate) fn settings_in(
     alloc: Global,

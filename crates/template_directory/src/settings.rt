@@ -6,8 +6,8 @@ ghost use Rattle.asm_formats.specs.Items.{is_item, is_text, settings_item};
 use asm_base::{NoMemory, Text};
 use std::marker::Model;
 
-/// The next incarnation of a file, and the attributes that may be set at any time. Contracts see it as the settings of the
-/// formats.
+/// The next incarnation of a file, and the attributes that may be set at any time. Contracts see it
+/// as the settings of the formats.
 #[derive(Debug, Drop)]
 pub struct Settings {
     /// The incarnation that the next new file gets.

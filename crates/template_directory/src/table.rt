@@ -16,7 +16,8 @@ use std::alloc::Global;
 use std::collections::btree_map::Iter;
 use std::marker::Model;
 
-/// The templates of a group by folded name, at most 64, and its settings: what the directory holds of both.
+/// The templates of a group by folded name, at most 64, and its settings: what the directory holds
+/// of both.
 #[derive(Drop)]
 pub struct TemplateTable {
     templates: Vec<Template>,
@@ -93,8 +94,8 @@ impl TemplateTable {
         self.get(name).is_some() || self.list().len() < MOST_TEMPLATES
     }
 
-    /// Puts a template in its place, which is that of the template of its name where there is one. Where there is no
-    /// memory the table stays.
+    /// Puts a template in its place, which is that of the template of its name where there is one.
+    /// Where there is no memory the table stays.
     #[tactic(auto, using(crate::proofs::Listing::ascends, crate::proofs::Listing::with_allowed))]
     pub fn put(&mut self, template: Template) -> Result<(), NoMemory>
         requires allowed { IsTrue (is_template template) }
@@ -143,8 +144,8 @@ impl TemplateTable {
         change.put.push((only_key(record_kind::SETTINGS), settings))
     }
 
-    /// The table whose records these are, or None where one of the two isn't there or isn't of the format, or there is
-    /// another of their kinds.
+    /// The table whose records these are, or None where one of the two isn't there or isn't of the
+    /// format, or there is another of their kinds.
     pub fn from_records(alloc: Global, records: &Records) -> Result<Option<TemplateTable>, NoMemory>
         // What is read is a table that has these records.
         ensures found { IfOk result (λ read. IfSome read

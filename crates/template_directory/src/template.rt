@@ -50,7 +50,8 @@ impl Template {
         self.system
     }
 
-    /// Whether a directory may hold it: its name is one of the grammar, and its copies are one, two or three.
+    /// Whether a directory may hold it: its name is one of the grammar, and its copies are one, two
+    /// or three.
     pub fn is_allowed(&self) -> bool
         ensures { result ≡ is_template self.now }
     {

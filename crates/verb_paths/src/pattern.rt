@@ -67,8 +67,8 @@ fn meet<'a>(pattern: &'a [u8], name: &'a [u8]) -> Meeting<'a>
 }
 
 /// Whether a pattern matches the name from some byte on. What stands before the next `*` is taken
-/// where it comes first: that leaves the most to the later stars. So no place is tried twice for one
-/// `*`, and the time is at most the product of the two lengths.
+/// where it comes first: that leaves the most to the later stars. So no place is tried twice for
+/// one `*`, and the time is at most the product of the two lengths.
 #[tactic(auto, using(crate::proofs::Matching::same_here, crate::proofs::Matching::first_place))]
 fn matches_from<'a>(mut pattern: &'a [u8], mut name: &'a [u8]) -> bool
     ensures { result ≡ matches_from (folded pattern.now) (folded name.now) }

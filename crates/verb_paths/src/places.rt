@@ -112,8 +112,9 @@ fn walk_by_pattern(
     Ok(Some(at))
 }
 
-/// Where the path of `cd` or `find` leads: a group's name and the parts behind it, or no name at `+`. A path with `+` begins
-/// at the top, any other at the place. The part `..` goes up. None where another part isn't one of a path.
+/// Where the path of `cd` or `find` leads: a group's name and the parts behind it, or no name at
+/// `+`. A path with `+` begins at the top, any other at the place. The part `..` goes up. None
+/// where another part isn't one of a path.
 pub fn resolve(alloc: Global, place: &[Name], path: &[u8]) -> Result<Option<List<Name>>, NoMemory>
     ensures { IfOk result (λ led. led ≡ resolved place.now path.now) }
 {
@@ -154,8 +155,8 @@ fn resolve_one_pattern(
     }
 }
 
-/// The path of `ls`, of which each part may hold `*`: where none is said it is the place. Only the last part is looked for
-/// as a pattern, since no name has a `*`.
+/// The path of `ls`, of which each part may hold `*`: where none is said it is the place. Only the
+/// last part is looked for as a pattern, since no name has a `*`.
 pub fn resolve_pattern(
     alloc: Global,
     place: &[Name],
@@ -169,8 +170,8 @@ pub fn resolve_pattern(
     }
 }
 
-/// The group's name that a path's parts from the top begin with, and the parts behind it. None where there are no parts: the path
-/// comes to `+`.
+/// The group's name that a path's parts from the top begin with, and the parts behind it. None
+/// where there are no parts: the path comes to `+`.
 pub fn parts_in_group(parts: List<Name>) -> Option<Path>
     ensures { option_map (λ p. (p.group, p.parts)) result ≡ parts_of (Some parts) }
 {
@@ -185,8 +186,8 @@ pub fn parts_in_group(parts: List<Name>) -> Option<Path>
     })
 }
 
-/// The group and the path in it to which the path of a verb leads, but of `ls`, `cd`, `du` and `find`. None where a part
-/// isn't one, or the path comes to `+`: it names no group then.
+/// The group and the path in it to which the path of a verb leads, but of `ls`, `cd`, `du` and
+/// `find`. None where a part isn't one, or the path comes to `+`: it names no group then.
 pub fn target(alloc: Global, place: &[Name], path: &[u8]) -> Result<Option<Path>, NoMemory>
     ensures { IfOk result (λ led. option_map (λ p. (p.group, p.parts)) led
         ≡ target_from place.now path.now) }
@@ -226,8 +227,8 @@ fn within_group(name: &Name, parts: List<Name>) -> Option<List<Name>>
     }
 }
 
-/// The path of a clause on directories, aliases or files, in the group that the statement names. `..` is a part like
-/// others here. None where it isn't a path of that group.
+/// The path of a clause on directories, aliases or files, in the group that the statement names.
+/// `..` is a part like others here. None where it isn't a path of that group.
 pub fn clause_path(alloc: Global, name: &Name, path: &[u8]) -> Result<Option<List<Name>>, NoMemory>
     ensures { IfOk result (λ read. read ≡ clause_path name.now path.now) }
 {

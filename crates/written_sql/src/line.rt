@@ -12,7 +12,8 @@ use itoa::Buffer;
 use std::alloc::Global;
 use std::marker::Model;
 
-/// Words with the spaces between them: one between two words, and none before `,`, `)`, `=` and `;`, nor behind `(` and `=`.
+/// Words with the spaces between them: one between two words, and none before `,`, `)`, `=` and
+/// `;`, nor behind `(` and `=`.
 #[derive(Drop)]
 pub struct Line {
     bytes: Vec<u8>,

@@ -77,7 +77,8 @@ fn create_disk(line: Line, path: &Text, size: u64) -> Result<Option<Line>, NoMem
     Ok(Some(line))
 }
 
-/// What stands behind the name in CREATE DISKGROUP. None where there is no failure group, or one has no disk.
+/// What stands behind the name in CREATE DISKGROUP. None where there is no failure group, or one
+/// has no disk.
 #[tactic(auto, using(crate::proofs::Wholes::group_rest_put))]
 fn write_group_rest(
     line: Line,
@@ -133,7 +134,8 @@ fn alter_group(line: Line, group: &Name, clause: &Clause) -> Result<Option<Line>
     write_clause(line, clause)
 }
 
-/// The words of a statement. None where a list that has a member in the language has none, or a template has no word.
+/// The words of a statement. None where a list that has a member in the language has none, or a
+/// template has no word.
 fn write_words(line: Line, statement: &Statement) -> Result<Option<Line>, NoMemory>
     ensures { IfOk result (λ longer. longer
         ≡ lines.statement_line (statement_said statement.now) line) }
@@ -151,11 +153,13 @@ fn write_words(line: Line, statement: &Statement) -> Result<Option<Line>, NoMemo
     }
 }
 
-/// The canonical text of a statement: keywords in upper case, one space between words, `, ` between the members of a list, sizes in
-/// bytes, the time of DROP AFTER in minutes, a redundancy before a stripe, MODIFY for a template that is altered, and no option that
-/// changes nothing. Some text says the statement where each list of disks, failure groups or names has a member, a template has a
-/// word, names are names of the language, paths and texts have no single quote, and the time is below 2^64 seconds; then this one
-/// does, so that reading it gives the same statement. The text is empty where a list has no member or a template no word.
+/// The canonical text of a statement: keywords in upper case, one space between words, `, ` between
+/// the members of a list, sizes in bytes, the time of DROP AFTER in minutes, a redundancy before a
+/// stripe, MODIFY for a template that is altered, and no option that changes nothing. Some text
+/// says the statement where each list of disks, failure groups or names has a member, a template
+/// has a word, names are names of the language, paths and texts have no single quote, and the time
+/// is below 2^64 seconds; then this one does, so that reading it gives the same statement. The text
+/// is empty where a list has no member or a template no word.
 #[tactic(auto, using(crate::proofs::Texts::no_text, crate::proofs::Texts::whole_text, crate::proofs::Texts::text_says))]
 pub fn write_statement(alloc: Global, statement: &Statement) -> Result<Vec<u8>, NoMemory>
     ensures written { IfOk result (λ text. text.items

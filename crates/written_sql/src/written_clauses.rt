@@ -323,7 +323,8 @@ fn set_attribute(line: Line, attribute: &Attribute) -> Result<Option<Line>, NoMe
     Ok(Some(line))
 }
 
-/// A clause. None where a list that has a member in the language has none, or a template has no word.
+/// A clause. None where a list that has a member in the language has none, or a template has no
+/// word.
 #[tactic(auto, unfolding(crate::specs::Lines::clause_line))]
 pub fn write_clause(line: Line, clause: &Clause) -> Result<Option<Line>, NoMemory>
     ensures { IfOk result (λ longer. longer ≡ lines.clause_line (clause_said clause.now) line) }

@@ -15,9 +15,9 @@ use refusal_lines::Refusal;
 use std::alloc::Global;
 
 impl Catalog {
-    /// The change by which new disks have these records, all in one. Where fewer blocks are free than there are disks it is
-    /// refused as DirectoryFull. The numbers are below 64, each of another disk, and of one that has no record yet; the
-    /// names are those of the grammar.
+    /// The change by which new disks have these records, all in one. Where fewer blocks are free
+    /// than there are disks it is refused as DirectoryFull. The numbers are below 64, each of
+    /// another disk, and of one that has no record yet; the names are those of the grammar.
     #[tactic(auto, using(crate::proofs::AddedDisks::lacks_one_each, crate::proofs::AddedDisks::has_one_each))]
     pub fn plan_disks(&self, alloc: Global, added: &[(u8, DiskInfo)]) -> Result<Change, Refusal>
         requires added { MayAdd self.now.tables added.now }

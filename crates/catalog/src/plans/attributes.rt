@@ -15,8 +15,8 @@ use refusal_lines::Refusal;
 use std::alloc::Global;
 
 impl Catalog {
-    /// The change by which an attribute that may be set at any time has another value. It is refused as BadAttribute where
-    /// no such attribute has the name, or it can't have the value.
+    /// The change by which an attribute that may be set at any time has another value. It is
+    /// refused as BadAttribute where no such attribute has the name, or it can't have the value.
     pub fn plan_attribute(
         &self,
         alloc: Global,

@@ -13,12 +13,13 @@ use refusal_lines::Refusal;
 use std::alloc::Global;
 
 impl Catalog {
-    /// How many nodes the name of this file would make, were it the next one that is made: at least one, that of its
-    /// system name. It is asked by the number that `next_file` gives and the next incarnation. What `new.by` says is for
-    /// the caller.
+    /// How many nodes the name of this file would make, were it the next one that is made: at least
+    /// one, that of its system name. It is asked by the number that `next_file` gives and the next
+    /// incarnation. What `new.by` says is for the caller.
     ///
-    /// NoTemplate: no file may have the path. NotSectors: the size isn't whole sectors. NotDirectory: a directory of the
-    /// path is there as a file. NameTaken: the system name is there.
+    /// NoTemplate: no file may have the path. NotSectors: the size isn't whole sectors.
+    /// NotDirectory: a directory of the path is there as a file. NameTaken: the system name is
+    /// there.
     #[tactic(auto, using(crate::proofs::NameChecks::no_path, crate::proofs::NameChecks::no_sectors, crate::proofs::NameChecks::name_checked, crate::proofs::NameChecks::name_refused, plan_records::proofs::NewNames::name_parts))]
     pub fn check_name(&self, alloc: Global, new: &NewFile) -> Result<u64, Refusal>
         ensures made { IfOk result (IsNameCheck self.now new.now.path.parts new.now.size) }

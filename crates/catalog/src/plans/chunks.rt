@@ -16,11 +16,13 @@ use refusal_lines::Refusal;
 use std::alloc::Global;
 
 impl Catalog {
-    /// The change by which a chunk has these extents behind those that it has, each with its byte of marks: bit k is set
-    /// where copy k lacks the bytes. It puts the records of the chunk and of its marks. A chunk that isn't there yet takes
-    /// two blocks: where fewer are free it is refused as DirectoryFull. The chunk has room for the extents, those before
-    /// them are there, each has a home, the file may have their copies, the homes of one lie on different disks, all are
-    /// runs of free user units that don't overlap, and each mark is that of a copy that its extent has.
+    /// The change by which a chunk has these extents behind those that it has, each with its byte
+    /// of marks: bit k is set where copy k lacks the bytes. It puts the records of the chunk and of
+    /// its marks. A chunk that isn't there yet takes two blocks: where fewer are free it is refused
+    /// as DirectoryFull. The chunk has room for the extents, those before them are there, each has
+    /// a home, the file may have their copies, the homes of one lie on different disks, all are
+    /// runs of free user units that don't overlap, and each mark is that of a copy that its extent
+    /// has.
     #[tactic(auto, using(crate::proofs::AppendPlans::lacks_two, crate::proofs::AppendPlans::there_has_room, crate::proofs::AppendPlans::free_has_room))]
     pub fn plan_chunk(
         &self,

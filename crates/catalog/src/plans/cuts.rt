@@ -15,9 +15,10 @@ use refusal_lines::Refusal;
 use std::alloc::Global;
 
 impl Catalog {
-    /// The change by which the extents of a chunk from place `kept` on go, and their marks with them. With `kept` 0 the
-    /// chunk and the record of its marks go. It has two keys. The chunk is there, its file has no extent behind it, and
-    /// none of those that go is one that the file has by the size that its head says, if it has one.
+    /// The change by which the extents of a chunk from place `kept` on go, and their marks with
+    /// them. With `kept` 0 the chunk and the record of its marks go. It has two keys. The chunk is
+    /// there, its file has no extent behind it, and none of those that go is one that the file has
+    /// by the size that its head says, if it has one.
     pub fn plan_cut(
         &self,
         alloc: Global,

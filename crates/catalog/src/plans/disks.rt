@@ -16,8 +16,9 @@ use refusal_lines::Refusal;
 use std::alloc::Global;
 
 impl Catalog {
-    /// The change by which a disk has this record, or none. Where the record is new and no block is free it is refused as
-    /// DirectoryFull. The number is below 64, and the names are those of the grammar.
+    /// The change by which a disk has this record, or none. Where the record is new and no block is
+    /// free it is refused as DirectoryFull. The number is below 64, and the names are those of the
+    /// grammar.
     pub fn plan_disk(
         &self,
         alloc: Global,

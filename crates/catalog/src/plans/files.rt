@@ -17,9 +17,9 @@ use refusal_lines::Refusal;
 use std::alloc::Global;
 
 impl Catalog {
-    /// The change by which a file has another size, in bytes. To a greater size it ends the pending operation, and to a
-    /// smaller one it begins the file's shrinking. The file has a head, and where it grows, all extents that it has then are
-    /// there.
+    /// The change by which a file has another size, in bytes. To a greater size it ends the pending
+    /// operation, and to a smaller one it begins the file's shrinking. The file has a head, and
+    /// where it grows, all extents that it has then are there.
     pub fn plan_size(&self, alloc: Global, file: u32, size: u64) -> Result<Change, Refusal>
         requires file { IsTrue (is_file_number self.now.tables.files file) }
         requires extents { MayGrow self.now.shape self.now.tables file size }
@@ -62,8 +62,8 @@ impl Catalog {
         one_put(alloc, entry)
     }
 
-    /// The change by which a file and its names go, and its removal is the pending operation. The file has a head. It is a
-    /// plan where each chunk is then one of a file or of the removal.
+    /// The change by which a file and its names go, and its removal is the pending operation. The
+    /// file has a head. It is a plan where each chunk is then one of a file or of the removal.
     pub fn plan_unname(&self, alloc: Global, file: u32) -> Result<Change, Refusal>
         requires file { IsTrue (is_file_number self.now.tables.files file) }
         ensures planned { IfOk result (λ change. IsRemovalPlan self.now file change.put

@@ -14,9 +14,9 @@ use refusal_lines::Refusal;
 use std::alloc::Global;
 
 impl Catalog {
-    /// The change by which the marks of an extent lose the bits of `clear` and then have those of `set`: a bit of both is
-    /// set. Bit k is that of copy k. It puts one record. The extent's chunk is there, and each mark that is set is that of a
-    /// copy that is there.
+    /// The change by which the marks of an extent lose the bits of `clear` and then have those of
+    /// `set`: a bit of both is set. Bit k is that of copy k. It puts one record. The extent's chunk
+    /// is there, and each mark that is set is that of a copy that is there.
     pub fn plan_marks(
         &self,
         alloc: Global,

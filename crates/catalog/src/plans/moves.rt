@@ -17,9 +17,10 @@ use refusal_lines::Refusal;
 use std::alloc::Global;
 
 impl Catalog {
-    /// The change by which a copy of an extent has this home and no mark, as a copy that was written anew has. It puts the
-    /// record of the chunk, and that of its marks where the copy has one. The extent is there, its other copies lie on other
-    /// disks, and the home is that of the copy or a run of free user units as long as the extent.
+    /// The change by which a copy of an extent has this home and no mark, as a copy that was
+    /// written anew has. It puts the record of the chunk, and that of its marks where the copy has
+    /// one. The extent is there, its other copies lie on other disks, and the home is that of the
+    /// copy or a run of free user units as long as the extent.
     pub fn plan_move(
         &self,
         alloc: Global,

@@ -28,12 +28,14 @@ use refusal_lines::Refusal;
 use std::alloc::Global;
 
 impl Catalog {
-    /// The change by which the file that is being made has its head and its system name, and the directories that are
-    /// missing above it are there. It ends the pending operation. The next incarnation is one greater, and stays once it is
-    /// the greatest. What `new.by` says is for the caller, who gives the copies and the stripe.
+    /// The change by which the file that is being made has its head and its system name, and the
+    /// directories that are missing above it are there. It ends the pending operation. The next
+    /// incarnation is one greater, and stays once it is the greatest. What `new.by` says is for the
+    /// caller, who gives the copies and the stripe.
     ///
-    /// NoTemplate: no file may have the path. NotDirectory: a directory of the path is there as a file. NameTaken: the
-    /// system name is there. DirectoryFull: the head and the new nodes need more blocks than are free.
+    /// NoTemplate: no file may have the path. NotDirectory: a directory of the path is there as a
+    /// file. NameTaken: the system name is there. DirectoryFull: the head and the new nodes need
+    /// more blocks than are free.
     #[tactic(auto, using(crate::proofs::NamePlans::no_path, crate::proofs::NamePlans::name_refused, crate::proofs::NamePlans::lacks_room, crate::proofs::NamePlans::no_memory, plan_records::proofs::NewNames::name_parts))]
     pub fn plan_name(
         &self,

@@ -53,8 +53,8 @@ impl Catalog {
         Ok(change)
     }
 
-    /// The change by which an operation is the pending one. It is a plan where each chunk is then one of a file or of the
-    /// operation.
+    /// The change by which an operation is the pending one. It is a plan where each chunk is then
+    /// one of a file or of the operation.
     pub fn plan_begin(&self, alloc: Global, op: Pending) -> Result<Change, Refusal>
         ensures planned { IfOk result (λ change. AreOwned
             (record self.now.tables {
@@ -85,7 +85,8 @@ impl Catalog {
         Ok(change)
     }
 
-    /// The change by which no operation is pending. It is a plan where each chunk is then one of a file.
+    /// The change by which no operation is pending. It is a plan where each chunk is then one of a
+    /// file.
     pub fn plan_end(&self, alloc: Global) -> Result<Change, Refusal>
         ensures planned { IfOk result (λ change. AreOwned
             (record self.now.tables {

@@ -15,8 +15,8 @@ use refusal_lines::Refusal;
 use std::alloc::Global;
 
 impl Catalog {
-    /// The change that an edit of the templates is. It is refused as TemplateTable::edit refuses it. The name is one of the
-    /// grammar, and copies that are said are one, two or three.
+    /// The change that an edit of the templates is. It is refused as TemplateTable::edit refuses
+    /// it. The name is one of the grammar, and copies that are said are one, two or three.
     #[tactic(auto, using(crate::proofs::TemplatePlans::edit_planned), unfolding(refusal_lines::specs::Refusals::meaning_of))]
     pub fn plan_template(&self, alloc: Global, edit: &TemplateEdit) -> Result<Change, Refusal>
         requires edit { IsTrue (is_template_edit (template_edit_meant edit.now)) }

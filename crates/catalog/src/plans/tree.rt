@@ -23,9 +23,9 @@ use refusal_lines::Refusal;
 use std::alloc::Global;
 
 impl Catalog {
-    /// The change that an edit of the tree is. Its refusals are those of alias_edits::edit, and then DirectoryFull where it
-    /// makes a node and no block is free. The parts of a name that it puts have at most 80 bytes. The names of files come
-    /// and go with their files alone.
+    /// The change that an edit of the tree is. Its refusals are those of alias_edits::edit, and
+    /// then DirectoryFull where it makes a node and no block is free. The parts of a name that it
+    /// puts have at most 80 bytes. The names of files come and go with their files alone.
     #[tactic(auto, using(crate::proofs::TreeEditPlans::tree_planned, crate::proofs::TreeEditPlans::plan_refused, crate::proofs::TreeEditPlans::edit_refused))]
     pub fn plan_tree(&self, alloc: Global, edit: &TreeEdit) -> Result<Change, Refusal>
         requires edit { IsTrue (is_tree_edit (edit_meant edit.now)) }

@@ -136,7 +136,8 @@ fn put_head(
     }
 }
 
-/// The change that puts heads of so many files from 1,000 on, which the group hasn't, and takes them away again.
+/// The change that puts heads of so many files from 1,000 on, which the group hasn't, and takes
+/// them away again.
 #[tactic(auto, using(crate::proofs::Commits::nothing_put, crate::proofs::Commits::none_commits))]
 fn heads_change(alloc: Global, catalog: &Catalog, count: u8) -> Option<Change>
     ensures { IfSome result (λ change. MayCommitChange catalog.now change.put change.gone) }

@@ -24,7 +24,8 @@ use slices::{end, slice_of, sync};
 use statements::state;
 use std::alloc::Global;
 
-/// Does a step that calls the group: one on names, files and disks, or another. Whether this comes of it.
+/// Does a step that calls the group: one on names, files and disks, or another. Whether this comes
+/// of it.
 pub fn is_done<B: Bay>(alloc: Global, m: &mut Mounted, bay: &mut B, step: Step) -> bool
     requires takes { Takes m.old (B.state bay.old) }
     ensures takes { Takes m.new (B.state bay.new) }

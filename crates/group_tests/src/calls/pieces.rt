@@ -127,7 +127,8 @@ fn reserved(shape: &Shape) -> Option<u64>
     Some((blocks * 4096 + (au - 1)) / au)
 }
 
-/// Whether so many bytes from an inner byte of a unit on lie on an attached disk, behind its directories.
+/// Whether so many bytes from an inner byte of a unit on lie on an attached disk, behind its
+/// directories.
 fn is_run(m: &Mounted, home: Home, inner: u64, len: usize) -> bool
     ensures { OnTrue result (IsRunOf m.now home 1 inner len) }
 {

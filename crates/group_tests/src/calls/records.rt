@@ -34,7 +34,8 @@ fn next_of(value: &PstRecord, next: Next) -> PstRecord {
     }
 }
 
-/// Writes the record that holds anew, changed in this, where it may come next. A group that takes no calls is asked to write any.
+/// Writes the record that holds anew, changed in this, where it may come next. A group that takes
+/// no calls is asked to write any.
 #[tactic(auto, using(crate::proofs::Taking::kept_takes))]
 pub fn record<B: Bay>(m: &mut Mounted, alloc: Global, bay: &mut B, next: Next) -> Answer
     requires takes { Takes m.old (B.state bay.old) }

@@ -84,7 +84,8 @@ pub enum Fact {
     Prints(Report, &'static [u8]),
 }
 
-/// Which copies of an extent are so, bit k for copy k; the first usable one, and whether the extent is full.
+/// Which copies of an extent are so, bit k for copy k; the first usable one, and whether the extent
+/// is full.
 #[derive(Clone, Copy, PartialEq, Eq)]
 pub struct Copies {
     pub online: u8,

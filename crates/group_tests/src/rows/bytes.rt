@@ -1,5 +1,6 @@
-//! Rows on bytes of extents: who takes and gives them, what is recorded of disks that fail, and which copies count then. File 256 has
-//! four extents of a unit, by turns on disks 0 and 1, and on 2 and 3; the first unit of each disk for users is 270.
+//! Rows on bytes of extents: who takes and gives them, what is recorded of disks that fail, and
+//! which copies count then. File 256 has four extents of a unit, by turns on disks 0 and 1, and on
+//! 2 and 3; the first unit of each disk for users is 270.
 
 use crate::answers::Answer;
 use crate::facts::{Copies, Fact};
@@ -87,8 +88,8 @@ const READ_AGAIN: Then = Then::Mount(
     ],
 );
 
-/// The other copy takes the bytes: that of disk 3 is stale, and disk 3 Offline, for the seconds of the attribute. Later writes pass it,
-/// and mark its copies.
+/// The other copy takes the bytes: that of disk 3 is stale, and disk 3 Offline, for the seconds of
+/// the attribute. Later writes pass it, and mark its copies.
 const COPY_FAILS: [Step; 27] = [
     MAKE,
     Step::Write(SECOND, 61, Answer::Done),
@@ -139,7 +140,8 @@ const STALE_STILL: Then = Then::Mount(
     ],
 );
 
-/// Disk 2 has a directory copy besides, which the marks don't reach, so a record without it comes before that of the mode.
+/// Disk 2 has a directory copy besides, which the marks don't reach, so a record without it comes
+/// before that of the mode.
 const FIRST_FAILS: [Step; 9] = [
     MAKE,
     Step::Fails(2, true),
@@ -228,7 +230,8 @@ const MARKED: Then = Then::Mount(
     ],
 );
 
-/// The marks are committed, and no majority takes the record of the mode. It stands on disk 2, and is the greatest that a mount reads.
+/// The marks are committed, and no majority takes the record of the mode. It stands on disk 2, and
+/// is the greatest that a mount reads.
 const MODE_UNWRITTEN: [Step; 10] = [
     MAKE,
     Step::Record(Next::Dirs(0b100), Answer::Done),
@@ -322,7 +325,8 @@ const COUNTED: [Step; 9] = [
     )),
 ];
 
-/// Regular failure groups serve whose disk stays in the group. Templates are found by the type, or by their name, in any case.
+/// Regular failure groups serve whose disk stays in the group. Templates are found by the type, or
+/// by their name, in any case.
 const NEW_FILES: [Step; 14] = [
     Step::Tells(Fact::ServingGroups(4)),
     Step::Record(Next::Mode(3, Mode::Dropping), Answer::Done),
@@ -340,7 +344,8 @@ const NEW_FILES: [Step; 14] = [
     Step::Tells(Fact::Template(b"DATAFILE", Some(b"SCRATCH"), None)),
 ];
 
-/// The new copy of a move takes what is written, as far as it was copied. Where it doesn't, the move is given up and nothing else.
+/// The new copy of a move takes what is written, as far as it was copied. Where it doesn't, the
+/// move is given up and nothing else.
 const FOLLOWED: [Step; 19] = [
     MAKE,
     Step::FlyTo(0, 0, (3, 300), 2048),

@@ -1,4 +1,5 @@
-//! Rows on a new group and on commits: what a commit writes, copies that fail, and directories that are full.
+//! Rows on a new group and on commits: what a commit writes, copies that fail, and directories that
+//! are full.
 
 use crate::answers::Answer;
 use crate::facts::Fact;
@@ -9,8 +10,8 @@ use asm_base::Mode;
 use group_recovery::MountOption;
 use std::alloc::Global;
 
-/// The record and the directories are on the first three disks. Of the 128 blocks of a copy two are kept, and six have the records
-/// of the settings, of the templates and of four disks.
+/// The record and the directories are on the first three disks. Of the 128 blocks of a copy two are
+/// kept, and six have the records of the settings, of the templates and of four disks.
 const NEW: [Step; 19] = [
     IS_MOUNTED,
     Step::Tells(Fact::Takes(Answer::Done)),
@@ -117,7 +118,8 @@ const ALL_COPIES: [Step; 8] = [
     Step::Tells(Fact::Takes(Answer::Dismounted(0b111))),
 ];
 
-/// New records want a block each, also those that the same commit takes away. A commit that is refused leaves all as it was.
+/// New records want a block each, also those that the same commit takes away. A commit that is
+/// refused leaves all as it was.
 const FULL: [Step; 12] = [
     Step::CommitDirs(118),
     Step::Tells(Fact::FreeBlocks(2)),
@@ -134,8 +136,8 @@ const FULL: [Step; 12] = [
     HAS_A,
 ];
 
-/// The change of a plan is committed where it takes the last free block. Where none is free the plan is refused, but for one that
-/// puts no new record, or that of an operation.
+/// The change of a plan is committed where it takes the last free block. Where none is free the
+/// plan is refused, but for one that puts no new record, or that of an operation.
 const LAST_BLOCK: [Step; 9] = [
     Step::CommitDirs(119),
     Step::Tells(Fact::FreeBlocks(1)),

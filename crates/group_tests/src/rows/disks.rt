@@ -9,7 +9,8 @@ use asm_base::Mode;
 use group_recovery::MountOption;
 use std::alloc::Global;
 
-/// A disk leaves the record, the attached disks and the disk records. Its image may come to another number then.
+/// A disk leaves the record, the attached disks and the disk records. Its image may come to another
+/// number then.
 const LEAVE: [Step; 13] = [
     Step::FlyTo(0, 0, (0, 300), 0),
     Step::Leave(3, Answer::Done),
@@ -55,7 +56,8 @@ const LEAVE_UNWRITTEN: [Step; 4] = [
     Step::Tells(Fact::Dismounted(0b110)),
 ];
 
-/// A disk is attached where its number and its slot are free. It has no entry, so it may have no copy.
+/// A disk is attached where its number and its slot are free. It has no entry, so it may have no
+/// copy.
 const ATTACH: [Step; 9] = [
     Step::Attach(4, 64, 5, Answer::MayNot),
     Step::Attach(4, 3, 4, Answer::MayNot),

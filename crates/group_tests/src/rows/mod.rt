@@ -1,5 +1,6 @@
-//! What no clause says: that each call is done where memory is had and no disk fails, what the record, the tables, the bytes and the
-//! disks are then, and which refusal comes where disks fail. The expected values come from the rules.
+//! What no clause says: that each call is done where memory is had and no disk fails, what the
+//! record, the tables, the bytes and the disks are then, and which refusal comes where disks fail.
+//! The expected values come from the rules.
 
 mod bytes;
 mod commits;

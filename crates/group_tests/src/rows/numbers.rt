@@ -7,7 +7,8 @@ use extent_copies::copies_for;
 use relocation::{CopyError, extent_bytes, piece_buffer, piece_len, refusal_of};
 use std::alloc::Global;
 
-/// The kind of a group, the copies of a template, the failure groups that serve, and the copies of a new file.
+/// The kind of a group, the copies of a template, the failure groups that serve, and the copies of
+/// a new file.
 const NEW_FILES: [(GroupKind, u8, usize, u8); 11] = [
     (GroupKind::External, 3, 3, 1),
     (GroupKind::External, 1, 0, 1),
@@ -50,7 +51,8 @@ const SIZES: [(u32, u64); 6] = [
     (4_000_000_000, 65_536),
 ];
 
-/// The index of an extent of units of 4 MiB, an inner byte, and how many bytes are copied at once from there on.
+/// The index of an extent of units of 4 MiB, an inner byte, and how many bytes are copied at once
+/// from there on.
 const PIECES: [(u32, u64, Option<usize>); 8] = [
     (0, 0, Some(1_048_576)),
     (0, 3_145_728, Some(1_048_576)),

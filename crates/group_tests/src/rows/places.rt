@@ -1,4 +1,5 @@
-//! Copies of one piece at places of three disks, by no group: each is a sector of a disk whose number is greater by five than its slot.
+//! Copies of one piece at places of three disks, by no group: each is a sector of a disk whose
+//! number is greater by five than its slot.
 
 ghost use Rattle.std.specs.Prelude.{◌≡◌, ◌<◌, Some};
 ghost use Rattle.std.specs.Bool.{OnTrue};

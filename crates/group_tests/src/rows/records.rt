@@ -75,8 +75,9 @@ const UNITS: [Step; 4] = [
     HAS_A,
 ];
 
-/// A record may be of this group and no other, isn't marked gone, names copies that are there, and has an entry for each disk of its
-/// sets. Its sets are those before, or a second one comes to the one.
+/// A record may be of this group and no other, isn't marked gone, names copies that are there, and
+/// has an entry for each disk of its sets. Its sets are those before, or a second one comes to the
+/// one.
 const MAY_NOT: [Step; 11] = [
     Step::Record(Next::OfAnother, Answer::MayNot),
     Step::Record(Next::Gone, Answer::MayNot),

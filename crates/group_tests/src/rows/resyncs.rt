@@ -1,4 +1,5 @@
-//! Rows on the resync of disk 3, whose copies of extents 1 and 3 of file 256 are stale: their other copies are on disk 2.
+//! Rows on the resync of disk 3, whose copies of extents 1 and 3 of file 256 are stale: their other
+//! copies are on disk 2.
 
 use crate::answers::Answer;
 use crate::facts::Fact;
@@ -16,7 +17,8 @@ const STALE: Step = Step::Write(SECOND, 62, Answer::Failed(0b1000));
 /// It is to be written anew.
 const SYNCING: Step = Step::Record(Next::Mode(3, Mode::Syncing), Answer::Done);
 
-/// The copy is copied whole, its mark goes, and the disk is Online. The move that is on its way is given up.
+/// The copy is copied whole, its mark goes, and the disk is Online. The move that is on its way is
+/// given up.
 const ONE_COPY: [Step; 18] = [
     MAKE,
     Step::Sync(3, 0, Answer::Synced(Resynced::Online)),

@@ -1,5 +1,6 @@
-//! Rows on slices of a rebalance: copies that move, are written anew or filled, directory copies, status tables, disks that leave, and
-//! how it ends. File 256 has four extents of a unit, by turns on disks 0 and 1, and on 2 and 3.
+//! Rows on slices of a rebalance: copies that move, are written anew or filled, directory copies,
+//! status tables, disks that leave, and how it ends. File 256 has four extents of a unit, by turns
+//! on disks 0 and 1, and on 2 and 3.
 
 use crate::answers::Answer;
 use crate::facts::{Fact, Report};
@@ -62,7 +63,8 @@ const THREE_DISKS: Then = Then::Mount(
     ],
 );
 
-/// A slice does as many steps as its power. A disk that isn't dropped any more gets a copy for balance, and then nothing is left.
+/// A slice does as many steps as its power. A disk that isn't dropped any more gets a copy for
+/// balance, and then nothing is left.
 const SLICES: [Step; 11] = [
     MAKE,
     DROP_3,
@@ -153,7 +155,8 @@ const SOURCES_FAIL: [Step; 15] = [
     Step::Tells(Fact::Attached(0b111)),
 ];
 
-/// One source fails: the other is read. The commits lose the directory copy on the disk, which is to be restored then.
+/// One source fails: the other is read. The commits lose the directory copy on the disk, which is
+/// to be restored then.
 const SOURCE_FAILS: [Step; 12] = [
     MAKE,
     Step::Write(SECOND, 61, Answer::Done),
@@ -186,7 +189,8 @@ const TARGET_FAILS: [Step; 13] = [
     Step::Sector(0, 272, 0, Answer::Bytes(61)),
 ];
 
-/// The commit of the new home reaches one directory copy, and no majority takes the record that says so.
+/// The commit of the new home reaches one directory copy, and no majority takes the record that
+/// says so.
 const UNWRITTEN: [Step; 6] = [
     MAKE,
     DROP_3,
@@ -239,8 +243,8 @@ const GOES_ON: [Step; 9] = [
     Step::Sector(0, 272, 2048, Answer::Bytes(61)),
 ];
 
-/// Each disk has 16 units for users, and each of two files 14 extents: four copies find room, and then none. Once the second file is
-/// gone the other three move, and two for balance.
+/// Each disk has 16 units for users, and each of two files 14 extents: four copies find room, and
+/// then none. Once the second file is gone the other three move, and two for balance.
 const NO_SPACE: [Step; 14] = [
     Step::State(Statement::Resize(0b1111, Some(286 * 4096), 1), Answer::Done),
     Step::Slice(64, 0, DONE),

@@ -1,5 +1,6 @@
-//! Rows on statements on disks: modes, units and the rebalance, each refusal in its order, and what the statements name. File 256 has
-//! four extents of a unit, by turns on disks 0 and 1, and on 2 and 3.
+//! Rows on statements on disks: modes, units and the rebalance, each refusal in its order, and what
+//! the statements name. File 256 has four extents of a unit, by turns on disks 0 and 1, and on 2
+//! and 3.
 
 use crate::answers::Answer;
 use crate::facts::Fact;
@@ -13,8 +14,8 @@ use std::alloc::Global;
 
 const UNIT: u64 = 4096;
 
-/// OFFLINE takes Online disks, for the seconds that are said or those of the attribute, and their directory copies with them. Partners
-/// stay.
+/// OFFLINE takes Online disks, for the seconds that are said or those of the attribute, and their
+/// directory copies with them. Partners stay.
 const OFFLINE: [Step; 17] = [
     Step::FlyTo(0, 0, (3, 300), 0),
     Step::State(Statement::Offline(0b1000, None), Answer::Done),
@@ -94,8 +95,8 @@ const OFFLINE_UNWRITTEN: [Step; 4] = [
     Step::Tells(Fact::Dismounted(0b11)),
 ];
 
-/// DROP takes Online disks, which have no partners then, and UNDROP gives them back. It makes a rebalance of power 1 active also where
-/// no disk is being dropped.
+/// DROP takes Online disks, which have no partners then, and UNDROP gives them back. It makes a
+/// rebalance of power 1 active also where no disk is being dropped.
 const DROP: [Step; 27] = [
     MAKE,
     Step::FlyTo(0, 0, (2, 300), 0),
@@ -174,8 +175,8 @@ const FORCE: [Step; 18] = [
     Step::State(Statement::Drop(&[F1], 1), Answer::HoldsDirectories(1)),
 ];
 
-/// Each extent keeps a current copy, on whatever disk: that is asked of the disks with FORCE alone, behind the directory copies and
-/// before the failure groups.
+/// Each extent keeps a current copy, on whatever disk: that is asked of the disks with FORCE alone,
+/// behind the directory copies and before the failure groups.
 const FORCE_LOSES: [Step; 10] = [
     MAKE,
     Step::State(Statement::Drop(&[F2, F3], 1), Answer::WouldLose(256, 1)),
@@ -192,7 +193,8 @@ const FORCE_LOSES: [Step; 10] = [
     Step::Tells(Fact::Mode(3, Some(Mode::Offline))),
 ];
 
-/// The groups are counted as the whole statement leaves them, and where a disk is named without FORCE.
+/// The groups are counted as the whole statement leaves them, and where a disk is named without
+/// FORCE.
 const TOO_FEW: [Step; 11] = [
     Step::State(
         Statement::Drop(&[D1, D2, D3], 1),
@@ -303,8 +305,8 @@ const REBALANCE: [Step; 10] = [
     Step::Tells(Fact::Record(1, 1)),
 ];
 
-/// A disk may have as many units as its image, and has 16 for users at least, behind the 270 of its directories. The least disk is named,
-/// and its mode is asked first.
+/// A disk may have as many units as its image, and has 16 for users at least, behind the 270 of its
+/// directories. The least disk is named, and its mode is asked first.
 const RESIZE: [Step; 21] = [
     Step::State(
         Statement::Resize(0b1000, Some(1025 * UNIT), 1),

@@ -1,4 +1,5 @@
-//! Tests of the two languages, DISKGROUP statements and asmcmd lines: texts that are read, refused at a place, and written, and reports.
+//! Tests of the two languages, DISKGROUP statements and asmcmd lines: texts that are read, refused
+//! at a place, and written, and reports.
 
 mod play;
 mod readings;

@@ -1,5 +1,6 @@
-// The calls of the readers of statements. Tests call these, which have no clause, so that no language is computed on a literal text.
-// A statement is dropped by a call, since what goes in place is proved in place.
+// The calls of the readers of statements. Tests call these, which have no clause, so that no
+// language is computed on a literal text. A statement is dropped by a call, since what goes in
+// place is proved in place.
 use group_sql::{ReadError, Statement, read_statement};
 use script::next_command;
 use std::alloc::Global;

@@ -1,4 +1,5 @@
-// Lines of asmcmd that are read or refused, and short reports. A verb is dropped by a call, since what goes in place is proved in place.
+// Lines of asmcmd that are read or refused, and short reports. A verb is dropped by a call, since
+// what goes in place is proved in place.
 use crate::languages::play::{Wrong, both, has_lines, row, table, word};
 use asm_base::{List, Text};
 use asmcmd::{LsRow, ReadError, Runs, check_lines, ls_lines, read_line, usage_lines};

@@ -1,4 +1,5 @@
-//! Tests of the texts and words of a session: event lines, the generated script, and the paths of verbs.
+//! Tests of the texts and words of a session: event lines, the generated script, and the paths of
+//! verbs.
 
 mod generated;
 mod lines;

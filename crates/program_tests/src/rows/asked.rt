@@ -191,7 +191,8 @@ pub fn unreadable(row: &[Numbered<'_>]) -> Option<u64> {
     None
 }
 
-/// How often a run is tried: stopped after each number of its calls, or with each call from a number on failing.
+/// How often a run is tried: stopped after each number of its calls, or with each call from a
+/// number on failing.
 #[derive(Clone, Copy)]
 pub enum Each {
     Stop,

@@ -28,7 +28,8 @@ pub fn has_second(lines: &[Numbered<'_>]) -> bool {
         .any(|numbered| matches!(numbered.line, Line::Or(_)))
 }
 
-/// Compares what was printed with the lines that are wanted. What is printed after a stop is not looked at.
+/// Compares what was printed with the lines that are wanted. What is printed after a stop is not
+/// looked at.
 pub fn compare_output(
     findings: &mut Findings,
     number: u64,

@@ -36,8 +36,8 @@ impl From<asm_base::NoMemory> for Trouble {
     }
 }
 
-/// What was found of a row so far: what is wrong, how many calls the run made that is tried, and of each answer of a trial that may
-/// come in two ways whether it came in the second.
+/// What was found of a row so far: what is wrong, how many calls the run made that is tried, and of
+/// each answer of a trial that may come in two ways whether it came in the second.
 #[derive(Drop)]
 pub struct Findings {
     message: String,

@@ -151,8 +151,9 @@ fn all_are(ways: &[bool], way: bool) -> bool {
     ways.iter().all(|it| *it == way)
 }
 
-/// Whether answers that may come in two ways come in them as they should, where a stop comes a call before another: the second way
-/// only where it came at that other, and only where the answers behind come in it as well.
+/// Whether answers that may come in two ways come in them as they should, where a stop comes a call
+/// before another: the second way only where it came at that other, and only where the answers
+/// behind come in it as well.
 fn are_in_order(ways: &[bool], later: &[bool]) -> bool {
     let mut is_second = false;
     for (way, at_later) in ways.iter().zip(later.iter()) {

@@ -34,8 +34,8 @@ const NONE: Cut = Cut {
     first: 1_000_000,
 };
 
-// What a word asks for, with the cut of what it tries, and that of the calls of the mounts that are stopped. None where there is no
-// such word.
+// What a word asks for, with the cut of what it tries, and that of the calls of the mounts that are
+// stopped. None where there is no such word.
 fn choice_of(word: &str, cut: Cut, inner: Cut) -> Option<Choice> {
     let none = Choice {
         once: false,

@@ -1,4 +1,5 @@
-// The script of the trials, and what each of its commands does to the group, by the rules and by hand.
+// The script of the trials, and what each of its commands does to the group, by the rules and by
+// hand.
 
 /// One of the two files.
 #[derive(Clone, Copy, Debug, PartialEq, Eq)]
@@ -57,8 +58,9 @@ const MODES: Deed = Deed {
     effect: Effect::Report,
 };
 
-/// The script: two files of 40K, writes, an OFFLINE and an ONLINE, a forced drop, an alias, and the loss of a file. A report that
-/// makes no call stands between the commands that do, so that a slice's calls are told from those of the next command.
+/// The script: two files of 40K, writes, an OFFLINE and an ONLINE, a forced drop, an alias, and the
+/// loss of a file. A report that makes no call stands between the commands that do, so that a
+/// slice's calls are told from those of the next command.
 pub const SCRIPT: [Deed; DEEDS] = [
     Deed {
         text: "CREATE DISKGROUP DATA DISK 'd0', 'd1', 'd2', 'd3' ATTRIBUTE 'au_size'='4K', 'dir_blocks'='128';\n",

@@ -79,7 +79,8 @@ fn unmarked(group: &Group<'_>, file: File, index: usize) -> u64 {
     found
 }
 
-// The first extent that would be lost without a disk: whose usable copies are there alone, or by force those that aren't marked.
+// The first extent that would be lost without a disk: whose usable copies are there alone, or by
+// force those that aren't marked.
 fn would_lose(group: &Group<'_>, disk: usize, by_force: bool) -> Option<(File, usize)> {
     for file in [File::U, File::V] {
         for index in 0..10usize {

@@ -37,7 +37,8 @@ struct Story {
     doubt: Option<Effect>,
 }
 
-/// The call that failed, and whether it did so between the reply before and that of the command that is judged.
+/// The call that failed, and whether it did so between the reply before and that of the command
+/// that is judged.
 #[derive(Clone, Copy)]
 struct Failed<'a> {
     call: &'a TracedCall,
@@ -82,7 +83,8 @@ impl Story {
         Ok(())
     }
 
-    // Whether a disk has a directory copy that counts. One that hasn't may be the target of a new one.
+    // Whether a disk has a directory copy that counts. One that hasn't may be the target of a new
+    // one.
     fn has_copy(&self, disk: usize) -> bool {
         match Group::on(&self.disks, set_of(15)) {
             Some(group) => has(group.status.copies(), disk),
@@ -128,7 +130,8 @@ impl Story {
             && report.iter().skip(1).all(|row| has_mode(&group, row))
     }
 
-    // Whether no disk is Offline but the one that the script takes, and the one that failed in a write.
+    // Whether no disk is Offline but the one that the script takes, and the one that failed in a
+    // write.
     fn keeps_modes(&self, failed: Failed<'_>) -> bool {
         let Some(group) = Group::on(&self.disks, set_of(15)) else {
             return false;
@@ -174,7 +177,8 @@ impl Story {
         Ok(())
     }
 
-    // Whether event lines tell of no failure but of this one. A slice that loses the group dismounts it.
+    // Whether event lines tell of no failure but of this one. A slice that loses the group
+    // dismounts it.
     fn are_events(&mut self, events: &[&[u8]], failed: Failed<'_>) -> bool {
         for line in events {
             let is_fault = contains(line, b" fault ");
@@ -239,7 +243,8 @@ impl Story {
         }
     }
 
-    // Whether a reply of a group that is mounted is right: what must come, or what comes of the failure.
+    // Whether a reply of a group that is mounted is right: what must come, or what comes of the
+    // failure.
     fn is_right(
         &mut self,
         effect: Effect,
@@ -348,7 +353,8 @@ fn is_unseen(played: &Played, replies: &Replies<'_>, call: usize) -> bool {
     failing.kind == Kind::Read && failing.at >= USER && is_read
 }
 
-// The sets of disks on which the group is mounted once the failure is over: all, and each without one.
+// The sets of disks on which the group is mounted once the failure is over: all, and each without
+// one.
 const SETS: [usize; 5] = [15, 14, 13, 11, 7];
 
 // Mounts what a run left.

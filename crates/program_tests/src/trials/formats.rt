@@ -37,7 +37,8 @@ fn body(disks: &Disks, slot: usize, gate: usize) -> Option<&[u8]> {
     }
 }
 
-/// Whether the disk of a slot is a member of the group. In the script the disk of a slot has its number.
+/// Whether the disk of a slot is a member of the group. In the script the disk of a slot has its
+/// number.
 pub fn is_member(disks: &Disks, slot: usize) -> bool {
     match body(disks, slot, 0) {
         Some(header) => header.starts_with(b"ASMH\x02\x04DATA")
@@ -70,7 +71,8 @@ impl<'a> Status<'a> {
         number(self.body, 55, 8)
     }
 
-    /// The mode of a disk, from 1 on: Online, Offline, Syncing, Dropping, Forced. 0 where the disk has no entry.
+    /// The mode of a disk, from 1 on: Online, Offline, Syncing, Dropping, Forced. 0 where the disk
+    /// has no entry.
     pub fn mode(&self, disk: usize) -> u64 {
         for place in 0..4usize {
             let at = 64 + place * 40;
@@ -156,7 +158,8 @@ pub fn commit(disks: &Disks, slot: usize) -> Option<u64> {
     }
 }
 
-/// The disk whose directories count: of the copies that can be read and that the record names, that of the greatest commit.
+/// The disk whose directories count: of the copies that can be read and that the record names, that
+/// of the greatest commit.
 pub fn directories(disks: &Disks, present: Present, status: Status<'_>) -> Option<usize> {
     let mut best: Option<(usize, u64)> = None;
     for (slot, is_there) in present.iter().enumerate() {
@@ -216,7 +219,8 @@ fn log_number(disks: &Disks, slot: usize, gate: usize) -> u64 {
     }
 }
 
-// A page of a copy: its image in the log slot of the greater commit, or in the other, or as it stands at home.
+// A page of a copy: its image in the log slot of the greater commit, or in the other, or as it
+// stands at home.
 fn page(disks: &Disks, slot: usize, page: usize) -> Option<&[u8]> {
     let is_swapped = log_number(disks, slot, LOGS[1]) > log_number(disks, slot, LOGS[0]);
     let (later, earlier) = if is_swapped {
@@ -336,7 +340,8 @@ impl<'a> Group<'a> {
         )
     }
 
-    /// Whether the directories have the file as a world has it: with its size, its incarnation and its names.
+    /// Whether the directories have the file as a world has it: with its size, its incarnation and
+    /// its names.
     fn agrees_on(&self, world: &World<'_>, file: File) -> bool {
         match self.head(file) {
             Some(head) => {
@@ -352,7 +357,8 @@ impl<'a> Group<'a> {
         }
     }
 
-    /// Whether a copy is current: its disk is a member that wasn't dropped by force, and it bears no mark.
+    /// Whether a copy is current: its disk is a member that wasn't dropped by force, and it bears
+    /// no mark.
     pub fn is_current(&self, marks: &[u8], index: usize, copy: Copy) -> bool {
         let mode = self.status.mode(copy.disk);
         let marked = number(marks, index, 1);
@@ -426,15 +432,17 @@ impl<'a> Group<'a> {
         true
     }
 
-    // Whether a disk that can be read has its header, where the record has an entry of it and it wasn't dropped by force.
+    // Whether a disk that can be read has its header, where the record has an entry of it and it
+    // wasn't dropped by force.
     fn is_joined(&self, disk: usize) -> bool {
         let mode = self.status.mode(disk);
         let is_owed = mode != 0 && mode != 5 && self.present.get(disk) == Some(&true);
         !is_owed || is_member(self.disks, disk)
     }
 
-    /// Whether the disks stand for a world: its files with their sizes and names, the next incarnation, and the known bytes in each
-    /// current copy; and each disk of the record is a member.
+    /// Whether the disks stand for a world: its files with their sizes and names, the next
+    /// incarnation, and the known bytes in each current copy; and each disk of the record is a
+    /// member.
     pub fn stands_for(&self, world: &World<'_>) -> bool {
         let settings = Record {
             kind: 9,

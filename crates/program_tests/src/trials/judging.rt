@@ -70,8 +70,8 @@ fn take_all(
     Ok(Some(disks))
 }
 
-/// Judges four images as what a stop leaves once so many commands are acknowledged: each set of them is mounted. None where one can't
-/// be read.
+/// Judges four images as what a stop leaves once so many commands are acknowledged: each set of
+/// them is mounted. None where one can't be read.
 pub fn judge_images(
     alloc: Global,
     bay: &mut FileBay,

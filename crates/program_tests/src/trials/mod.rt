@@ -1,9 +1,11 @@
-//! Plays one script to four disks in memory, by the program's own call: with each call on a disk failing once, and stopped before
-//! and within each call, with a second run after it that mounts the group by force. Without a word it tries some of the calls.
-//! `stops`, `faults` and `mounts` with numbers N and M try every Nth from the Mth on, and two more numbers say the same of the
-//! calls of the mounts that are stopped. `all` tries each, and each 20th call of the mounts behind each 100th. `once` plays the
-//! script alone and prints its replies. It prints what it tried, and what went wrong. `script` prints the script, and `judge` with a
-//! number and four images judges what a run of the built program left behind so many acknowledged commands.
+//! Plays one script to four disks in memory, by the program's own call: with each call on a disk
+//! failing once, and stopped before and within each call, with a second run after it that mounts
+//! the group by force. Without a word it tries some of the calls. `stops`, `faults` and `mounts`
+//! with numbers N and M try every Nth from the Mth on, and two more numbers say the same of the
+//! calls of the mounts that are stopped. `all` tries each, and each 20th call of the mounts behind
+//! each 100th. `once` plays the script alone and prints its replies. It prints what it tried, and
+//! what went wrong. `script` prints the script, and `judge` with a number and four images judges
+//! what a run of the built program left behind so many acknowledged commands.
 
 mod choice;
 mod deeds;

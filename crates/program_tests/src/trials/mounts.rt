@@ -191,7 +191,8 @@ pub fn tells_span(report: &[&[u8]], world: &World<'_>, file: File, at: usize, en
     place == end
 }
 
-// Whether an extent is read as a world says: its bytes, or that it is lost where no copy of it is usable.
+// Whether an extent is read as a world says: its bytes, or that it is lost where no copy of it is
+// usable.
 fn reads_extent(
     alloc: Global,
     group: &Group<'_>,
@@ -276,7 +277,8 @@ fn online(reply: &Reply<'_>) -> usize {
         .count()
 }
 
-// The next file has the next number and the next incarnation. It is refused where fewer than two disks are Online.
+// The next file has the next number and the next incarnation. It is refused where fewer than two
+// disks are Online.
 fn makes_next(
     alloc: Global,
     reply: &Reply<'_>,

@@ -16,7 +16,8 @@ pub fn four_disks(alloc: Global) -> Option<MemBay> {
     MemBay::new(alloc, &[Some(SIZE), Some(SIZE), Some(SIZE), Some(SIZE)]).ok()
 }
 
-/// What a run printed, how it ended, the calls on its disks, and how many of these were over at the end of each reply.
+/// What a run printed, how it ended, the calls on its disks, and how many of these were over at the
+/// end of each reply.
 #[derive(Drop)]
 pub struct Played {
     pub status: u8,
@@ -61,7 +62,8 @@ fn kept(alloc: Global, bay: RuledBay<'_>, seen: Seen, start: u64) -> Option<Play
     })
 }
 
-// What a run works on beside the disks: a clock that shows noon, and no call of a host or a sink that fails.
+// What a run works on beside the disks: a clock that shows noon, and no call of a host or a sink
+// that fails.
 fn outside_at_noon(alloc: Global) -> Option<Outside> {
     Some(Outside {
         host: MemHost::new(alloc, &[]).ok()?,

@@ -13,7 +13,8 @@ fn is_event(line: &[u8]) -> bool {
     line.starts_with(b"rebal ") || line.starts_with(b"sync ") || line.starts_with(b"expired ")
 }
 
-/// A reply, and the event lines that stand before its end, those of slices after the reply before included.
+/// A reply, and the event lines that stand before its end, those of slices after the reply before
+/// included.
 #[derive(Drop)]
 pub struct Reply<'a> {
     pub report: Vec<&'a [u8]>,

@@ -62,7 +62,8 @@ pub fn between<'a>(
     Ok(worlds)
 }
 
-/// A run's calls as far as they are done, the disks as these left them, and what takes the writes back that no sync has settled.
+/// A run's calls as far as they are done, the disks as these left them, and what takes the writes
+/// back that no sync has settled.
 #[derive(Drop)]
 pub struct Moment {
     alloc: Global,
@@ -112,7 +113,8 @@ impl Moment {
         self.disks.follow(call)
     }
 
-    /// The changes by which a stop within this call leaves other bytes than those that stand; None where it leaves no other.
+    /// The changes by which a stop within this call leaves other bytes than those that stand; None
+    /// where it leaves no other.
     pub fn torn(
         &self,
         torn: Torn,
@@ -163,7 +165,8 @@ pub fn set_of(number: usize) -> Present {
     ]
 }
 
-/// What a second run is asked: its script, the worlds that it may find, and whether the group must be found on all disks.
+/// What a second run is asked: its script, the worlds that it may find, and whether the group must
+/// be found on all disks.
 #[derive(Clone, Copy)]
 pub struct Asked<'a> {
     pub alloc: Global,
@@ -255,7 +258,8 @@ fn is_tried(torn: Torn, news: News) -> bool {
 pub struct Stop<'a> {
     pub next: Option<&'a TracedCall>,
     pub news: News,
-    /// The script's calls that are over, or of a second run's mount: those of the script before it, and the set of its disks.
+    /// The script's calls that are over, or of a second run's mount: those of the script before it,
+    /// and the set of its disks.
     pub mounted: Option<(usize, usize)>,
     pub calls: usize,
 }
@@ -395,7 +399,8 @@ fn try_mount_stops(
     Ok(())
 }
 
-/// Stops the mounts of each set of disks that can be mounted, and lets the world stand that a whole mount found.
+/// Stops the mounts of each set of disks that can be mounted, and lets the world stand that a whole
+/// mount found.
 fn try_mounts_of(
     asked: &Asked<'_>,
     disks: &Disks,
@@ -411,7 +416,8 @@ fn try_mounts_of(
     Ok(())
 }
 
-/// Stops the script behind some of its calls, and then the mount that follows within the calls of its own.
+/// Stops the script behind some of its calls, and then the mount that follows within the calls of
+/// its own.
 pub fn try_mounts(
     alloc: Global,
     script: &[u8],

@@ -11,7 +11,8 @@ pub enum Cell {
     Free,
 }
 
-/// The group after some commands, with the sectors free that a write reached which wasn't acknowledged.
+/// The group after some commands, with the sectors free that a write reached which wasn't
+/// acknowledged.
 #[derive(Clone, Copy)]
 pub struct World<'a> {
     pub done: &'a [Effect],

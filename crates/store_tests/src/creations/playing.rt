@@ -17,7 +17,8 @@ fn is_done(alloc: Global, bay: &mut MemBay, paths: &[String; 1], step: Step) -> 
     }
 }
 
-/// Does steps one after the other. Fails by the row's name and the place of the first that isn't right.
+/// Does steps one after the other. Fails by the row's name and the place of the first that isn't
+/// right.
 fn play_on(
     alloc: Global,
     name: &'static str,
@@ -51,7 +52,8 @@ fn play_at_d0(
     }
 }
 
-/// Plays a row: steps on an image of a size in bytes, or one that isn't there. Fails by its name where a step isn't right.
+/// Plays a row: steps on an image of a size in bytes, or one that isn't there. Fails by its name
+/// where a step isn't right.
 pub fn play(
     alloc: Global,
     name: &'static str,

@@ -1,5 +1,6 @@
-// What no clause says: that a creation succeeds where memory is had, how many calls it takes, and which refusal comes; that a group
-// that was made is found and mounted again, that it goes, and that an image is made anew.
+// What no clause says: that a creation succeeds where memory is had, how many calls it takes, and
+// which refusal comes; that a group that was made is found and mounted again, that it goes, and
+// that an image is made anew.
 use crate::creations::playing::play;
 use crate::creations::steps::{Answer, Finding, LEAST, Mounting, Step, Then};
 use crate::helpers::Wrong;
@@ -21,7 +22,8 @@ fn new_group_takes_few_calls(alloc: Global) -> Result<(), Wrong> {
     play(alloc, "new group takes few calls", Some(SIZE), &FEW_CALLS)
 }
 
-/// Those of the header, of two claims and two status records, and of two logs behind 1,024 pages are all that there are.
+/// Those of the header, of two claims and two status records, and of two logs behind 1,024 pages
+/// are all that there are.
 const OPEN_GATES: [Step; 10] = [
     Step::OpenGate(0),
     Step::OpenGate(2),

@@ -1,5 +1,5 @@
-// Steps of a row, and what comes of each. A group, and what is found of one, is dropped by a call in one place, since what goes in
-// place is proved in place.
+// Steps of a row, and what comes of each. A group, and what is found of one, is dropped by a call
+// in one place, since what goes in place is proved in place.
 use asm_base::Name;
 use bay::Bay;
 use bay_mem::MemBay;

@@ -1,4 +1,5 @@
-// What no clause says: that a format and a load succeed where no call fails, what a format leaves, and how many calls it takes.
+// What no clause says: that a format and a load succeed where no call fails, what a format leaves,
+// and how many calls it takes.
 use crate::directories::steps::{Loaded, Step, play};
 use crate::helpers::Wrong;
 use std::alloc::Global;

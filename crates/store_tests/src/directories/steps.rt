@@ -1,11 +1,13 @@
-// Steps over a disk in memory, which one function plays. One small function owns the disk, so it is dropped at one place.
+// Steps over a disk in memory, which one function plays. One small function owns the disk, so it is
+// dropped at one place.
 use crate::helpers::{Wrong, power_page};
 use bay::Bay;
 use bay_mem::MemBay;
 use change_directory::{DirCopy, LoadFault, Pages, format, load};
 use std::alloc::Global;
 
-/// The copy of 128 pages on the disk of slot 0: its pages begin with block 10, and its log slots with blocks 138 and 204.
+/// The copy of 128 pages on the disk of slot 0: its pages begin with block 10, and its log slots
+/// with blocks 138 and 204.
 const COPY: DirCopy = DirCopy {
     number: 0,
     slot: 0,
@@ -24,7 +26,8 @@ pub enum Step {
     Power(u64, u8),
     /// Writes the head of a log slot at a block: a commit number and two pages.
     Head(u64, u8, [u8; 2]),
-    /// Puts a log slot of two pages behind a gate, as a commit leaves it: an image of the record of a power, and zeros.
+    /// Puts a log slot of two pages behind a gate, as a commit leaves it: an image of the record of
+    /// a power, and zeros.
     Log(u64, u8, [u8; 2], u8),
     Format,
     /// Of the calls that follow, the one with this number fails.
@@ -41,7 +44,8 @@ pub enum Step {
 pub enum Loaded {
     /// No commit number, no page, and nothing is due.
     Nothing,
-    /// The commit number, the number and the power of the only page, and the first of the two that are due.
+    /// The commit number, the number and the power of the only page, and the first of the two that
+    /// are due.
     One(u64, u32, u8, u32, u64),
     /// The block that is damaged.
     Damaged(u64),

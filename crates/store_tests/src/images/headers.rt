@@ -1,5 +1,5 @@
-// What no clause says: that each call succeeds where no disk fails, and that what it writes are whole sectors. The cases are rows
-// of steps, which one function plays on images of its own.
+// What no clause says: that each call succeeds where no disk fails, and that what it writes are
+// whole sectors. The cases are rows of steps, which one function plays on images of its own.
 use crate::helpers::{SIZE, Wrong};
 use asm_base::{GroupKind, Name, Shape};
 use bay::Bay;
@@ -206,7 +206,8 @@ fn is_right(alloc: Global, bay: &mut MemBay, step: Step) -> bool {
     }
 }
 
-// Does steps one after the other. Fails by the row's name and the place of the first step that isn't right.
+// Does steps one after the other. Fails by the row's name and the place of the first step that
+// isn't right.
 fn play_on(
     alloc: Global,
     name: &'static str,

@@ -146,7 +146,8 @@ fn two_sets_of_holders(rt: HostRuntime) -> Result<(), Fail> {
     Ok(())
 }
 
-/// A mount is stopped at any call. Then one without disk 2 writes a record, which one without disk 1 finds.
+/// A mount is stopped at any call. Then one without disk 2 writes a record, which one without disk
+/// 1 finds.
 #[test]
 fn record_of_the_second_mount_wins(rt: HostRuntime) -> Result<(), Fail> {
     for stop in 0..110u64 {
@@ -178,7 +179,8 @@ fn one_failing_holder_is_left_out(rt: HostRuntime) -> Result<(), Fail> {
     Ok(())
 }
 
-// Of a mount of three disks with a first record the calls 1 to 3 attach, 4 to 18 read, 19 to 45 claim, and 46 to 74 write.
+// Of a mount of three disks with a first record the calls 1 to 3 attach, 4 to 18 read, 19 to 45
+// claim, and 46 to 74 write.
 
 #[test]
 fn claim_without_a_majority_is_refused(rt: HostRuntime) -> Result<(), Fail> {
@@ -223,7 +225,8 @@ fn claims_come_before_the_first_record(rt: HostRuntime) -> Result<(), Fail> {
     Ok(())
 }
 
-// Of a creation on three disks the calls 1 to 3 attach, 4 to 30 claim, and the first record comes then.
+// Of a creation on three disks the calls 1 to 3 attach, 4 to 30 claim, and the first record comes
+// then.
 
 #[test]
 fn disk_without_the_claim_is_dead(rt: HostRuntime) -> Result<(), Fail> {

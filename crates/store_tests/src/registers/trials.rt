@@ -17,8 +17,8 @@ use bay::{Bay, Fault};
 use status_register::{Dead, Member, Register, Survey, SurveyError, claim_first};
 use status_table::{PstEntry, PstRecord, is_status, same_sets_follow};
 
-/// What became of a mount that writes one record: what the survey or the claim was refused as, the slot of a dead disk, or how
-/// many disks failed.
+/// What became of a mount that writes one record: what the survey or the claim was refused as, the
+/// slot of a dead disk, or how many disks failed.
 #[derive(Clone, Copy, Debug)]
 pub enum Outcome {
     Unread(SurveyError),
@@ -249,7 +249,8 @@ fn write<B: Bay>(register: &mut Register, bay: &mut B, births: u64) -> Option<Ou
     }
 }
 
-/// Surveys the members, claims, and writes the record with another greatest birth. None where this may not be asked.
+/// Surveys the members, claims, and writes the record with another greatest birth. None where this
+/// may not be asked.
 pub fn mount<B: Bay>(bay: &mut B, members: &[Member], births: u64) -> Option<Outcome> {
     if !may_be_members(members) {
         return None;

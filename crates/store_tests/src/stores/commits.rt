@@ -35,7 +35,8 @@ fn has_bytes(store: &Store, bytes: &[u8]) -> bool {
     }
 }
 
-/// The bytes that a creation and a commit write to disk 1, the disks that failed, and whether the record is there.
+/// The bytes that a creation and a commit write to disk 1, the disks that failed, and whether the
+/// record is there.
 type Committed = ([u64; 2], u64, bool);
 
 fn committed_in(alloc: Global, bay: &mut MemBay, store: &mut Store) -> Option<Committed>
@@ -69,7 +70,8 @@ fn committed(alloc: Global) -> Option<Committed> {
     }
 }
 
-/// The calls of a creation, and the disks that fail in a commit whose first call fails, and in the next one.
+/// The calls of a creation, and the disks that fail in a commit whose first call fails, and in the
+/// next one.
 type GivenUp = (u64, [u64; 2]);
 
 fn given_up_in(alloc: Global, bay: &mut MemBay, store: &mut Store) -> Option<GivenUp>
@@ -105,8 +107,8 @@ fn given_up(alloc: Global) -> Option<GivenUp> {
 }
 
 pub fn play_rows(alloc: Global) -> Result<(), Wrong> {
-    // A creation writes 128 pages, and a head behind a gate that is opened; a commit a head, an image and a page, behind a gate that
-    // is opened.
+    // A creation writes 128 pages, and a head behind a gate that is opened; a commit a head, an
+    // image and a page, behind a gate that is opened.
     let wanted = ([528_896, 12_288 + 512], 0, true);
     row(
         "a change is committed on both copies",

@@ -27,7 +27,8 @@ fn only_page(pages: &Pages, number: u64) -> Option<(u32, [u8; 4096])> {
     }
 }
 
-/// The one page of a copy under a commit number. None where it has another number, or more pages or none.
+/// The one page of a copy under a commit number. None where it has another number, or more pages or
+/// none.
 fn one_page(
     alloc: Global,
     bay: &mut MemBay,
@@ -84,7 +85,8 @@ fn commit_once(alloc: Global, bay: &mut MemBay) -> Option<([u64; 2], u64)> {
     }
 }
 
-/// The bytes that are written to each disk, whether both copies have one record after one commit more, and the store of both.
+/// The bytes that are written to each disk, whether both copies have one record after one commit
+/// more, and the store of both.
 fn brought_up_on(alloc: Global, bay: &mut MemBay) -> Option<([u64; 2], [bool; 2])> {
     let (written, failed) = commit_once(alloc, bay)?;
     if failed != 0 {
@@ -161,7 +163,8 @@ fn is_made(store: Option<Store>) -> bool {
     is_made
 }
 
-/// Whether both copies have one record, and the store of both, where the second was one of another store.
+/// Whether both copies have one record, and the store of both, where the second was one of another
+/// store.
 fn brought_over_on(alloc: Global, bay: &mut MemBay) -> Option<[bool; 2]> {
     if !is_made(create_on_two(alloc, bay)) || !is_made(create_and_copy(alloc, bay)) {
         return None;

@@ -108,7 +108,8 @@ fn commit_syncs_each_copy_at_most_five_times(alloc: Global) -> Result<(), Wrong>
     }
 }
 
-/// The bytes that a change writes to disk 0, how many records there are then, and the disks that fail.
+/// The bytes that a change writes to disk 0, how many records there are then, and the disks that
+/// fail.
 fn cost_of(
     alloc: Global,
     bay: &mut MemBay,

@@ -9,13 +9,15 @@ use std::alloc::Global;
 /// What stands on two disks of zeros, or happens to them.
 #[derive(Clone, Copy)]
 enum Given {
-    /// The first log slot of a disk's copy is open, with a commit number and an image of page 3: the record of a power.
+    /// The first log slot of a disk's copy is open, with a commit number and an image of page 3:
+    /// the record of a power.
     Log(u32, u8, u8),
     /// A block of a disk is a page with the record of a power.
     Power(u32, u64, u8),
     /// The bytes of a block of a disk are sevens.
     Sevens(u32, u64),
-    /// The call that comes so many calls later fails. The first two calls of a load attach the disks.
+    /// The call that comes so many calls later fails. The first two calls of a load attach the
+    /// disks.
     Fault(u64),
 }
 

@@ -189,8 +189,8 @@ fn put_disks(bay: &mut MemBay, disks: &Disks) -> Option<()> {
     put_disk(bay, 1, &disks.second)
 }
 
-/// Loads the store of both copies on disks in memory, where a stop leaves what they hold. None where it may not be asked,
-/// or isn't loaded.
+/// Loads the store of both copies on disks in memory, where a stop leaves what they hold. None
+/// where it may not be asked, or isn't loaded.
 fn load_kept(alloc: Global, bay: &mut MemBay) -> Option<Store>
     ensures { IfSome result (λ store. Keeps store (state_of bay.new)) }
 {
@@ -206,7 +206,8 @@ fn load_kept(alloc: Global, bay: &mut MemBay) -> Option<Store>
     }
 }
 
-/// Commits the last batch on disks with these bytes, where each call after so many fails, and gives the calls before the commit.
+/// Commits the last batch on disks with these bytes, where each call after so many fails, and gives
+/// the calls before the commit.
 fn last_commit(alloc: Global, bay: &mut MemBay, disks: &Disks, calls: u64) -> Option<u64> {
     put_disks(bay, disks)?;
     bay.stop_after(calls);
@@ -221,7 +222,8 @@ fn last_commit(alloc: Global, bay: &mut MemBay, disks: &Disks, calls: u64) -> Op
     }
 }
 
-/// Whether a store has the marks after the last commit. None where it hasn't those before it either.
+/// Whether a store has the marks after the last commit. None where it hasn't those before it
+/// either.
 fn is_after_in(store: &Store, disks: &Disks) -> Option<bool> {
     if have_marks(store.content(), &disks.after) {
         Some(true)

@@ -1,5 +1,5 @@
-//! Tests of the store of a group's directories over disks in memory: what a commit writes, commits that are stopped, and what
-//! a load takes and refuses; and of the map of its pages.
+//! Tests of the store of a group's directories over disks in memory: what a commit writes, commits
+//! that are stopped, and what a load takes and refuses; and of the map of its pages.
 
 mod commits;
 mod copies;

@@ -1,4 +1,5 @@
-// Plays the rows of the store and of the map of its pages. What isn't right fails by the name of its row.
+// Plays the rows of the store and of the map of its pages. What isn't right fails by the name of
+// its row.
 use crate::helpers::Wrong;
 use crate::stores::{commits, copies, costs, loads, many, page_maps, stops};
 use std::alloc::Global;

@@ -16,7 +16,8 @@ pub fn stale_key(chunk: u32) -> Key {
     }
 }
 
-/// The record of a chunk of file 1 whose 256 extents have the same mark. None where it isn't one of the formats.
+/// The record of a chunk of file 1 whose 256 extents have the same mark. None where it isn't one of
+/// the formats.
 fn stale_record(alloc: Global, chunk: u32, mark: u8) -> Result<Option<(Key, Value)>, NoMemory>
     ensures { IfOk result (λ made. IfSome made IsPutItem) }
 {
@@ -46,7 +47,8 @@ fn put_stale(alloc: Global, change: &mut Change, chunk: u32, mark: u8) -> Result
     }
 }
 
-/// A change that puts the records of so many of 101 chunks from one on, round the end, with one mark.
+/// A change that puts the records of so many of 101 chunks from one on, round the end, with one
+/// mark.
 pub fn stale_change(alloc: Global, first: u32, count: u32, mark: u8) -> Result<Change, NoMemory>
     ensures items { IfOk result (λ change. ArePutItems change.put) }
     ensures few { IfOk result (λ change. length change.put + length change.gone ≤ count) }

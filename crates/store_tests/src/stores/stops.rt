@@ -7,8 +7,8 @@ use bay_mem::MemBay;
 use change_directory::DirCopy;
 use std::alloc::Global;
 
-/// Makes a store without records on two copies and commits a record, where each call after so many fails. The disks are
-/// then started again. Whether the store is made.
+/// Makes a store without records on two copies and commits a record, where each call after so many
+/// fails. The disks are then started again. Whether the store is made.
 fn commit_stopped(alloc: Global, bay: &mut MemBay, calls: u64) -> bool {
     bay.stop_after(calls);
     match create_on_two(alloc, bay) {
@@ -22,7 +22,8 @@ fn commit_stopped(alloc: Global, bay: &mut MemBay, calls: u64) -> bool {
     }
 }
 
-/// Whether a copy has the record, which it has from the second commit on. None where it has anything else.
+/// Whether a copy has the record, which it has from the second commit on. None where it has
+/// anything else.
 fn has_page(alloc: Global, bay: &mut MemBay, copy: DirCopy) -> Option<bool> {
     match pages_of(alloc, bay, copy) {
         Some(pages) => {

@@ -1,5 +1,5 @@
-// Two copies on disks in memory, and what is asked of them. Disks, stores and changes are dropped by a call in one place, since what
-// goes in place is proved in place.
+// Two copies on disks in memory, and what is asked of them. Disks, stores and changes are dropped
+// by a call in one place, since what goes in place is proved in place.
 ghost use Rattle.std.specs.Prelude.{◌≡◌, ◌≤◌, ◌<◌, ◌+◌, ◌==◌, ◌&&◌, [], nat_le, true, length, IfOk, IfSome};
 ghost use Rattle.change_directory.specs.Places.{IsCopy};
 ghost use Rattle.change_directory.specs.declared.copy.DirCopy.{DirCopy as Copy};
@@ -108,8 +108,8 @@ pub fn create_on_two<B: Bay>(alloc: Global, bay: &mut B) -> Option<Store>
     store
 }
 
-/// A store of one record on the first copy, which is then brought to the second, whatever that held. None where it may not
-/// be asked, or fails.
+/// A store of one record on the first copy, which is then brought to the second, whatever that
+/// held. None where it may not be asked, or fails.
 pub fn create_and_copy<B: Bay>(alloc: Global, bay: &mut B) -> Option<Store>
     ensures { IfSome result (λ store. Keeps store (B.state bay.new)) }
 {

@@ -8,7 +8,8 @@ use template_directory::Settings;
 /// An attribute's name and its value.
 type Given = (&'static [u8], &'static [u8]);
 
-/// A creation of external redundancy with these attributes, one after the other. The inner None where one is refused.
+/// A creation of external redundancy with these attributes, one after the other. The inner None
+/// where one is refused.
 fn created(alloc: Global, all: &[Given]) -> Option<Option<Creation>> {
     let mut creation = Creation::usual(alloc, GroupKind::External);
     for given in all {
@@ -22,8 +23,8 @@ fn created(alloc: Global, all: &[Given]) -> Option<Option<Creation>> {
     Some(Some(creation))
 }
 
-/// Bytes of a unit and of a sector, extents of each size, record blocks, whether a unit has eight sectors, and the repair time
-/// in seconds.
+/// Bytes of a unit and of a sector, extents of each size, record blocks, whether a unit has eight
+/// sectors, and the repair time in seconds.
 type Told = (u32, u32, u32, u32, bool, u64);
 
 fn told(creation: &Creation) -> Told {
@@ -114,7 +115,8 @@ const IN_TURN: [Row; 4] = [
     ),
 ];
 
-/// The last value of an attribute holds, and whether a unit has eight sectors goes by the last values alone.
+/// The last value of an attribute holds, and whether a unit has eight sectors goes by the last
+/// values alone.
 #[test]
 fn last_value_holds(rt: HostRuntime) {
     assert_eq!(rt; other_row(rt.alloc(), &IN_TURN), None);
@@ -144,7 +146,8 @@ fn refused_values(rt: HostRuntime) {
     }
 }
 
-/// The usual settings with an attribute that may be set at any time. The inner None where it is refused.
+/// The usual settings with an attribute that may be set at any time. The inner None where it is
+/// refused.
 fn set(alloc: Global, given: Given) -> Option<Option<Settings>> {
     let (name, value) = given;
     let usual = Settings::usual(alloc);
@@ -155,7 +158,8 @@ fn set(alloc: Global, given: Given) -> Option<Option<Settings>> {
     }
 }
 
-/// The repair time in seconds, and the lengths of the texts of compatible.asm, compatible.rdbms and compatible.advm.
+/// The repair time in seconds, and the lengths of the texts of compatible.asm, compatible.rdbms and
+/// compatible.advm.
 type Set = (u64, [usize; 3]);
 
 fn told_set(settings: &Settings) -> Set {

@@ -45,7 +45,8 @@ fn told(alloc: Global, block: &Block, group: &[u8]) -> Option<Option<(bool, u64,
     }
 }
 
-/// Whether the first fields stand at their places: the tag, the version, the group's name, and its identity.
+/// Whether the first fields stand at their places: the tag, the version, the group's name, and its
+/// identity.
 fn has_places(block: &Block) -> bool {
     has_at(block, 0, &[65, 83, 77, 72, 2, 4, 68, 65, 84, 65])
         && has_at(block, 36, &[1, 2, 3, 4, 5, 6, 7, 8])

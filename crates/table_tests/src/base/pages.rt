@@ -7,8 +7,8 @@ use std::test::*;
 /// Bytes of a value, and where they begin.
 type Field = (usize, &'static [u8]);
 
-/// A record: the kind and the two numbers of its key, the length of its value, the five bytes that the value repeats, and the
-/// fields that it has besides.
+/// A record: the kind and the two numbers of its key, the length of its value, the five bytes that
+/// the value repeats, and the fields that it has besides.
 type Record = (u16, u32, u32, usize, [u8; 5], &'static [Field]);
 
 const ZEROS: [u8; 5] = [0; 5];

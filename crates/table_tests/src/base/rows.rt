@@ -55,8 +55,8 @@ const UNSET: Homes = Homes {
     third: None,
 };
 
-/// Homes for two copies of extents 7, 8 and 9 in a group with 8 extents of each size: the first is one unit, the others are
-/// four.
+/// Homes for two copies of extents 7, 8 and 9 in a group with 8 extents of each size: the first is
+/// one unit, the others are four.
 fn row_on(units: &mut [Units]) -> (usize, [Homes; 3]) {
     let disks = four();
     let mut row = [UNSET; 3];
@@ -96,8 +96,9 @@ fn told(alloc: Global, units: [u8; 4]) -> Option<Told> {
     Some((count, row, used(&units)?))
 }
 
-/// The disks have 8, 4, 6 and 9 user units. Extent 7 goes to disks 0 and 1, and then extent 8 to the others, which are empty.
-/// By their fills the disks come as 0, 1, 3 and 2 after that; disk 1 has three units left, so extent 9 goes to disks 0 and 3.
+/// The disks have 8, 4, 6 and 9 user units. Extent 7 goes to disks 0 and 1, and then extent 8 to
+/// the others, which are empty. By their fills the disks come as 0, 1, 3 and 2 after that; disk 1
+/// has three units left, so extent 9 goes to disks 0 and 3.
 #[test]
 fn homes_in_turn(rt: HostRuntime) -> Result<(), Fail> {
     let told = told(rt.alloc(), [17, 13, 15, 18]).ok_or("memory")?;
@@ -110,8 +111,8 @@ fn homes_in_turn(rt: HostRuntime) -> Result<(), Fail> {
     Ok(())
 }
 
-/// Disk 3 has 5 user units, of which the second extent leaves one. So disk 0 alone has room for the last extent, and no
-/// partner of it: the row ends before that, and its place stays.
+/// Disk 3 has 5 user units, of which the second extent leaves one. So disk 0 alone has room for the
+/// last extent, and no partner of it: the row ends before that, and its place stays.
 #[test]
 fn no_space_for_the_last(rt: HostRuntime) -> Result<(), Fail> {
     let told = told(rt.alloc(), [17, 13, 15, 14]).ok_or("memory")?;

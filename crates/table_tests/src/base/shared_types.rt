@@ -13,7 +13,8 @@ fn name(alloc: Global, bytes: &[u8]) -> Option<Option<Name>> {
     Name::read(alloc, bytes, 80).ok()
 }
 
-/// Whether a part of a path, if the bytes are one, may be the name of a group, a disk or a template.
+/// Whether a part of a path, if the bytes are one, may be the name of a group, a disk or a
+/// template.
 fn may_be_name(alloc: Global, bytes: &[u8]) -> Option<Option<bool>> {
     match name(alloc, bytes)? {
         Some(name) => Some(Some(name.is_name())),
@@ -128,7 +129,8 @@ fn record(alloc: Global) -> Option<Block> {
     Some(block)
 }
 
-/// Whether the block is that of the record of a key and these bytes. The inner None where it is no record's.
+/// Whether the block is that of the record of a key and these bytes. The inner None where it is no
+/// record's.
 fn is_of(alloc: Global, block: &Block, bytes: &[u8]) -> Option<Option<bool>> {
     match decode_record(alloc, block).ok()? {
         Some((key, value)) => Some(Some(key == NODE && value.as_bytes() == bytes)),
@@ -157,7 +159,8 @@ fn record_block(rt: HostRuntime) -> Result<(), Fail> {
     Ok(())
 }
 
-/// How many parts a path has, and whether its group is DATA and the last part this. The inner None where the bytes aren't a path.
+/// How many parts a path has, and whether its group is DATA and the last part this. The inner None
+/// where the bytes aren't a path.
 fn parts(alloc: Global, bytes: &[u8], last: &[u8]) -> Option<Option<(usize, bool)>> {
     let Some(path) = Path::read(alloc, bytes).ok()? else {
         return Some(None);

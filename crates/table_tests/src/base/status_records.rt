@@ -54,7 +54,8 @@ fn block() -> Option<Block> {
     block_of(&one_disk())
 }
 
-/// Whether the tag, the version and the id, the count, the first entry's birth, and zeros behind it stand at their places.
+/// Whether the tag, the version and the id, the count, the first entry's birth, and zeros behind it
+/// stand at their places.
 fn has_places(block: &Block) -> bool {
     has_at(block, 0, &[65, 83, 77, 80, 0, 2, 0, 0, 0, 0, 0, 0, 0, 7])
         // Behind tag and version there are four numbers, a flag and three sets.
@@ -63,7 +64,8 @@ fn has_places(block: &Block) -> bool {
         && has_at(block, 104, &[0])
 }
 
-/// How many disks a record in a block has, the majority of its holders, and that of its next holders.
+/// How many disks a record in a block has, the majority of its holders, and that of its next
+/// holders.
 fn majorities(block: &Block) -> Option<(u8, u8, u8)> {
     let read = decode(block)?;
     Some((read.count, majority(&read), next_majority(&read)))
@@ -150,8 +152,8 @@ fn places(status: &PstRecord) -> Places {
     ]
 }
 
-/// The disks once two have joined, whether the record is one of the format, and whether that with a second entry of one
-/// number is.
+/// The disks once two have joined, whether the record is one of the format, and whether that with a
+/// second entry of one number is.
 fn joined_told() -> Option<(Places, bool, bool)> {
     let status = three_disks()?;
     let twice = joined(&status, 1)?;
@@ -167,7 +169,8 @@ fn disks_join(rt: HostRuntime) -> Result<(), Fail> {
     Ok(())
 }
 
-/// The disks without disk 3, the failure group that is free then, and whether the record is one of the format.
+/// The disks without disk 3, the failure group that is free then, and whether the record is one of
+/// the format.
 fn left_told() -> Option<(Places, u8, bool)> {
     let status = without_entry(&three_disks()?, 3);
     let free = least_free_failgroup(&status);
@@ -182,7 +185,8 @@ fn a_disk_leaves(rt: HostRuntime) -> Result<(), Fail> {
     Ok(())
 }
 
-/// The disks without one that has no entry, and whether the record without a holder of status records is one of the format.
+/// The disks without one that has no entry, and whether the record without a holder of status
+/// records is one of the format.
 fn kept_told() -> Option<(Places, bool)> {
     let status = three_disks()?;
     let others = without_entry(&status, 9);
@@ -198,7 +202,8 @@ fn strangers_and_holders(rt: HostRuntime) -> Result<(), Fail> {
     Ok(())
 }
 
-/// A disk's mode, its units, the second since which it is offline, and after how many it is dropped.
+/// A disk's mode, its units, the second since which it is offline, and after how many it is
+/// dropped.
 type State = (Mode, u32, u64, u64);
 
 fn state(status: &PstRecord, at: usize) -> Option<State> {

@@ -8,7 +8,8 @@ use status_table::{PstRecord, is_status};
 use std::alloc::Global;
 use std::test::Fail;
 
-/// The status record by which the second of two disks has so many units, and is in a quorum failure group or not.
+/// The status record by which the second of two disks has so many units, and is in a quorum failure
+/// group or not.
 pub fn with_second(units: u32, quorum: bool) -> PstRecord {
     let mut status = disks(2);
     let second = &mut status.entries[1];
@@ -27,8 +28,8 @@ pub fn with_units(units: [u32; 2]) -> PstRecord {
     status
 }
 
-/// Gives a catalog the units of its disks by a next status record, where they cover its homes. Whether they do; none where the
-/// record isn't one, or where there is no memory.
+/// Gives a catalog the units of its disks by a next status record, where they cover its homes.
+/// Whether they do; none where the record isn't one, or where there is no memory.
 #[tactic(auto, unfolding(asm_formats::specs::Status::is_status))]
 pub fn resized(alloc: Global, group: &mut Catalog, next: &PstRecord) -> Option<bool> {
     if !is_status(next) {
@@ -46,7 +47,8 @@ pub fn resized(alloc: Global, group: &mut Catalog, next: &PstRecord) -> Option<b
     }
 }
 
-/// What is told of the user units of the two disks, on each of which three are used: how many there are, and the lowest free one.
+/// What is told of the user units of the two disks, on each of which three are used: how many there
+/// are, and the lowest free one.
 fn told(first: (u32, Option<u32>), second: (u32, Option<u32>)) -> [Step<'static>; 3] {
     [
         Step::Tells(Fact::Units(0, Some((first.0, 3, first.1)))),
@@ -55,7 +57,8 @@ fn told(first: (u32, Option<u32>), second: (u32, Option<u32>)) -> [Step<'static>
     ]
 }
 
-/// Plays a row: the disks get units, and then others, where these cover the homes. What is told is told after each.
+/// Plays a row: the disks get units, and then others, where these cover the homes. What is told is
+/// told after each.
 fn play_two(
     alloc: Global,
     name: &'static str,
@@ -80,8 +83,8 @@ fn play_two(
     )
 }
 
-/// The units are those of the next entries, and those of the homes are used. Two units of a disk are reserved, and the homes take
-/// the next three.
+/// The units are those of the next entries, and those of the homes are used. Two units of a disk
+/// are reserved, and the homes take the next three.
 pub fn units_of_a_status_record(alloc: Global) -> Result<(), Fail> {
     let usual = told((62, Some(5)), (62, Some(5)));
     play_two(

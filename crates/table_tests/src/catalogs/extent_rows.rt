@@ -6,7 +6,8 @@ use sample_group::Edit;
 use std::alloc::Global;
 use std::test::Fail;
 
-/// Marks of an extent are set, and then both are cleared, but one of them is set. Those of the others stay.
+/// Marks of an extent are set, and then both are cleared, but one of them is set. Those of the
+/// others stay.
 const MARKS: [Step<'static>; 8] = [
     Step::Make(Plan::Marks(256, 2, 3, 0), Answer::Done),
     Step::Tells(Fact::Marks(256, 2, 3)),
@@ -18,7 +19,8 @@ const MARKS: [Step<'static>; 8] = [
     Step::Tells(Fact::Marks(256, 1, 0)),
 ];
 
-/// A copy moves to another unit of its disk and back: its old units are free then, the new ones used, and its mark is gone.
+/// A copy moves to another unit of its disk and back: its old units are free then, the new ones
+/// used, and its mark is gone.
 const MOVES: [Step<'static>; 12] = [
     Step::Move(256, 1, 1, 0, 5),
     Step::Tells(Fact::Homes(256, 1, Some(((1, 3), (0, 5))))),
@@ -49,7 +51,8 @@ const MORE_EXTENTS: [Step<'static>; 8] = [
 /// File 257 is being made.
 const BEGUN: [Edit<'static>; 1] = [Edit::Begun(257)];
 
-/// The file that is made gets a first chunk, which takes two blocks. The chunk goes, and its blocks and units are free.
+/// The file that is made gets a first chunk, which takes two blocks. The chunk goes, and its blocks
+/// and units are free.
 const NEW_CHUNK: [Step<'static>; 14] = [
     Step::Make(Plan::Append(257, 0), Answer::Done),
     Step::Tells(Fact::Homes(257, 0, Some(((0, 5), (1, 5))))),
@@ -75,7 +78,8 @@ const ONE_BLOCK: [Step<'static>; 4] = [
     Step::Tells(Fact::FreeBlocks(1)),
 ];
 
-/// An extent goes, and its marks and units with it. The ones before it stay, and one that comes in its place has no mark.
+/// An extent goes, and its marks and units with it. The ones before it stay, and one that comes in
+/// its place has no mark.
 const LAST_EXTENT: [Step<'static>; 29] = [
     // three extents, of which the last two have marks
     Step::Make(Plan::Append(257, 0), Answer::Done),
@@ -109,9 +113,11 @@ const LAST_EXTENT: [Step<'static>; 29] = [
     Step::Tells(Fact::FreeBlocks(114)),
 ];
 
-/// The first stale copy on a disk from an extent on: that extent's, or one of its chunk or of a later one.
+/// The first stale copy on a disk from an extent on: that extent's, or one of its chunk or of a
+/// later one.
 const FIRST_MARKED: [Step<'static>; 13] = [
-    // extent 1 of file 256 has its stale copy on disk 0, that of file 257 on disk 1; extent 2 of file 257 has two
+    // extent 1 of file 256 has its stale copy on disk 0, that of file 257 on disk 1; extent 2 of
+    // file 257 has two
     Step::Make(Plan::Append(257, 0), Answer::Done),
     Step::Make(Plan::Append(257, 0), Answer::Done),
     Step::Make(Plan::Append(257, 0), Answer::Done),

@@ -137,7 +137,8 @@ fn may_append(group: &Catalog, file: u32, first: Home, second: Home) -> bool
     true
 }
 
-/// The change by which the first chunk of a file has an extent more, with copies in these free units and these marks.
+/// The change by which the first chunk of a file has an extent more, with copies in these free
+/// units and these marks.
 #[tactic(auto, using(crate::proofs::Planned::planned))]
 fn append_at(
     alloc: Global,
@@ -178,8 +179,8 @@ pub fn append(alloc: Global, group: &Catalog, file: u32, marks: u8) -> Result<Ch
     append_at(alloc, group, file, first, second, marks)
 }
 
-/// Whether the extents of a file's first chunk may go from a place on: the chunk is there, and the file has no head and no
-/// further chunk.
+/// Whether the extents of a file's first chunk may go from a place on: the chunk is there, and the
+/// file has no head and no further chunk.
 #[tactic(auto, using(crate::proofs::ExtentConditions::may_cut))]
 fn may_cut(group: &Catalog, file: u32, kept: u32) -> bool
     ensures { OnTrue result (MayCut group.now.shape group.now.tables file 0 kept) }

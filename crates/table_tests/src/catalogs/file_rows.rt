@@ -6,8 +6,8 @@ use asm_base::{PendingKind, Stripe};
 use std::alloc::Global;
 use std::test::Fail;
 
-/// A file that shrinks is to keep the extents that it has then. One that keeps its size keeps what is pending, and one that
-/// grows ends it.
+/// A file that shrinks is to keep the extents that it has then. One that keeps its size keeps what
+/// is pending, and one that grows ends it.
 const SIZES: [Step<'static>; 15] = [
     Step::Make(Plan::Size(3_145_728), Answer::Done),
     Step::Tells(Fact::Head(256, Some((2, 3_145_728, 1, 2, 3)))),
@@ -26,8 +26,8 @@ const SIZES: [Step<'static>; 15] = [
     Step::Tells(Fact::Pending(Some((PendingKind::Shrink, 256, 0)))),
 ];
 
-/// A file that is removed is gone with both names, and its removal is pending. Its directory stays, and so do its extents,
-/// till the removal is done.
+/// A file that is removed is gone with both names, and its removal is pending. Its directory stays,
+/// and so do its extents, till the removal is done.
 const REMOVALS: [Step<'static>; 7] = [
     Step::Make(Plan::Remove, Answer::Done),
     Step::Tells(Fact::Head(256, None)),
@@ -68,7 +68,8 @@ const DISKS: [Step<'static>; 10] = [
     Step::Tells(Fact::FreeBlocks(116)),
 ];
 
-/// The last free block is given to a record, and the next record is refused. One that is there may still be another.
+/// The last free block is given to a record, and the next record is refused. One that is there may
+/// still be another.
 const LAST_BLOCK: [Step<'static>; 7] = [
     Step::Make(Plan::Disk(2, 3), Answer::Done),
     Step::Make(Plan::Disk(3, 4), Answer::Full(1, 0)),
@@ -106,7 +107,8 @@ const ONE_BLOCK: [Step<'static>; 5] = [
     Step::Tells(Fact::FreeBlocks(1)),
 ];
 
-/// A template is added by name, between those of flashback logs and of online logs, and the same name is then refused.
+/// A template is added by name, between those of flashback logs and of online logs, and the same
+/// name is then refused.
 const TEMPLATES: [Step<'static>; 5] = [
     Step::Make(Plan::Template(b"mine"), Answer::Done),
     Step::Make(Plan::Template(b"MINE"), Answer::NameTaken),
@@ -115,7 +117,8 @@ const TEMPLATES: [Step<'static>; 5] = [
     Step::Tells(Fact::Template(10, Some((2, Stripe::Coarse)))),
 ];
 
-/// An attribute gets a value, in any case of its name; an attribute of a creation, or another value, is refused.
+/// An attribute gets a value, in any case of its name; an attribute of a creation, or another
+/// value, is refused.
 const ATTRIBUTES: [Step<'static>; 6] = [
     Step::Make(Plan::Attribute(b"Disk_Repair_Time", b"5m"), Answer::Done),
     Step::Make(

@@ -88,8 +88,8 @@ fn judged_in(
     judged(name, wrong)
 }
 
-/// Plays a row: steps in the group of the usual records after edits, with so many directories more in the root. Fails by its
-/// name where a step isn't right.
+/// Plays a row: steps in the group of the usual records after edits, with so many directories more
+/// in the root. Fails by its name where a step isn't right.
 pub fn play(
     alloc: Global,
     name: &'static str,

@@ -1,5 +1,5 @@
-//! Tests of a group's catalog: what it tells of records and once plans were made, and by which key records at fault are
-//! named. Each case is a row of steps, which one function plays.
+//! Tests of a group's catalog: what it tells of records and once plans were made, and by which key
+//! records at fault are named. Each case is a row of steps, which one function plays.
 
 mod disk_units;
 mod disks;

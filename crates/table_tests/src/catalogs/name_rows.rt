@@ -29,7 +29,8 @@ const DIRECTORIES: [Step<'static>; 9] = [
     Step::Tells(Fact::Find(b"+DATA/e", None)),
 ];
 
-/// The head of a file follows its alias, which goes, comes and is renamed. A second alias is refused.
+/// The head of a file follows its alias, which goes, comes and is renamed. A second alias is
+/// refused.
 const ALIASES: [Step<'static>; 10] = [
     Step::Make(Plan::Tree(Verb::MakeDir, b"+DATA/a", ROOT), Answer::Done),
     Step::Make(Plan::Tree(Verb::DropAlias, b"+DATA/x", ROOT), Answer::Done),
@@ -52,8 +53,8 @@ const ALIASES: [Step<'static>; 10] = [
     Step::Tells(Fact::Find(b"+DATA/Z", Some(5))),
 ];
 
-/// The last free block is given to a directory. The next is refused, behind what else it is refused for, and names may
-/// still change their places.
+/// The last free block is given to a directory. The next is refused, behind what else it is refused
+/// for, and names may still change their places.
 const LAST_BLOCK: [Step<'static>; 4] = [
     Step::Make(Plan::Tree(Verb::MakeDir, b"+DATA/a", ROOT), Answer::Done),
     Step::Make(
@@ -86,8 +87,8 @@ const NEW_HEAD: [Step<'static>; 5] = [
     Step::Tells(Fact::Pending(None)),
 ];
 
-/// Its name is below a directory that is there and one that is made. A node's path is spelt as the nodes are; the root and
-/// a number that no node has have none.
+/// Its name is below a directory that is there and one that is made. A node's path is spelt as the
+/// nodes are; the root and a number that no node has have none.
 const NEW_NODES: [Step<'static>; 10] = [
     Step::Make(Plan::Name(USERS), Answer::Done),
     Step::Tells(Fact::Find(b"+DATA/DB/datafile", Some(4))),
@@ -101,8 +102,8 @@ const NEW_NODES: [Step<'static>; 10] = [
     Step::Tells(Fact::Path(6, &[])),
 ];
 
-/// Paths that no file may have: of two parts, of the type of volumes, and of a type of 31 bytes or a tag of 49. A type of
-/// 30 bytes and a tag of 48 may be.
+/// Paths that no file may have: of two parts, of the type of volumes, and of a type of 31 bytes or
+/// a tag of 49. A type of 30 bytes and a tag of 48 may be.
 const PATHS: [Step<'static>; 6] = [
     Step::Make(Plan::Name(b"+DATA/db/users"), Answer::NoTemplate),
     Step::Make(Plan::Name(b"+DATA/db/asmVOL/users"), Answer::NoTemplate),
@@ -164,7 +165,8 @@ const TWO_BLOCKS: [Step<'static>; 2] = [
     Step::Make(Plan::Name(b"+DATA/X/new/users"), Answer::NotDirectory),
 ];
 
-/// A name makes a node for each directory that is missing, and one of its own; and each cause comes in its order.
+/// A name makes a node for each directory that is missing, and one of its own; and each cause comes
+/// in its order.
 const CHECKED: [Step<'static>; 8] = [
     Step::Tells(Fact::Check(b"+DATA/new/new/users", 0, Ok(3))),
     Step::Tells(Fact::Check(b"+DATA/DB/new/users", 512, Ok(2))),

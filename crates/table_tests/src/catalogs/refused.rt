@@ -97,7 +97,8 @@ const FAULTS: [(Edit<'static>, Key); 32] = [
         Edit::Chunk(256, 0, &[[0, 2, 1, 2], [1, 3, 1, 4], [0, 4, 1, 5]]),
         (1, 256, 1),
     ),
-    // homes whose units aren't free: they meet, are reserved, lie behind the disk's end, or on no disk
+    // homes whose units aren't free: they meet, are reserved, lie behind the disk's end, or on no
+    // disk
     (
         Edit::Chunk(256, 0, &[[0, 2, 1, 2], [1, 3, 0, 3], [0, 2, 1, 4]]),
         (1, 256, 1),

@@ -10,7 +10,8 @@ pub enum Step<'a> {
     Make(Plan<'a>, Answer),
     /// A copy of an extent moves to a disk and a unit: file, index, copy, disk, unit.
     Move(u32, u32, u8, u8, u32),
-    /// The two disks get so many units by a next status record, where these cover the homes. Whether they do.
+    /// The two disks get so many units by a next status record, where these cover the homes.
+    /// Whether they do.
     Resize([u32; 2], bool),
     /// The catalog tells this.
     Tells(Fact<'a>),
@@ -23,7 +24,8 @@ pub enum Plan<'a> {
     Attribute(&'a [u8], &'a [u8]),
     /// Marks of an extent, by file and index: those that are set, and those that are cleared.
     Marks(u32, u32, u8, u8),
-    /// The first chunk of a file gets an extent in the lowest free units of disks 0 and 1, with these stale marks.
+    /// The first chunk of a file gets an extent in the lowest free units of disks 0 and 1, with
+    /// these stale marks.
     Append(u32, u8),
     /// The extents of a file's first chunk go from a place on.
     Cut(u32, u32),
@@ -67,7 +69,8 @@ pub enum Verb {
 pub enum Answer {
     /// It was made.
     Done,
-    /// It may not be asked for, or there is no memory, or it is refused by a cause that no row asks for.
+    /// It may not be asked for, or there is no memory, or it is refused by a cause that no row asks
+    /// for.
     Another,
     /// The attribute is named.
     BadAttribute,
@@ -81,7 +84,8 @@ pub enum Answer {
     Full(u64, u64),
 }
 
-/// Why a plan is refused. The refusal is dropped by a call here alone, since what goes in place is proved in place.
+/// Why a plan is refused. The refusal is dropped by a call here alone, since what goes in place is
+/// proved in place.
 pub fn answer_of(refusal: Refusal) -> Answer {
     let answer = answer_in(&refusal);
     drop(refusal);

@@ -19,7 +19,8 @@ const FILES: [Step<'static>; 8] = [
     Step::Tells(Fact::NextFile(257)),
 ];
 
-/// Where the extents lie, and which copies are stale. Three extents of one unit have a copy on both disks each.
+/// Where the extents lie, and which copies are stale. Three extents of one unit have a copy on both
+/// disks each.
 const EXTENTS: [Step<'static>; 7] = [
     Step::Tells(Fact::Homes(256, 1, Some(((1, 3), (0, 3))))),
     Step::Tells(Fact::Marks(256, 1, 2)),
@@ -30,8 +31,8 @@ const EXTENTS: [Step<'static>; 7] = [
     Step::Tells(Fact::Units(63, Some((0, 0, None)))),
 ];
 
-/// Disks, templates, settings and blocks: a head, a chunk, its marks, three nodes, two disks, templates and settings take
-/// ten blocks, and two are kept.
+/// Disks, templates, settings and blocks: a head, a chunk, its marks, three nodes, two disks,
+/// templates and settings take ten blocks, and two are kept.
 const DISKS: [Step<'static>; 7] = [
     Step::Tells(Fact::Birth(1, Some(2))),
     Step::Tells(Fact::Templates(13)),
@@ -42,7 +43,8 @@ const DISKS: [Step<'static>; 7] = [
     Step::Tells(Fact::Power(None)),
 ];
 
-/// A file that is being made has extents and no head, and a disk that is gone a record and no entry.
+/// A file that is being made has extents and no head, and a disk that is gone a record and no
+/// entry.
 const HALF_MADE: [Edit<'static>; 4] = [
     Edit::Begun(257),
     Edit::Chunk(257, 0, &[[1, 63, 0, 63]]),

@@ -45,8 +45,8 @@ fn next_of(step: Step) -> Next {
     }
 }
 
-/// The status record of disks in these modes, at most five, each of so many units and a partner of all others that stay.
-/// Tables and directory copies are on the first three.
+/// The status record of disks in these modes, at most five, each of so many units and a partner of
+/// all others that stay. Tables and directory copies are on the first three.
 fn status(modes: &[Mode], units: u32) -> PstRecord {
     let mut entries = [PstEntry::blank(); 64];
     let count = modes.len().min(5);
@@ -231,9 +231,10 @@ fn judged_of(
     }
 }
 
-/// Plays a row: the usual records of a small group after edits, its disks' modes, at most five, how many units each has, and
-/// what the rebalance does there, in turn. A shift is made before the next is asked for, of the search of all extents and of
-/// that which goes on from the move before. Fails by its name where one of them gives another thing.
+/// Plays a row: the usual records of a small group after edits, its disks' modes, at most five, how
+/// many units each has, and what the rebalance does there, in turn. A shift is made before the next
+/// is asked for, of the search of all extents and of that which goes on from the move before. Fails
+/// by its name where one of them gives another thing.
 pub fn play(
     alloc: Global,
     name: &'static str,

@@ -1,5 +1,5 @@
-//! Rows of a rebalance: what it does first, and whole ones, move by move. In each row file 256 has extents of one unit in two
-//! copies, none of which is stale, and each of five disks has a record.
+//! Rows of a rebalance: what it does first, and whole ones, move by move. In each row file 256 has
+//! extents of one unit in two copies, none of which is stale, and each of five disks has a record.
 
 use crate::rebalances::group::{Step, play};
 use asm_base::Mode;
@@ -20,7 +20,8 @@ const ONE_EXTENT: [Edit<'static>; 6] = [
     Edit::Disk(4, 5),
 ];
 
-/// Nothing is left to do where each copy is on an Online disk and none of these is far from its share.
+/// Nothing is left to do where each copy is on an Online disk and none of these is far from its
+/// share.
 const DONE: [Step; 1] = [Step::Done];
 
 /// Where no other disk may take the copy, there is no space for it.

@@ -18,7 +18,8 @@ fn no_extents() -> [u8; 3840] {
     bytes
 }
 
-/// The bytes of a chunk whose first extents are there, but for one. Each has its first copy on disk 1, at the unit of its place.
+/// The bytes of a chunk whose first extents are there, but for one. Each has its first copy on disk
+/// 1, at the unit of its place.
 fn first_extents(count: usize, absent: usize) -> [u8; 3840] {
     let mut bytes = no_extents();
     for place in 0..256 {
@@ -179,7 +180,8 @@ fn one_chunk(alloc: Global) -> Option<ExtentMap>
     map
 }
 
-/// The homes of an extent that is put in a new chunk, whether it is then taken away, and the extents of files 256 and 257.
+/// The homes of an extent that is put in a new chunk, whether it is then taken away, and the
+/// extents of files 256 and 257.
 fn grow(map: &mut ExtentMap) -> Option<(Option<Homes>, bool, [u64; 2])>
     requires { IsExtentTable map.old }
 {
@@ -231,8 +233,8 @@ fn is_copied(alloc: Global, map: &ExtentMap) -> bool
     }
 }
 
-/// Whether zeros are put as a chunk, whether a chunk is, whether an equal map has it, and whether it is there once it has been
-/// taken away twice.
+/// Whether zeros are put as a chunk, whether a chunk is, whether an equal map has it, and whether
+/// it is there once it has been taken away twice.
 fn put_chunks_of(alloc: Global, map: &mut ExtentMap) -> Option<[bool; 4]>
     requires { AreChunks map.old }
 {

@@ -1,5 +1,6 @@
-// What the tables are given: values and records. None stands for what isn't one, or for want of memory. What owns much is dropped by
-// a call in one place, since what goes in place is proved in place.
+// What the tables are given: values and records. None stands for what isn't one, or for want of
+// memory. What owns much is dropped by a call in one place, since what goes in place is proved in
+// place.
 use asm_base::{Change, Key, List, Records, Value};
 use std::alloc::Global;
 

@@ -1,5 +1,5 @@
-//! Tests of the tables of a group's directories. Their cases are rows, and of each table one function plays them, so that a row
-//! more costs no proof.
+//! Tests of the tables of a group's directories. Their cases are rows, and of each table one
+//! function plays them, so that a row more costs no proof.
 
 mod extents;
 mod files;

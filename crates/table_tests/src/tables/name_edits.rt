@@ -103,7 +103,8 @@ pub fn edited(alloc: Global, rows: &[Row]) -> Option<AliasTree> {
     }
 }
 
-/// Of edits of the usual tree how many have their answers, and of paths then how many lead to their nodes.
+/// Of edits of the usual tree how many have their answers, and of paths then how many lead to their
+/// nodes.
 fn counts(alloc: Global, edits: &[Row], found: &[Found]) -> Option<(usize, usize)> {
     match edited(alloc, &USUAL) {
         Some(mut tree) => {
@@ -166,7 +167,8 @@ const DIRECTORIES_REFUSED: [Row; 10] = [
 
 const DIRECTORIES_REFUSED_FOUND: [Found; 1] = [(b"+DATA/a/t.256.1", Some(2))];
 
-/// An alias is made, renamed and dropped, and its file stays. What is refused has the first of its causes.
+/// An alias is made, renamed and dropped, and its file stays. What is refused has the first of its
+/// causes.
 const ALIASES: [Row; 8] = [
     (Verb::AddAlias, b"+DATA/y", b"+DATA/a/T.256.1", HAS_ALIAS),
     (Verb::AddAlias, b"+DATA/X", b"+DATA/a/T.256.1", TAKEN),

@@ -183,8 +183,9 @@ fn has_record(alloc: Global, tree: &AliasTree, bytes: &[u8]) -> bool {
 const BYTES: &[u8] =
     b"\0\0\0\x01\x01\0\0\0\0\x08DATAFILE\0\0\0\0\0\0\0\0\0\0\0\0\0\0\0\0\0\0\0\0\0\0\0\0\0\0\0\0\0\0\0\0\0\0\0\0\0\0\0\0\0\0\0\0\0\0\0\0\0\0\0\0\0\0\0\0\0\0\0\0\0\0\0\0\0\0\0\0\0\0\0\0";
 
-/// What is told of the tree of one file. Names are found in any case, and the root is 0; the names of a directory, of the root and of
-/// one without names; and the records of a tree are those that it was read from.
+/// What is told of the tree of one file. Names are found in any case, and the root is 0; the names
+/// of a directory, of the root and of one without names; and the records of a tree are those that
+/// it was read from.
 fn play_one_file(alloc: Global, tree: &AliasTree) -> Result<(), Wrong> {
     let found = count_found(alloc, tree, &FOUND);
     all_right("names are found in any case", found, FOUND.len())?;
@@ -207,7 +208,8 @@ fn play_file(alloc: Global) -> Result<(), Wrong> {
 }
 
 const BROKEN: [Row; 6] = [
-    // Two names of one directory that differ in case alone; a name in a file; a directory in itself.
+    // Two names of one directory that differ in case alone; a name in a file; a directory in
+    // itself.
     (4, 1, 3, 257, b"datafile"),
     (4, 3, 3, 257, b"x"),
     (4, 4, 1, 0, b"x"),
@@ -285,7 +287,8 @@ fn put_again(alloc: Global, tree: &mut OpenTree, gone: u32) -> Option<bool> {
     }
 }
 
-/// Whether a copy has the directory, and whether the same name is put while it is there and once it is gone.
+/// Whether a copy has the directory, and whether the same name is put while it is there and once it
+/// is gone.
 fn put_by_records(alloc: Global) -> Option<(bool, Option<bool>, Option<bool>)> {
     match open_db(alloc) {
         Some((mut tree, is_copied)) => {

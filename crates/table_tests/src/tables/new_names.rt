@@ -83,7 +83,8 @@ fn are_made(alloc: Global, at: &[u8], wanted: &[Made]) -> bool {
     }
 }
 
-/// The directories that are missing are made, from the top, and then the name, each with the least free number.
+/// The directories that are missing are made, from the top, and then the name, each with the least
+/// free number.
 const MADE: [Made; 3] = [
     (3, 1, NodeKind::Directory, 0, b"b"),
     (4, 3, NodeKind::Directory, 0, b"c"),

@@ -6,8 +6,8 @@ use refusal_lines::{Limited, Refusal};
 use std::alloc::Global;
 use template_directory::{TemplateEdit, TemplateTable};
 
-/// An edit of the template of a name, and the copies that it says. One that is added has coarse stripes, one that is modified
-/// fine ones.
+/// An edit of the template of a name, and the copies that it says. One that is added has coarse
+/// stripes, one that is modified fine ones.
 #[derive(Clone, Copy)]
 enum Edit<'a> {
     Add(&'a [u8], Option<u8>),
@@ -107,7 +107,8 @@ fn count_answered(
     rows.len()
 }
 
-/// A template: its place, its name in this spelling, its copies, and whether it is one of the system's.
+/// A template: its place, its name in this spelling, its copies, and whether it is one of the
+/// system's.
 type Placed = (usize, &'static [u8], u8, bool);
 
 fn is_placed(table: &TemplateTable, row: Placed) -> bool {
@@ -151,7 +152,8 @@ const ADDED: [Row; 1] = [(Edit::Add(b"Bravo", None), Answer::Done)];
 
 const BRAVO: Placed = (3, b"Bravo", 2, false);
 
-/// A template is changed in any case of its name, and keeps its spelling and that it is the system's.
+/// A template is changed in any case of its name, and keeps its spelling and that it is the
+/// system's.
 const MODIFIED: [Row; 1] = [(Edit::Modify(b"datafile", Some(3)), Answer::Done)];
 
 const OF_THREE: Placed = (5, b"DATAFILE", 3, true);

@@ -186,8 +186,8 @@ fn told_put(alloc: Global) -> Option<Told> {
     }
 }
 
-/// A table is read from the records that it makes. Without one of them there is none, and a record of their kinds with another key
-/// makes none.
+/// A table is read from the records that it makes. Without one of them there is none, and a record
+/// of their kinds with another key makes none.
 pub fn play_rows(alloc: Global) -> Result<(), Wrong> {
     let whole = read_but(alloc, 0);
     row(
