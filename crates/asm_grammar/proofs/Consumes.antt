@@ -3,7 +3,7 @@ use Rattle.std.proofs.Common.{◌≡◌, ◌≢◌, ℕ, ◌+◌, ◌*◌, ◌^�
 use Rattle.std.specs.Prelude.{◌==◌}
 use Rattle.asm_grammar.specs.Argument.{argument_of}
 use Rattle.asm_grammar.proofs.Stages.{of_some, of_run}
-use Rattle.asm_grammar.specs.Bytes.{is_blank, is_filled, is_word, is_digit_byte, upper, run_of, after_run}
+use Rattle.asm_grammar.specs.Bytes.{is_blank, is_filled, is_word, is_digit_byte, is_text_byte, upper, run_of, after_run}
 use Rattle.asm_grammar.specs.Word.{Word, Keyword, Mark, Name, Number, Size, Minutes, Quoted, Argument, End, Meaning, minutes_in, begins_word, in_minutes, digits_of, same_bytes, when, with_rest, gap, fit, fit_here, to_quote, with_byte_before, number_of_text, size_of_text, is_name_word}
 use Rattle.asm_grammar.specs.Syntax.{SyntaxRule, One, Then, Either, Maybe, Many, Value, Has, HasAll}
 use Rattle.asm_grammar.specs.Reading.{is_solid, nullable, decides, starts, first, all_words_apart}
@@ -47,9 +47,12 @@ quote_after b text (Some (u, t)) ih v rest e =
 pub quote_takes : (text : List ℕ) (v rest : List ℕ) → to_quote text ≡ Some (v, rest) → length rest < length text
 quote_takes [] v rest e = cc
 quote_takes (b ∷ text) v rest e =
-    elim (chosen (b == 39) _ _ _ e) [
-      | inl p ↦ let q = some_pair p.1 in let k : length text ≡ length rest = ap length q.1 in omega arith
-      | inr p ↦ quote_after b text (to_quote text) (λ u t h. quote_takes text u t h) v rest p.1
+    elim (chosen (is_text_byte b) _ _ _ e) [
+      | inl p ↦ quote_after b text (to_quote text) (λ u t h. quote_takes text u t h) v rest p.1
+      | inr p ↦ (elim (chosen (b == 39) _ _ _ p.1) [
+        | inl f ↦ let q = some_pair f.1 in let k : length text ≡ length rest = ap length q.1 in omega arith
+        | inr f ↦ let q = f.1 in cc
+      ])
     ]
 
 pub key_run : (u k : List ℕ) → not (length k == 0) ≡ true → same_bytes (map upper u) k ≡ true → u ≢ []

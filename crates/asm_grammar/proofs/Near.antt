@@ -4,7 +4,7 @@ use Rattle.std.specs.Prelude.{is_some, ◌==◌, if◌then◌else◌}
 use Rattle.std.proofs.Math.Nat.{mul-suc}
 use Rattle.std.proofs.lemmas.List.{length-map}
 use Rattle.std.proofs.lemmas.Bool.{eqb-true, eq-eqb, leb-true, leb-false, ltb-true, lt-ltb}
-use Rattle.asm_grammar.specs.Bytes.{is_blank, is_filled, is_word, is_digit_byte, is_letter_byte, upper, run_of, after_run, common}
+use Rattle.asm_grammar.specs.Bytes.{is_blank, is_filled, is_word, is_digit_byte, is_letter_byte, is_text_byte, upper, run_of, after_run, common}
 use Rattle.asm_grammar.specs.Argument.{factor, first_stage, is_of, argument_of}
 use Rattle.asm_grammar.proofs.Stages.{of_some, of_none, stage_near, near_short}
 use Rattle.asm_grammar.specs.Word.{Word, Keyword, Mark, Name, Number, Size, Minutes, Quoted, Argument, End, end_of_text, Meaning, same_bytes, when, with_rest, gap, below, digits_after, unit_after, size_after, fit, fit_here, fits, near, near_here, near_mark, near_quoted, near_quote, near_number, near_size, near_minutes, near_unit, near_digits, mark_of, quoted_of, to_quote, with_byte_before, number_of_text, size_of_text, is_name_word, starts_with_letter, in_minutes, digits_of, minutes_in, begins_word}
@@ -13,7 +13,7 @@ use Rattle.asm_grammar.specs.Reading.{apart, is_solid}
 use Rattle.asm_grammar.proofs.Apart.{apart_here, same_gap, rest_of}
 use Rattle.asm_grammar.proofs.Outcomes.{chosen}
 use Rattle.asm_grammar.proofs.Consumes.{run_and_rest, some_pair, taken, when_true, quote_takes, takes_here}
-use Rattle.asm_grammar.proofs.Shared.{at_heads, and_true, past_run, common_short, runs_part, key_near, longer_run}
+use Rattle.asm_grammar.proofs.Shared.{at_heads, and_true, past_run, runs_part, key_near, longer_run}
 
 -- BOTH FIT
 
@@ -33,14 +33,17 @@ quote_share (b ∷ x) [] v u rest r e k = cc
 quote_share (b ∷ x) (c ∷ y) v u rest r e k =
     at_heads b c x y _ (λ same.
     let k' : to_quote (b ∷ y) ≡ Some (u, r) = subst (λ z. to_quote (z ∷ y) ≡ Some (u, r)) (sym same) k in
-    elim (is_true_or_false (b == 39)) [
-      | inl h ↦ (let p = some_pair (rw h at e) in let q = some_pair (rw h at k') in
-          subst (λ z. common x y + 1 ≤ (suc (length x) - length z) + common z r) p.1
-          (subst (λ z. common x y + 1 ≤ (suc (length x) - length x) + common x z) q.1 (omega arith)))
-      | inr h ↦
+    elim (is_true_or_false (is_text_byte b)) [
+      | inl h ↦
           (let p = after_quote b (to_quote x) v rest (rw h at e) in
           let q = after_quote b (to_quote y) u r (rw h at k') in
           omega (arith, quote_share x y p.0 q.0 rest r p.1 q.1, quote_takes x p.0 rest p.1))
+      | inr h ↦ (elim (is_true_or_false (b == 39)) [
+        | inl f ↦ (let p = some_pair (rw (h, f) at e) in let q = some_pair (rw (h, f) at k') in
+            subst (λ z. common x y + 1 ≤ (suc (length x) - length z) + common z r) p.1
+            (subst (λ z. common x y + 1 ≤ (suc (length x) - length x) + common x z) q.1 (omega arith)))
+        | inr f ↦ absurd (let g = rw (h, f) at e in cc)
+      ])
     ])
 
 pub unit_is : (o : Option ℕ) (text : List ℕ) (v : ℕ) (rest : List ℕ) → in_minutes o text ≡ Some (v, rest) → (b : ℕ) × (text ≡ b ∷ rest)
@@ -439,12 +442,31 @@ pub none_behind : (b : ℕ) (o : Option (List ℕ × List ℕ)) → with_byte_be
 none_behind b None e = refl
 none_behind b (Some cut) e = cc
 
-pub open_quote : (text : List ℕ) → to_quote text ≡ None → near_quote text ≡ length text
+pub open_quote : (text : List ℕ) → to_quote text ≡ None → near_quote text ≡ length (run_of is_text_byte text)
 open_quote [] e = refl
-open_quote (b ∷ text) e = elim (chosen (b == 39) _ _ _ e) [
-  | inl p ↦ let q = p.1 in cc
-  | inr p ↦ rw p.0 (let k = open_quote text (none_behind b (to_quote text) p.1) in omega arith)
+open_quote (b ∷ text) e = elim (is_true_or_false (is_text_byte b)) [
+  | inl h ↦ rw h (let k = open_quote text (none_behind b (to_quote text) (rw h at e)) in omega arith)
+  | inr h ↦ (elim (is_true_or_false (b == 39)) [
+    | inl f ↦ absurd (let g = rw (h, f) at e in cc)
+    | inr f ↦ rw (h, f) refl
+  ])
 ]
+
+quote_near : (x t u r : List ℕ) → to_quote x ≡ None → to_quote t ≡ Some (u, r) → common x t ≤ near_quote x
+quote_near [] t u r e f = omega arith
+quote_near (b ∷ x) [] u r e f = omega arith
+quote_near (b ∷ x) (c ∷ t) u r e f =
+    at_heads b c x t _ (λ same.
+    let f' : to_quote (b ∷ t) ≡ Some (u, r) = subst (λ z. to_quote (z ∷ t) ≡ Some (u, r)) (sym same) f in
+    elim (is_true_or_false (is_text_byte b)) [
+      | inl h ↦
+          (let p = after_quote b (to_quote t) u r (rw h at f') in
+          rw h (omega (arith, quote_near x t p.0 r (none_behind b (to_quote x) (rw h at e)) p.1)))
+      | inr h ↦ (elim (is_true_or_false (b == 39)) [
+        | inl k ↦ absurd (let g = rw (h, k) at e in cc)
+        | inr k ↦ absurd (let g = rw (h, k) at f' in cc)
+      ])
+    ])
 
 quoted_near : (text t : List ℕ) (u r : List ℕ) → quoted_of text ≡ None → quoted_of t ≡ Some (u, r) → common text t ≤ near_quoted text
 quoted_near [] t u r e f = omega arith
@@ -455,7 +477,7 @@ quoted_near (b ∷ text) (c ∷ t) u r e f =
       | inl p ↦ at_heads b c text t _ (λ same.
           let g : (b == 39) ≡ true = subst (λ x. (x == 39) ≡ true) (sym same) p.0 in
           let h : to_quote text ≡ None = rw g at e in
-          rw g (omega (arith, open_quote text h, common_short text t)))
+          rw g (omega (arith, quote_near text t u r h p.1)))
     ]
 
 near_law_here : (w : Word) (text t : List ℕ) (u : Meaning w) (r : List ℕ) → fit_here w text ≡ None → fit_here w t ≡ Some (u, r) → common text t ≤ near_here w text
@@ -500,11 +522,14 @@ quote_part (b ∷ x) (c ∷ y) v rest e f =
           let same : b ≡ c = eqb-true b c s in
           let z : common (b ∷ x) (c ∷ y) ≡ common x y + 1 = rw s refl in
           let f' : to_quote (b ∷ y) ≡ None = subst (λ k. to_quote (k ∷ y) ≡ None) (sym same) f in
-          elim (is_true_or_false (b == 39)) [
-            | inl q ↦ absurd (let g = rw q at f' in cc)
-            | inr q ↦
+          elim (is_true_or_false (is_text_byte b)) [
+            | inl q ↦
                 (let p = after_quote b (to_quote x) v rest (rw q at e) in
                 let k = quote_part x y p.0 rest p.1 (none_behind b (to_quote y) (rw q at f')) in omega arith)
+            | inr q ↦ (elim (is_true_or_false (b == 39)) [
+              | inl h ↦ absurd (let g = rw (q, h) at f' in cc)
+              | inr h ↦ absurd (let g = rw (q, h) at e in cc)
+            ])
           ]
     ]
 
@@ -616,9 +641,9 @@ digits_short f each (b ∷ text) = elim (is_true_or_false (is_digit_byte b)) [
 
 quote_short : (text : List ℕ) → near_quote text ≤ length text
 quote_short [] = omega arith
-quote_short (b ∷ text) = elim (is_true_or_false (b == 39)) [
-  | inl h ↦ rw h (omega arith)
-  | inr h ↦ rw h (omega (arith, quote_short text))
+quote_short (b ∷ text) = elim (is_true_or_false (is_text_byte b)) [
+  | inl h ↦ rw h (omega (arith, quote_short text))
+  | inr h ↦ (elim (is_true_or_false (b == 39)) [ inl f ↦ rw (h, f) (omega arith) | inr f ↦ rw (h, f) (omega arith) ])
 ]
 
 common_second : (k text : List ℕ) → common k text ≤ length text

@@ -1,9 +1,9 @@
 -- Each word that doesn't fit has a spelling that goes with the text as far as is near.
-use Rattle.std.proofs.Common.{◌≡◌, ◌≢◌, ℕ, zero, suc, ◌+◌, ◌-◌, ◌*◌, ◌^◌, ◌<◌, ◌≤◌, Bool, true, false, ◌&&◌, ◌||◌, not, nat_lt, nat_le, inl, inr, List, [], ◌∷◌, ◌++◌, length, map, take, refl, sym, ap, subst, ◌∙◌, Option, Some, None, arith, append_assoc, append-nil, add-one, lit<}
+use Rattle.std.proofs.Common.{◌≡◌, ◌≢◌, ℕ, zero, suc, ◌+◌, ◌-◌, ◌*◌, ◌^◌, ◌<◌, ◌≤◌, Bool, true, false, ◌&&◌, ◌||◌, not, nat_lt, nat_le, inl, inr, List, [], ◌∷◌, ◌++◌, length, map, take, refl, sym, ap, subst, ◌∙◌, Option, Some, None, arith, append_assoc, add-one, lit<}
 use Rattle.std.specs.Prelude.{◌==◌, if◌then◌else◌}
 use Rattle.std.specs.List.{list_all}
 use Rattle.std.proofs.lemmas.Bool.{eqb-true, eq-eqb, leb-true, leb-false, le-leb, ltb-true, lt-ltb}
-use Rattle.asm_grammar.specs.Bytes.{is_blank, is_space, is_filled, is_word, is_digit_byte, is_letter_byte, is_lower, upper, run_of, after_run, common}
+use Rattle.asm_grammar.specs.Bytes.{is_blank, is_space, is_filled, is_word, is_digit_byte, is_letter_byte, is_lower, is_text_byte, upper, run_of, after_run, common}
 use Rattle.asm_grammar.specs.Argument.{factor, Kind, Exact, Text, PlainName, PlainNumber, Sized, GroupPath, PathPattern, NotLong, PartPattern, HostPath, HexBytes, HexByte, first_stage, is_of, near_from}
 use Rattle.asm_grammar.specs.Reading.{is_solid}
 use Rattle.asm_grammar.proofs.Stages.{of_run, of_says, is_unspaced, filled, filled_accepted, filled_far, filled_unspaced}
@@ -13,7 +13,7 @@ use Rattle.asm_grammar.proofs.Tests.{or_left, or_right, one_of, both_true, both,
 use Rattle.asm_grammar.proofs.Apart.{same_self}
 use Rattle.asm_grammar.proofs.Readers.{number_near_is}
 use Rattle.asm_grammar.proofs.Shared.{and_true}
-use Rattle.asm_grammar.proofs.Near.{run_digits, none_behind, open_quote, not_when, no_rest, run_letter, digit_is_word, letter_is_word, number_short, size_short}
+use Rattle.asm_grammar.proofs.Near.{run_digits, open_quote, not_when, no_rest, run_letter, digit_is_word, letter_is_word, number_short, size_short}
 use Rattle.asm_grammar.proofs.Written.{not_blank, run_all, rest_all, cut, capital_words, capital_upper, number_is, quote_spelled}
 
 -- What a spelling of the word, with anything behind it that begins no word, has in common with the text.
@@ -255,11 +255,18 @@ number_spelling (b ∷ text) = elim (is_true_or_false (is_digit_byte b)) [
 
 -- QUOTED TEXTS
 
-no_quote : (x : List ℕ) → to_quote x ≡ None → list_all (λ b. not (b == 39)) x ≡ true
-no_quote [] e = refl
-no_quote (b ∷ x) e = elim (is_true_or_false (b == 39)) [
-  | inl h ↦ absurd (let f = rw h at e in cc)
-  | inr h ↦ rw h (no_quote x (none_behind b (to_quote x) (rw h at e)))
+text_run : (x : List ℕ) → list_all is_text_byte (run_of is_text_byte x) ≡ true
+text_run [] = refl
+text_run (b ∷ x) = elim (is_true_or_false (is_text_byte b)) [
+  | inl h ↦ rw h (both_true (is_text_byte b) _ h (text_run x))
+  | inr h ↦ rw h refl
+]
+
+run_common : (x tail : List ℕ) → length (run_of is_text_byte x) ≤ common x (run_of is_text_byte x ++ tail)
+run_common [] tail = omega arith
+run_common (b ∷ x) tail = elim (is_true_or_false (is_text_byte b)) [
+  | inl h ↦ rw (h, eq-eqb b b refl) (omega (arith, run_common x tail))
+  | inr h ↦ rw h (omega arith)
 ]
 
 empty_quotes : (text : List ℕ) → near_quoted text ≡ 0 → WordSpelling Quoted text
@@ -271,16 +278,15 @@ quoted_spelling (b ∷ text) e = elim (is_true_or_false (b == 39)) [
   | inr h ↦ empty_quotes (b ∷ text) (rw h refl)
   | inl h ↦
       let o : to_quote text ≡ None = rw h at e in
-      let q = no_quote text o in
+      let run : List ℕ = run_of is_text_byte text in
       let same : b ≡ 39 = eqb-true b 39 h in (
-        39 ∷ text ++ 39 ∷ [],
+        39 ∷ run ++ 39 ∷ [],
         λ tail k. record {
-          says = text;
-          fit_is = rw (append_assoc text (39 ∷ []) tail) (quote_spelled text tail q);
+          says = run;
+          fit_is = rw (append_assoc run (39 ∷ []) tail) (quote_spelled run tail (text_run text));
           start = refl;
-          far = subst (λ x. near_quoted (x ∷ text) ≤ common (x ∷ text) ((39 ∷ text ++ 39 ∷ []) ++ tail)) (sym same)
-              (rw (append_assoc text (39 ∷ []) tail) (let l = open_quote text o in let c = common_same text [] (39 ∷ tail) in let a : text ++ [] ≡ text = append-nil text in
-              let d : common text (text ++ 39 ∷ tail) ≡ length text + common [] (39 ∷ tail) = subst (λ x. common x (text ++ 39 ∷ tail) ≡ length text + common [] (39 ∷ tail)) a c in omega arith));
+          far = subst (λ x. near_quoted (x ∷ text) ≤ common (x ∷ text) ((39 ∷ run ++ 39 ∷ []) ++ tail)) (sym same)
+              (rw (append_assoc run (39 ∷ []) tail) (let l = open_quote text o in let c = run_common text (39 ∷ tail) in omega arith));
         },
       )
 ]

@@ -1,11 +1,12 @@
 -- What the readers of single words compute.
-use Rattle.std.proofs.Common.{◌≡◌, ◌≢◌, ℕ, zero, suc, ◌+◌, ◌-◌, ◌*◌, ◌^◌, ◌<◌, ◌≤◌, min, Bool, true, false, ◌&&◌, not, nat_lt, inl, inr, List, [], ◌∷◌, length, get_or, drop, refl, sym, ap, subst, ◌∙◌, Option, Some, None, arith}
+use Rattle.std.proofs.Common.{◌≡◌, ◌≢◌, ℕ, suc, ◌+◌, ◌-◌, ◌*◌, ◌^◌, ◌<◌, ◌≤◌, min, true, false, ◌&&◌, nat_lt, inl, inr, List, [], ◌∷◌, length, drop, refl, sym, ap, ◌∙◌, Option, Some, None, arith}
 use Rattle.std.specs.Prelude.{◌==◌, if◌then◌else◌}
 use Rattle.std.proofs.lemmas.Bool.{eqb-true, eq-eqb, ltb-true, ltb-false, lt-ltb, le-ltb}
-use Rattle.asm_grammar.specs.Bytes.{is_word, is_digit_byte, run_of, after_run}
+use Rattle.asm_grammar.specs.Bytes.{is_word, is_digit_byte, is_text_byte, run_of, after_run}
 use Rattle.asm_grammar.specs.Word.{below, digits_after, number_of_text, near_number, near_value, near_digits, to_quote, with_byte_before, near_quote, near_quoted, quoted_of, starts_with_quote}
 use Rattle.asm_grammar.proofs.Tests.{is_true_or_false}
-use Rattle.asm_grammar.proofs.Near.{digit_is_word, digits_grow, open_quote}
+use Rattle.asm_grammar.proofs.Consumes.{run_and_rest}
+use Rattle.asm_grammar.proofs.Near.{digit_is_word, digits_grow}
 
 pub other_eqb : (a b : ℕ) → a ≢ b → (a == b) ≡ false
 other_eqb a b n = elim (is_true_or_false (a == b)) [ inl h ↦ absurd (n (eqb-true a b h)) | inr h ↦ h ]
@@ -21,10 +22,6 @@ too_great limit n bytes l = elim (digits_after n bytes) as (λ o. digits_after n
   | None ↦ λ e. refl
   | Some v ↦ λ e. (let g = digits_grow n bytes v e in let k : nat_lt v limit ≡ false = le-ltb v limit (omega arith) in rw k refl)
 ] refl
-
-abbrev pub quoted_cut : List ℕ → List ℕ → Option (List ℕ × List ℕ)
-quoted_cut front [] = None
-quoted_cut front (b ∷ rest) = Some (front, rest)
 
 number_from : (n : ℕ) (text : List ℕ) → n < 2 ^ 64
     → below (2 ^ 64) (digits_after n (run_of is_word text)) ≡ (if near_number n text == length (run_of is_word text) then Some (near_value n text) else None)
@@ -71,66 +68,61 @@ number_near_is (b ∷ text) = elim (is_true_or_false (is_digit_byte b)) [
   | inr d ↦ rw d refl
 ]
 
+-- QUOTED TEXTS
+
+-- the bytes of a text in quotes, as far as they go
+abbrev pub inside : List ℕ → List ℕ
+inside text = run_of is_text_byte (drop 1 text)
+
+-- what stands behind them
+abbrev pub beyond : List ℕ → List ℕ
+beyond text = after_run is_text_byte (drop 1 text)
+
+abbrev pub quoted_cut : List ℕ → List ℕ → Option (List ℕ × List ℕ)
+quoted_cut front rest = if starts_with_quote rest then Some (front, drop 1 rest) else None
+
 behind_cut : (b : ℕ) (front rest : List ℕ) → with_byte_before b (quoted_cut front rest) ≡ quoted_cut (b ∷ front) rest
-behind_cut b front [] = refl
-behind_cut b front (c ∷ rest) = refl
+behind_cut b front rest = elim (is_true_or_false (starts_with_quote rest)) [ inl h ↦ rw h refl | inr h ↦ rw h refl ]
 
-pub quote_read : (text : List ℕ) → to_quote text ≡ quoted_cut (run_of (λ b. not (b == 39)) text) (after_run (λ b. not (b == 39)) text)
+quote_read : (text : List ℕ) → to_quote text ≡ quoted_cut (run_of is_text_byte text) (after_run is_text_byte text)
 quote_read [] = refl
-quote_read (b ∷ text) = elim (is_true_or_false (b == 39)) [
-  | inl h ↦ rw h refl
-  | inr h ↦ rw h (ap (with_byte_before b) (quote_read text) ∙ behind_cut b (run_of (λ b. not (b == 39)) text) (after_run (λ b. not (b == 39)) text))
-]
-
-pub quote_near_is : (text : List ℕ) → near_quote text ≡ length (run_of (λ b. not (b == 39)) text) + min 1 (length (after_run (λ b. not (b == 39)) text))
-quote_near_is [] = refl
-quote_near_is (b ∷ text) = elim (is_true_or_false (b == 39)) [
-  | inl h ↦ rw h (omega arith)
-  | inr h ↦ rw h (omega (arith, quote_near_is text))
-]
-
--- QUOTED TEXTS BY THEIR FIRST BYTE
-
-abbrev pub unquoted : ℕ → Bool
-unquoted b = not (b == 39)
-
-pub quoted_is : (text : List ℕ) → 0 < length text → get_or text 0 0 ≡ 39
-    → quoted_of text ≡ quoted_cut (run_of unquoted (drop 1 text)) (after_run unquoted (drop 1 text))
-quoted_is [] l e = absurd (omega arith)
-quoted_is (b ∷ text) l e = subst (λ x. quoted_of (x ∷ text) ≡ quoted_cut (run_of unquoted text) (after_run unquoted text)) (sym e) (quote_read text)
-
-pub quoted_not : (text : List ℕ) → get_or text 0 0 ≢ 39 → (quoted_of text ≡ None) × (near_quoted text ≡ 0)
-quoted_not [] n = (refl, refl)
-quoted_not (b ∷ text) n = let k = other_eqb b 39 n in (rw k refl, rw k refl)
-
-pub cut_none : (front rest : List ℕ) → length rest ≡ 0 → quoted_cut front rest ≡ None
-cut_none front [] l = refl
-cut_none front (b ∷ rest) l = absurd (omega arith)
-
-pub cut_some : (front rest : List ℕ) → 0 < length rest → quoted_cut front rest ≡ Some (front, drop 1 rest)
-cut_some front [] l = absurd (omega arith)
-cut_some front (b ∷ rest) l = refl
-
-no_length : (xs : List ℕ) → length xs ≡ 0 → xs ≡ []
-no_length [] e = refl
-no_length (x ∷ xs) e = absurd (omega arith)
-
-pub quoted_open : (text : List ℕ) → 0 < length text → get_or text 0 0 ≡ 39 → length (after_run unquoted (drop 1 text)) ≡ 0 → (quoted_of text ≡ None) × (near_quoted text ≡ length text)
-quoted_open [] l e z = absurd (omega arith)
-quoted_open (b ∷ text) l e z =
-    let r : after_run unquoted text ≡ [] = no_length (after_run unquoted text) z in
-    let q : to_quote text ≡ None = quote_read text ∙ ap (λ x. quoted_cut (run_of unquoted text) x) r in
-    let k : (b == 39) ≡ true = eq-eqb b 39 e in
-    (rw k q, rw k (let o = open_quote text q in omega arith))
-
--- An open quote is near all of the text, and any other text is not near one.
-pub near_open : (text : List ℕ) → quoted_of text ≡ None → near_quoted text ≡ (if starts_with_quote text then length text else 0)
-near_open [] e = refl
-near_open (b ∷ text) e = elim (is_true_or_false (b == 39)) [
+quote_read (b ∷ text) = elim (is_true_or_false (is_text_byte b)) [
+  | inl h ↦ rw h (ap (with_byte_before b) (quote_read text) ∙ behind_cut b (run_of is_text_byte text) (after_run is_text_byte text))
   | inr h ↦ rw h refl
-  | inl h ↦ (let q : to_quote text ≡ None = rw h at e in rw h (let o = open_quote text q in omega arith))
 ]
 
-pub not_none : (n : ℕ) → (n == 0) ≡ false → 0 < n
-not_none zero e = cc
-not_none (suc n) e = omega arith
+quote_near_is : (text : List ℕ) → near_quote text ≡ length (run_of is_text_byte text) + (if starts_with_quote (after_run is_text_byte text) then 1 else 0)
+quote_near_is [] = refl
+quote_near_is (b ∷ text) = elim (is_true_or_false (is_text_byte b)) [
+  | inl h ↦ rw h (omega (arith, quote_near_is text))
+  | inr h ↦ rw h (omega arith)
+]
+
+pub quote_begins : (text : List ℕ) → starts_with_quote text ≡ true → 0 < length text
+quote_begins [] e = cc
+quote_begins (b ∷ text) e = omega arith
+
+pub quoted_not : (text : List ℕ) → starts_with_quote text ≡ false → (quoted_of text ≡ None) × (near_quoted text ≡ 0)
+quoted_not [] n = (refl, refl)
+quoted_not (b ∷ text) n = (rw n refl, rw n refl)
+
+pub quoted_open : (text : List ℕ) → starts_with_quote text ≡ true → starts_with_quote (beyond text) ≡ false
+    → (quoted_of text ≡ None) × (near_quoted text ≡ length (inside text) + 1)
+quoted_open [] e n = cc
+quoted_open (b ∷ text) e n =
+    let q : to_quote text ≡ None = rw n at (quote_read text) in
+    let k : near_quote text ≡ length (run_of is_text_byte text) + 0 = rw n at (quote_near_is text) in
+    (rw e q, rw e (omega arith))
+
+pub quoted_fits : (text : List ℕ) → starts_with_quote text ≡ true → starts_with_quote (beyond text) ≡ true
+    → (quoted_of text ≡ Some (inside text, drop 1 (beyond text))) × (near_quoted text ≡ length (inside text) + 2)
+quoted_fits [] e n = cc
+quoted_fits (b ∷ text) e n =
+    let q : to_quote text ≡ Some (run_of is_text_byte text, drop 1 (after_run is_text_byte text)) = rw n at (quote_read text) in
+    let k : near_quote text ≡ length (run_of is_text_byte text) + 1 = rw n at (quote_near_is text) in
+    (rw e q, rw e (omega arith))
+
+-- The bytes inside and the quotes are no more than the text.
+pub inside_short : (text : List ℕ) → length (run_of is_text_byte (drop 1 text)) + length (after_run is_text_byte (drop 1 text)) + min 1 (length text) ≡ length text
+inside_short [] = refl
+inside_short (b ∷ text) = omega (arith, run_and_rest is_text_byte text)

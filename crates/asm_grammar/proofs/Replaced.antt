@@ -5,13 +5,13 @@ use Rattle.std.specs.List.{list_all}
 use Rattle.std.proofs.lemmas.Bool.{eqb-true, eq-eqb}
 use Rattle.asm_grammar.specs.Argument.{Kind, ArgumentMeaning, argument_of}
 use Rattle.asm_grammar.proofs.Stages.{of_run, of_some}
-use Rattle.asm_grammar.specs.Bytes.{is_blank, is_space, is_filled, is_word, is_digit_byte, upper, run_of, after_run, common}
+use Rattle.asm_grammar.specs.Bytes.{is_blank, is_space, is_filled, is_word, is_digit_byte, is_text_byte, upper, run_of, after_run, common}
 use Rattle.asm_grammar.specs.Word.{Word, Keyword, Mark, Name, Number, Size, Minutes, Quoted, Argument, End, Meaning, same_bytes, when, gap, begins_argument, fit, fit_here, to_quote, with_byte_before, number_of_text, size_of_text, is_name_word, in_minutes, digits_of, minutes_in, begins_word}
 use Rattle.asm_grammar.specs.Syntax.{SyntaxRule, One, Then, Either, Maybe, Many, Value, Has, HasAll}
 use Rattle.asm_grammar.specs.Reading.{is_solid, nullable, decides, starts, all_words_apart}
 use Rattle.asm_grammar.specs.Reading.{first as heads}
 use Rattle.asm_grammar.proofs.Consumes.{either_parts, maybe_parts}
-use Rattle.asm_grammar.proofs.Tests.{both, not_true, is_true_or_false}
+use Rattle.asm_grammar.proofs.Tests.{both, both_true, not_true, is_true_or_false}
 use Rattle.asm_grammar.proofs.Outcomes.{chosen}
 use Rattle.asm_grammar.proofs.Consumes.{some_pair, taken, when_true, key_run, name_run, number_run, size_run}
 use Rattle.asm_grammar.proofs.Near.{after_quote, unit_is, unit_fits}
@@ -110,21 +110,24 @@ blank_start : (test : ℕ → Bool) (front x y : List ℕ) → front ≢ [] → 
 blank_start test [] x y n e = absurd (n refl)
 blank_start test (b ∷ front) x y n e = (front_head test b (front ++ x) (front ++ y) e).1
 
-quote_shape : (x v rest : List ℕ) → to_quote x ≡ Some (v, rest) → (x ≡ v ++ 39 ∷ rest) × (list_all (λ b. not (b == 39)) v ≡ true)
+quote_shape : (x v rest : List ℕ) → to_quote x ≡ Some (v, rest) → (x ≡ v ++ 39 ∷ rest) × (list_all is_text_byte v ≡ true)
 quote_shape [] v rest e = cc
-quote_shape (b ∷ x) v rest e = elim (is_true_or_false (b == 39)) [
-  | inl h ↦
-      (let p = some_pair (rw h at e) in
-      let s : b ≡ 39 = eqb-true b 39 h in
-      (ap (λ z. z ∷ x) s ∙ (ap (λ z. 39 ∷ z) p.1 ∙ ap (λ z. z ++ 39 ∷ rest) p.0), subst (λ z. list_all (λ b. not (b == 39)) z ≡ true) p.0 refl))
-  | inr h ↦
-      (let k : with_byte_before b (to_quote x) ≡ Some (v, rest) = rw h at e in
+quote_shape (b ∷ x) v rest e = elim (chosen (is_text_byte b) _ _ _ e) [
+  | inl c ↦
+      (let k : with_byte_before b (to_quote x) ≡ Some (v, rest) = c.1 in
       let p = after_quote b (to_quote x) v rest k in
       let q = some_pair (rw p.1 at k) in
       let r = quote_shape x p.0 rest p.1 in (
         ap (λ z. b ∷ z) r.0 ∙ ap (λ z. z ++ 39 ∷ rest) q.0,
-        subst (λ z. list_all (λ b. not (b == 39)) z ≡ true) q.0 (rw h r.1),
+        subst (λ z. list_all is_text_byte z ≡ true) q.0 (both_true (is_text_byte b) (list_all is_text_byte p.0) c.0 r.1),
       ))
+  | inr c ↦ (elim (chosen (b == 39) _ _ _ c.1) [
+    | inl f ↦
+        (let p = some_pair f.1 in
+        let s : b ≡ 39 = eqb-true b 39 f.0 in
+        (ap (λ z. z ∷ x) s ∙ (ap (λ z. 39 ∷ z) p.1 ∙ ap (λ z. z ++ 39 ∷ rest) p.0), subst (λ z. list_all is_text_byte z ≡ true) p.0 refl))
+    | inr f ↦ absurd (let q = f.1 in cc)
+  ])
 ]
 
 word_shape : (w : Word) (text rest other : List ℕ) (v : Meaning w) → NoFront (gap w) text → run_of is_word text ≢ [] → (c : RunCut text rest other)

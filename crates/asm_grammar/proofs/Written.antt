@@ -5,7 +5,7 @@ use Rattle.std.specs.Prelude.{◌==◌, if◌then◌else◌}
 use Rattle.std.specs.List.{list_all}
 use Rattle.std.specs.Fmt.{decimal, digits, digits_onto, digit_glyph}
 use Rattle.std.proofs.lemmas.Bool.{eqb-true, eq-eqb, le-leb, lt-ltb}
-use Rattle.asm_grammar.specs.Bytes.{is_blank, is_word, is_digit_byte, is_letter_byte, upper, run_of, after_run}
+use Rattle.asm_grammar.specs.Bytes.{is_blank, is_word, is_digit_byte, is_letter_byte, is_text_byte, upper, run_of, after_run}
 use Rattle.asm_grammar.specs.Word.{Word, Keyword, Mark, Name, Number, Size, Minutes, Quoted, Argument, End, Meaning, gap, below, digits_after, size_after, fit, to_quote, number_of_text, size_of_text, is_name_word, digits_of, begins_word}
 use Rattle.asm_grammar.specs.Writing.{spell, Spells, is_capital}
 use Rattle.asm_grammar.proofs.Tests.{both, not_true, one_of, false_unless, is_true_or_false}
@@ -186,13 +186,13 @@ size_spelled v tail l e =
 pub mark_spelled : (m : ℕ) (tail : List ℕ) → is_blank m ≡ false → fit (Mark m) (m ∷ tail) ≡ Some (tt, tail)
 mark_spelled m tail n = rw (n, eq-eqb m m refl) refl
 
-pub quote_spelled : (v tail : List ℕ) → list_all (λ b. not (b == 39)) v ≡ true → to_quote (v ++ 39 ∷ tail) ≡ Some (v, tail)
+pub quote_spelled : (v tail : List ℕ) → list_all is_text_byte v ≡ true → to_quote (v ++ 39 ∷ tail) ≡ Some (v, tail)
 quote_spelled [] tail a = refl
 quote_spelled (b ∷ v) tail a =
-    let p = both (not (b == 39)) (list_all (λ b. not (b == 39)) v) a in
-    rw (not_true (b == 39) p.0, quote_spelled v tail p.1) refl
+    let p = both (is_text_byte b) (list_all is_text_byte v) a in
+    rw (p.0, quote_spelled v tail p.1) refl
 
-quoted_spelled : (v tail : List ℕ) → list_all (λ b. not (b == 39)) v ≡ true → fit Quoted ((39 ∷ v ++ 39 ∷ []) ++ tail) ≡ Some (v, tail)
+quoted_spelled : (v tail : List ℕ) → list_all is_text_byte v ≡ true → fit Quoted ((39 ∷ v ++ 39 ∷ []) ++ tail) ≡ Some (v, tail)
 quoted_spelled v tail a = rw (append_assoc v (39 ∷ []) tail) (quote_spelled v tail a)
 
 digits_is : (bytes : List ℕ) → bytes ≢ [] → digits_of bytes ≡ digits_after 0 bytes

@@ -25,6 +25,10 @@ is_letter_byte b = (nat_le 65 b && nat_le b 90) || is_lower b
 abbrev pub is_word : ℕ → Bool
 is_word b = is_letter_byte b || is_digit_byte b || (b == 95) || (b == 36) || (b == 35)
 
+-- what stands inside quotes: no byte that could make a line of its own
+abbrev pub is_text_byte : ℕ → Bool
+is_text_byte b = not (b == 39) && nat_le 32 b
+
 -- the byte in upper case
 abbrev pub upper : ℕ → ℕ
 upper b = if is_lower b then b - 32 else b

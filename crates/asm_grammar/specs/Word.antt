@@ -1,7 +1,7 @@
 -- The keywords, names, numbers, marks and quoted texts of which commands are made.
 use Rattle.std.specs.Prelude.{ℕ, ◌+◌, ◌-◌, ◌*◌, ◌^◌, min, Bool, true, false, ◌&&◌, ◌==◌, not, nat_le, nat_lt, List, [], ◌∷◌, length, map, if◌then◌else◌, Option, Some, None, is_some}
 use Rattle.asm_grammar.specs.Argument.{Kind, ArgumentMeaning, first_stage, factor, near_from, argument_of}
-use Rattle.asm_grammar.specs.Bytes.{is_blank, is_space, is_filled, is_digit_byte, is_letter_byte, is_word, upper, run_of, after_run, common}
+use Rattle.asm_grammar.specs.Bytes.{is_blank, is_space, is_filled, is_digit_byte, is_letter_byte, is_text_byte, is_word, upper, run_of, after_run, common}
 
 -- One of these stands at each place of a command.
 pub data Word : Type 0 where
@@ -17,7 +17,7 @@ pub data Word : Type 0 where
   Size : Word
   -- a decimal number and M or H, for minutes or hours, below 2 ^ 64 seconds in all
   Minutes : Word
-  -- bytes between single quotes
+  -- bytes between single quotes, none of them below 32
   Quoted : Word
   -- a word of a verb
   Argument : Kind → Word
@@ -84,10 +84,10 @@ abbrev pub with_byte_before : ℕ → Option (List ℕ × List ℕ) → Option (
 with_byte_before b None = None
 with_byte_before b (Some cut) = Some (b ∷ cut.0, cut.1)
 
--- What stands before the next single quote, and what behind it. None where there is no other.
+-- What stands before the next single quote, and what behind it. None where there is no other, or a byte below 32 before it.
 abbrev pub to_quote : List ℕ → Option (List ℕ × List ℕ)
 to_quote [] = None
-to_quote (b ∷ text) = if b == 39 then Some ([], text) else with_byte_before b (to_quote text)
+to_quote (b ∷ text) = if is_text_byte b then with_byte_before b (to_quote text) else if b == 39 then Some ([], text) else None
 
 abbrev pub with_rest : {A : Type 0} → List ℕ → Option A → Option (A × List ℕ)
 with_rest rest None = None
@@ -216,10 +216,10 @@ abbrev pub near_mark : ℕ → List ℕ → ℕ
 near_mark m [] = 0
 near_mark m (b ∷ text) = if b == m then 1 else 0
 
--- up to the next single quote, and that quote
+-- up to the next single quote, and that quote, or up to a byte below 32 before it
 abbrev pub near_quote : List ℕ → ℕ
 near_quote [] = 0
-near_quote (b ∷ text) = if b == 39 then 1 else near_quote text + 1
+near_quote (b ∷ text) = if is_text_byte b then near_quote text + 1 else if b == 39 then 1 else 0
 
 abbrev pub near_quoted : List ℕ → ℕ
 near_quoted [] = 0

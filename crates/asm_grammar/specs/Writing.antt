@@ -4,7 +4,7 @@ use Rattle.std.specs.List.{list_all, flat_map}
 use Rattle.std.specs.Fmt.{decimal}
 use mathlib.Core.Logic.{inl, inr}
 use Rattle.asm_grammar.specs.Argument.{Exact}
-use Rattle.asm_grammar.specs.Bytes.{is_blank, is_filled, is_word, is_letter_byte, upper}
+use Rattle.asm_grammar.specs.Bytes.{is_blank, is_filled, is_word, is_letter_byte, is_text_byte, upper}
 use Rattle.asm_grammar.specs.Word.{Word, Keyword, Mark, Name, Number, Size, Minutes, Quoted, Argument, End, Meaning, is_name_word}
 use Rattle.asm_grammar.specs.Syntax.{SyntaxRule, One, Then, Either, Maybe, Many, Value}
 
@@ -62,7 +62,7 @@ Spells Name v = IsTrue (is_name_word v && list_all is_word v)
 Spells Number v = v < 2 ^ 64
 Spells Size v = v < 2 ^ 64
 Spells Minutes v = v * 60 < 2 ^ 64
-Spells Quoted v = IsTrue (list_all (λ b. not (b == 39)) v)
+Spells Quoted v = IsTrue (list_all is_text_byte v)
 Spells (Argument k) v = ⊥
 Spells End v = ⊥
 

@@ -5,7 +5,7 @@ ghost use Rattle.std.specs.Prelude.{◌≡◌, ◌<◌, drop, ◌+◌, ◌-◌, 
 ghost use Rattle.asm_grammar.specs.Bytes.{is_blank, is_space, is_word, is_digit_byte, upper, run_of, after_run, common};
 ghost use Rattle.asm_grammar.specs.Runs.{tests};
 ghost use Rattle.asm_grammar.specs.Argument.{factor};
-ghost use Rattle.asm_grammar.specs.Word.{same_bytes, starts_with_letter, starts_with_digit, near_number, near_value, near_size, near_size_value, near_count, near_count_value, minutes_in, begins_word, quoted_of};
+ghost use Rattle.asm_grammar.specs.Word.{same_bytes, starts_with_letter, starts_with_digit, near_number, near_value, near_size, near_size_value, near_count, near_count_value, minutes_in, begins_word, starts_with_quote, near_quoted, quoted_of};
 
 use crate::stage::with_letter;
 
@@ -19,7 +19,7 @@ pub enum Run {
     Filled,
     Word,
     Digits,
-    /// Bytes other than a single quote.
+    /// Bytes that stand inside quotes.
     Text,
 }
 
@@ -56,7 +56,7 @@ fn belongs(run: Run, b: u8) -> bool
         Run::Filled => !is_space(b),
         Run::Word => is_word(b),
         Run::Digits => b'0' <= b && b <= b'9',
-        Run::Text => b != b'\'',
+        Run::Text => b != b'\'' && b' ' <= b,
     }
 }
 
@@ -157,19 +157,30 @@ fn after_first(bytes: &[u8]) -> &[u8]
     bytes.split_at(1).1
 }
 
-/// The text between quotes at the front, and what stands behind it.
-#[tactic(auto, using(crate::proofs::Readers::quoted_is, crate::proofs::Readers::quoted_not, crate::proofs::Readers::cut_some, crate::proofs::Readers::cut_none))]
-pub fn split_quoted(text: &[u8]) -> Option<(&[u8], &[u8])>
-    ensures { option_map (λ p. (p.0.now, p.1.now)) result ≡ quoted_of text.now }
+fn begins_quote(text: &[u8]) -> bool
+    ensures { result ≡ starts_with_quote text.now }
 {
-    if text.is_empty() || text[0] != b'\'' {
-        return None;
+    match text {
+        [] => false,
+        [first, ..] => *first == b'\'',
+    }
+}
+
+/// The text between quotes at the front and what stands behind it, and how many bytes begin such a
+/// text.
+#[tactic(auto, using(crate::proofs::Readers::quote_begins, crate::proofs::Readers::quoted_not, crate::proofs::Readers::quoted_open, crate::proofs::Readers::quoted_fits, crate::proofs::Readers::inside_short))]
+pub fn split_quoted(text: &[u8]) -> (Option<(&[u8], &[u8])>, usize)
+    ensures says { option_map (λ p. (p.0.now, p.1.now)) result.0 ≡ quoted_of text.now }
+    ensures near { result.1 ≡ near_quoted text.now }
+{
+    if !begins_quote(text) {
+        return (None, 0);
     }
     let (bytes, behind) = split_run(Run::Text, after_first(text));
-    if behind.is_empty() {
-        return None;
+    if !begins_quote(behind) {
+        return (None, bytes.len() + 1);
     }
-    Some((bytes, after_first(behind)))
+    (Some((bytes, after_first(behind))), bytes.len() + 2)
 }
 
 pub fn starts_with_digit(bytes: &[u8]) -> bool

@@ -5,7 +5,7 @@ ghost use Rattle.std.specs.Option.{option_map};
 ghost use Rattle.asm_grammar.specs.Word.{Keyword, Mark, Name, Number, Size, Minutes, Quoted, fit};
 ghost use Rattle.asm_grammar.specs.Reading.{one, close};
 ghost use Rattle.asm_grammar.specs.Bytes.{is_word, run_of};
-ghost use Rattle.asm_grammar.specs.Word.{starts_with_quote, in_minutes, near_letter, size_of_text, near_digits, near_size};
+ghost use Rattle.asm_grammar.specs.Word.{in_minutes, near_letter, size_of_text, near_digits, near_size};
 ghost use Rattle.asm_grammar.specs.Reads.{Gives, Passes, Tries};
 ghost use Rattle.asm_grammar.specs.declared.words.ReadError.TheVariants.{NoMemory};
 
@@ -256,24 +256,15 @@ pub fn minutes<'a>(place: Place<'a>) -> Result<(u64, Place<'a>), ReadError>
     }
 }
 
-/// Whether the text begins with a quote.
-fn begins_quote(text: &[u8]) -> bool
-    ensures { result ≡ starts_with_quote text.now }
-{
-    match text {
-        [] => false,
-        [first, ..] => *first == b'\'',
-    }
-}
-
 /// The next is a text in single quotes.
-#[tactic(auto, using(crate::proofs::Consumes::run_and_rest, crate::proofs::Readers::near_open))]
+#[tactic(auto, using(crate::proofs::Consumes::run_and_rest))]
 pub fn quoted<'a>(place: Place<'a>) -> Result<(&'a [u8], Place<'a>), ReadError>
     ensures { Gives (λ b. b.now) result (one Quoted place.entry.rest.now place.entry.left
         (fit Quoted place.entry.rest.now)) }
 {
     let (_blanks, text) = split_run(Run::Blanks, place.rest);
-    match split_quoted(text) {
+    let (inner, near) = split_quoted(text);
+    match inner {
         Some((bytes, rest)) => Ok((
             bytes,
             Place {
@@ -281,12 +272,9 @@ pub fn quoted<'a>(place: Place<'a>) -> Result<(&'a [u8], Place<'a>), ReadError>
                 left: place.left,
             },
         )),
-        None => {
-            let near = if begins_quote(text) { text.len() } else { 0 };
-            Err(ReadError::Syntax {
-                left: missed(place, text, near).left,
-            })
-        }
+        None => Err(ReadError::Syntax {
+            left: missed(place, text, near).left,
+        }),
     }
 }
 

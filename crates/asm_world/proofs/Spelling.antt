@@ -3,11 +3,12 @@ use Rattle.std.proofs.Common.{◌≡◌, ℕ, ◌+◌, ◌-◌, ◌*◌, ◌^◌
 use Rattle.std.specs.Prelude.{◌==◌}
 use Rattle.std.proofs.lemmas.Bool.{ltb-true}
 use Rattle.std.specs.List.{list_all, flat_map}
-use Rattle.asm_grammar.specs.Bytes.{is_blank, is_word, is_digit_byte, run_of, after_run}
+use Rattle.asm_grammar.specs.Bytes.{is_blank, is_word, is_digit_byte, is_text_byte, run_of, after_run}
 use Rattle.asm_grammar.specs.Word.{Word, Keyword, Mark, Name, Number, Size, Minutes, Quoted, Argument, End, Meaning, when, below, gap, fit_here, number_of_text, digits_of, digits_after, size_of_text, size_after, minutes_in, begins_word, in_minutes, is_name_word, to_quote, with_byte_before}
 use Rattle.asm_grammar.specs.Syntax.{SyntaxRule, One, Then, Either, Maybe, Many, Value, Has, HasAll}
 use Rattle.asm_grammar.specs.Writing.{Piece, pieces, is_capital, Spells, AllSpell}
 use Rattle.asm_grammar.proofs.Consumes.{taken, when_true, some_pair}
+use Rattle.asm_grammar.proofs.Outcomes.{chosen}
 use Rattle.asm_grammar.proofs.Tests.{both, both_true, is_true_or_false}
 
 -- every word of a value has a spelling
@@ -91,20 +92,23 @@ minutes_less (Some n) (b ∷ text) v rest e =
     let p = both (not (minutes_in b == 0) && not (begins_word text)) (nat_lt (n * minutes_in b * 60) (2 ^ 64)) w.0 in
     subst (λ z. z * 60 < 2 ^ 64) (ap (λ (q : ℕ × List ℕ). q.0) w.1) (is_less (n * minutes_in b * 60) (2 ^ 64) p.1)
 
-quote_none : (text v rest : List ℕ) → to_quote text ≡ Some (v, rest) → list_all (λ b. not (b == 39)) v ≡ true
-quote_none [] v rest e = cc
-quote_none (b ∷ text) v rest e = elim (is_true_or_false (b == 39)) [
-  | inl x ↦ nothing v rest text (rw x at e)
-  | inr x ↦ further b text (to_quote text) v rest x (λ u t h. quote_none text u t h) (rw x at e)
+quote_fine : (text v rest : List ℕ) → to_quote text ≡ Some (v, rest) → list_all is_text_byte v ≡ true
+quote_fine [] v rest e = cc
+quote_fine (b ∷ text) v rest e = elim (chosen (is_text_byte b) _ _ _ e) [
+  | inl p ↦ further b text (to_quote text) v rest p.0 (λ u t h. quote_fine text u t h) p.1
+  | inr p ↦ (elim (chosen (b == 39) _ _ _ p.1) [
+    | inl q ↦ nothing v rest text q.1
+    | inr q ↦ absurd (let f = q.1 in cc)
+  ])
 ] where
-  nothing : (v rest text : List ℕ) → ◌≡◌ {A = Option (List ℕ × List ℕ)} (Some ([], text)) (Some (v, rest)) → list_all (λ b. not (b == 39)) v ≡ true
-  nothing v rest text e = let q = some_pair e in subst (λ z. list_all (λ b. not (b == 39)) z ≡ true) q.0 refl
+  nothing : (v rest text : List ℕ) → ◌≡◌ {A = Option (List ℕ × List ℕ)} (Some ([], text)) (Some (v, rest)) → list_all is_text_byte v ≡ true
+  nothing v rest text e = let q = some_pair e in subst (λ z. list_all is_text_byte z ≡ true) q.0 refl
 
-  further : (b : ℕ) (text : List ℕ) (o : Option (List ℕ × List ℕ)) (v rest : List ℕ) → (b == 39) ≡ false → ((u t : List ℕ) → o ≡ Some (u, t) → list_all (λ b. not (b == 39)) u ≡ true)
-      → with_byte_before b o ≡ Some (v, rest) → list_all (λ b. not (b == 39)) v ≡ true
+  further : (b : ℕ) (text : List ℕ) (o : Option (List ℕ × List ℕ)) (v rest : List ℕ) → is_text_byte b ≡ true → ((u t : List ℕ) → o ≡ Some (u, t) → list_all is_text_byte u ≡ true)
+      → with_byte_before b o ≡ Some (v, rest) → list_all is_text_byte v ≡ true
   further b text None v rest x h e = cc
   further b text (Some (u, t)) v rest x h e =
-      let q = some_pair e in subst (λ z. list_all (λ b. not (b == 39)) z ≡ true) q.0 (rw x (h u t refl))
+      let q = some_pair e in subst (λ z. list_all is_text_byte z ≡ true) q.0 (both_true (is_text_byte b) (list_all is_text_byte u) x (h u t refl))
 
 fit_spells : (w : Word) (text : List ℕ) (v : Meaning w) (rest : List ℕ) → word_ok w ≡ true → fit_here w text ≡ Some (v, rest) → Spells w v
 fit_spells (Keyword k) text v rest ok e = ok
@@ -117,7 +121,7 @@ fit_spells Number text v rest ok e = number_less (run_of is_word text) v (taken 
 fit_spells Size text v rest ok e = size_less (run_of is_word text) v (taken (after_run is_word text) (size_of_text (run_of is_word text)) v rest e).0
 fit_spells Minutes text v rest ok e = minutes_less (digits_of (run_of is_digit_byte text)) (after_run is_blank (after_run is_digit_byte text)) v rest e
 fit_spells Quoted [] v rest ok e = cc
-fit_spells Quoted (b ∷ text) v rest ok e = elim (is_true_or_false (b == 39)) [ inl x ↦ quote_none text v rest (rw x at e) | inr x ↦ absurd (let f = rw x at e in cc) ]
+fit_spells Quoted (b ∷ text) v rest ok e = elim (is_true_or_false (b == 39)) [ inl x ↦ quote_fine text v rest (rw x at e) | inr x ↦ absurd (let f = rw x at e in cc) ]
 fit_spells (Argument k) text v rest ok e = cc
 fit_spells End text v rest ok e = cc
 
