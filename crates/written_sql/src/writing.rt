@@ -157,9 +157,9 @@ fn write_words(line: Line, statement: &Statement) -> Result<Option<Line>, NoMemo
 /// the members of a list, sizes in bytes, the time of DROP AFTER in minutes, a redundancy before a
 /// stripe, MODIFY for a template that is altered, and no option that changes nothing. Some text
 /// says the statement where each list of disks, failure groups or names has a member, a template
-/// has a word, names are names of the language, paths and texts have no single quote, and the time
-/// is below 2^64 seconds; then this one does, so that reading it gives the same statement. The text
-/// is empty where a list has no member or a template no word.
+/// has a word, names are names of the language, paths and texts have no single quote and no byte
+/// below 32, and the time is below 2^64 seconds; then this one does, so that reading it gives the
+/// same statement. The text is empty where a list has no member or a template no word.
 #[tactic(auto, using(crate::proofs::Texts::no_text, crate::proofs::Texts::whole_text, crate::proofs::Texts::text_says))]
 pub fn write_statement(alloc: Global, statement: &Statement) -> Result<Vec<u8>, NoMemory>
     ensures written { IfOk result (λ text. text.items

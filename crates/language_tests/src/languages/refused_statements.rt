@@ -10,7 +10,7 @@ struct Refused {
     at: u64,
 }
 
-const REFUSED: [Refused; 25] = [
+const REFUSED: [Refused; 35] = [
     Refused { text: b"", at: 0 },
     Refused { text: b";", at: 0 },
     Refused {
@@ -41,6 +41,47 @@ const REFUSED: [Refused; 25] = [
     Refused {
         text: b"ALTER DISKGROUP g MOUNT;;",
         at: 24,
+    },
+    // Bytes below 32 inside quotes.
+    Refused {
+        text: b"CREATE DISK 'p\nok' SIZE 1M;",
+        at: 14,
+    },
+    Refused {
+        text: b"CREATE DISK '\td' SIZE 1M;",
+        at: 13,
+    },
+    Refused {
+        text: b"CREATE DISK 'd\x1f' SIZE 1M;",
+        at: 14,
+    },
+    Refused {
+        text: b"CREATE DISK 'd\n; SIZE",
+        at: 14,
+    },
+    Refused {
+        text: b"CREATE DISKGROUP g DISK 'a', 'b\r' NAME n;",
+        at: 31,
+    },
+    Refused {
+        text: b"CREATE DISKGROUP g DISK 'a' ATTRIBUTE 'x\0'='y';",
+        at: 40,
+    },
+    Refused {
+        text: b"CREATE DISKGROUP g DISK 'a' ATTRIBUTE 'x'='y\nz';",
+        at: 44,
+    },
+    Refused {
+        text: b"CREATE DISKGROUP g DISK 'a' ATTRIBUTE 'x'='y\tz';",
+        at: 44,
+    },
+    Refused {
+        text: b"CREATE DISKGROUP g DISK 'a' ATTRIBUTE 'x'='y\x1f';",
+        at: 44,
+    },
+    Refused {
+        text: b"ALTER DISKGROUP g ADD ALIAS '+g/x' FOR '+g/\x01y';",
+        at: 43,
     },
     // Lists.
     Refused {
@@ -112,12 +153,13 @@ const REFUSED: [Refused; 25] = [
 ];
 
 /// Texts of statements at the limits.
-const READ: [&[u8]; 11] = [
+const READ: [&[u8]; 12] = [
     b" \r\n\tALTER DISKGROUP g MOUNT ;",
     b"ALTER DISKGROUP abcdefghijklmnopqrstuvwxyz$#_1 MOUNT;",
     b"ALTER DISKGROUP g DROP DISK force FORCE, force;",
     b"CREATE DISKGROUP g DISK'a'NAME n,'b'ATTRIBUTE'x'='y';",
     b"CREATE DISKGROUP g DISK '' ATTRIBUTE ''='';",
+    b"CREATE DISKGROUP g DISK ' !~\x7f', '\x80\x9f\xff' ATTRIBUTE 'x'='\x7f\x85';",
     b"CREATE DISK 'd' SIZE 18446744073709551615;",
     b"CREATE DISK 'd' SIZE 18014398509481983K;",
     b"CREATE DISK 'd' SIZE 17592186044415M;",
