@@ -65,13 +65,11 @@ fn with_attributes(
     ensures refused { IfErr result (λ refusal. IsRefusedAs
         (created_with (creation_meant creation) attributes.now) (meaning_of (λ _. []) refusal)) }
 {
-    let [first, rest @ ..] = attributes else {
-        return finished(alloc, creation);
-    };
-    match with_one(alloc, &creation, first) {
-        Ok(next) => with_attributes(alloc, next, rest),
-        Err(refusal) => Err(refusal),
+    let mut made = creation;
+    for attribute in attributes {
+        made = with_one(alloc, &made, attribute)?;
     }
+    finished(alloc, made)
 }
 
 /// The shape and the settings that the attributes of a creation make. They are tried in the order
