@@ -19,9 +19,10 @@ use std::alloc::Global;
 /// their replies to the sink. With `--generate` the source isn't read: the script made from the
 /// number is run, each reply but the last is one byte, and events have no lines. The words don't
 /// hold the program's own name. Statuses: 0 each command was answered `ok`; 1 some command was
-/// refused; 2 the words aren't `[--generate N] IMAGE...`, with 1 to 512 paths and none twice, and
-/// under `--generate` with four paths without a single quote; 3 the source failed; 4 the sink
-/// failed; 5 there was no memory; 6 the script is longer than 67,108,864 bytes.
+/// refused; 2 the words aren't `[--generate N] IMAGE...`, with 1 to 512 paths, none twice and none
+/// with a byte below 32, and under `--generate` with four paths without a single quote; 3 the
+/// source failed; 4 the sink failed; 5 there was no memory; 6 the script is longer than 67,108,864
+/// bytes.
 pub fn run<B: Bay, H: Host, S: Source, K: Sink, C: Clock>(
     alloc: Global,
     words: &[String],

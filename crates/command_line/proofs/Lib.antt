@@ -1,2 +1,4 @@
+pub mod Finds
 pub mod Readings
+pub mod Takings
 pub mod Texts

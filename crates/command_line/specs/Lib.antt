@@ -1,4 +1,5 @@
 pub mod Command
+pub mod Misuses
 pub mod Notices
 pub mod Paths
 pub mod Rows

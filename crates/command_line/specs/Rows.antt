@@ -1,10 +1,10 @@
 -- Worked words: what is read of them, and what is refused.
-use Rattle.std.specs.Prelude.{◌≡◌, Option, Some, None, List, [], ◌∷◌, codes}
+use Rattle.std.specs.Prelude.{◌≡◌, ℕ, Option, Some, None, List, [], ◌∷◌, codes}
 use Rattle.clap.specs.Words.{fault_of}
 use Rattle.clap.specs.declared.error.kind.ErrorKind.{ErrorKind}
 use Rattle.clap.specs.declared.error.kind.ErrorKind.TheVariants as kind
 use Rattle.command_line.specs.Command.{asm_command, number_in, images_in}
-use Rattle.command_line.specs.Paths.{WordBytes}
+use Rattle.command_line.specs.Paths.{WordBytes, IsTaken}
 
 -- the words have the form, with this number and these images
 abbrev pub ReadsWords : List WordBytes → Option WordBytes → List WordBytes → Type 0
@@ -13,6 +13,13 @@ ReadsWords words number images = (fault_of asm_command words ≡ []) × (number_
 -- the words don't have the form, and this is why
 abbrev pub Refuses : List WordBytes → ErrorKind → Type 0
 Refuses words why = fault_of asm_command words ≡ why ∷ []
+
+-- the path alone is taken, or isn't
+abbrev pub IsTakenPath : WordBytes → Type 0
+IsTakenPath path = IsTaken None (path ∷ []) None (path ∷ [])
+
+abbrev pub IsRefusedPath : WordBytes → Type 0
+IsRefusedPath path = (generate : Option ℕ) (images : List WordBytes) → IsTaken None (path ∷ []) generate images → ⊥
 
 pub record WordRows : Type 0 where
   pub images : ReadsWords (codes "a" ∷ codes "b" ∷ []) None (codes "a" ∷ codes "b" ∷ [])
@@ -30,3 +37,10 @@ pub record WordRows : Type 0 where
   pub unknown_option : Refuses (codes "a" ∷ codes "--images" ∷ []) kind.UnknownArgument
   pub unknown_letter : Refuses (codes "-g" ∷ codes "a" ∷ []) kind.UnknownArgument
   pub help : Refuses (codes "--help" ∷ []) kind.UnknownArgument
+  pub zero : IsRefusedPath (100 ∷ 0 ∷ [])
+  pub tab : IsRefusedPath (9 ∷ 100 ∷ [])
+  pub line_feed : IsRefusedPath (112 ∷ 10 ∷ 111 ∷ 107 ∷ [])
+  pub last_control : IsRefusedPath (31 ∷ [])
+  pub blank : IsTakenPath (100 ∷ 32 ∷ 48 ∷ [])
+  pub delete : IsTakenPath (127 ∷ [])
+  pub beyond_ascii : IsTakenPath (195 ∷ 164 ∷ [])

@@ -1,13 +1,10 @@
 // The form of the words, as `clap` reads it.
-ghost use Rattle.std.specs.Prelude.{◌≡◌, ◌≢◌, [], false, IfOk, IsErrOf, map};
+ghost use Rattle.std.specs.Prelude.{◌≡◌, [], IfOk, IfErr, map};
 ghost use Rattle.std.specs.String.{string_bytes};
-ghost use Rattle.clap.specs.Words.{app_of, fault_of, found_of, matches_of, rows_of};
+ghost use Rattle.clap.specs.Words.{HasKind, app_of, fault_of, found_of, matches_of, rows_of};
 ghost use Rattle.command_line.specs.Command.{asm_command};
-ghost use Rattle.command_line.specs.declared.words.WordsError.TheVariants.{Usage};
 
-use crate::words::WordsError;
-use clap::error::ErrorKind;
-use clap::{Arg, ArgAction, ArgMatches, Command};
+use clap::{Arg, ArgAction, ArgMatches, Command, Error};
 use std::alloc::{AllocError, Global};
 
 // One option with one value, and one positional with one or more. Help is no part of it: the
@@ -28,20 +25,12 @@ fn command<'a>(alloc: Global) -> Result<Command<'a>, AllocError>
         .arg(image)
 }
 
-// Parses the words. Usage comes where they aren't of the command's form.
-pub fn parse<'a>(alloc: Global, words: &'a [String]) -> Result<ArgMatches<'a>, WordsError>
+// Parses the words. An error comes where they aren't of the command's form, or for want of memory.
+pub fn parse<'a>(alloc: Global, words: &'a [String]) -> Result<ArgMatches<'a>, Error>
     ensures form { IfOk result (λ matches. fault_of asm_command (map string_bytes words.now) ≡ []) }
     ensures rows { IfOk result (λ matches. rows_of (found_of matches)
         ≡ matches_of asm_command (map string_bytes words.now)) }
-    ensures usage { IsErrOf result WordsError.Usage
-        → fault_of asm_command (map string_bytes words.now) ≢ [] }
+    ensures kind { IfErr result (λ error. HasKind (fault_of asm_command (map string_bytes words.now)) error) }
 {
-    let command = command(alloc)?;
-    match command.try_get_matches_from(words) {
-        Ok(matches) => Ok(matches),
-        Err(error) => match error.kind() {
-            ErrorKind::OutOfMemory => Err(WordsError::NoMemory),
-            _ => Err(WordsError::Usage),
-        },
-    }
+    command(alloc)?.try_get_matches_from(words)
 }

@@ -1,20 +1,20 @@
 // The words of the program.
-ghost use Rattle.std.specs.Prelude.{◌≡◌, ◌≤◌, ℕ, false, Some, List, Option, IfOk, IsErrOf, length, map, option_map};
+ghost use Rattle.std.specs.Prelude.{◌≡◌, ◌≢◌, ℕ, List, Option, IfOk, IsErrOf, map, option_map};
 ghost use Rattle.std.specs.String.{string_bytes};
+ghost use Rattle.clap.specs.Words.{kind_of};
+ghost use Rattle.clap.specs.declared.error.kind.ErrorKind.TheVariants.{OutOfMemory};
 ghost use Rattle.command_line.specs.Command.{IsRead};
-ghost use Rattle.command_line.specs.Paths.{WordBytes, IsTaken, texts, has_twice};
+ghost use Rattle.command_line.specs.Paths.{WordBytes, IsTaken, texts};
 ghost use Rattle.command_line.specs.declared.words.WordsError.TheVariants.{Usage, NoMemory};
 
-use crate::checks::{has_quote, has_twice, read_number};
+use crate::checks::checked;
 use crate::parse::parse;
+use clap::error::ErrorKind;
 use std::alloc::{AllocError, AllocFailed, Global};
 use thiserror::Error;
 
 /// The most images that a run takes.
 pub const MOST_IMAGES: usize = 512;
-
-/// How many images the generator takes.
-const GENERATOR_IMAGES: usize = 4;
 
 /// What the program is asked to do.
 #[derive(Debug, Drop)]
@@ -29,13 +29,25 @@ pub struct Words {
 /// Why the words aren't read.
 #[derive(Clone, Copy, Debug, PartialEq, Eq, Error)]
 pub enum WordsError {
-    /// The words aren't `[--generate N] IMAGE...`, a path is given twice, there are more than 512,
-    /// or the generator gets other than four paths without a single quote.
+    /// The words aren't `[--generate N] IMAGE...`, a path is given twice or has a byte below 32,
+    /// there are more than 512, or the generator gets other than four paths without a single
+    /// quote. `misuse_of` says which.
     #[error("the words are not [--generate N] IMAGE...")]
     Usage,
     /// No memory was found.
     #[error("there is no memory")]
     NoMemory,
+}
+
+impl From<clap::Error> for WordsError {
+    ghost from_gives = { λ error e. e ≡ Usage → kind_of error ≢ OutOfMemory };
+
+    fn from(error: clap::Error) -> Self {
+        match error.kind() {
+            ErrorKind::OutOfMemory => WordsError::NoMemory,
+            _ => WordsError::Usage,
+        }
+    }
 }
 
 impl From<AllocError> for WordsError {
@@ -75,35 +87,11 @@ fn take(alloc: Global, number: Option<&str>, paths: &[&str]) -> Result<Words, Wo
     ensures usage { IsErrOf result WordsError.Usage → (generate : Option ℕ) (images : List WordBytes)
         → IsTaken (option_map (λ s. s.now) number.entry) (texts paths.now) generate images → ⊥ }
 {
-    if paths.len() > MOST_IMAGES || has_twice(paths) {
-        return Err(WordsError::Usage);
-    }
-    match number {
-        None => Ok(Words {
-            generate: None,
-            images: copied(alloc, paths)?,
-        }),
-        Some(text) => take_generator(alloc, text, paths),
-    }
-}
-
-// The same of the generator's words.
-fn take_generator(alloc: Global, text: &str, paths: &[&str]) -> Result<Words, WordsError>
-    requires few { length (texts paths.now) ≤ 512 }
-    requires distinct { has_twice (texts paths.now) ≡ false }
-    ensures taken { IfOk result (λ read. IsTaken (Some text.now) (texts paths.now) read.generate
-        (map string_bytes read.images.items)) }
-    ensures usage { IsErrOf result WordsError.Usage → (generate : Option ℕ) (images : List WordBytes)
-        → IsTaken (Some text.now) (texts paths.now) generate images → ⊥ }
-{
-    let Some(seed) = read_number(text) else {
+    let Ok(generate) = checked(number, paths) else {
         return Err(WordsError::Usage);
     };
-    if paths.len() != GENERATOR_IMAGES || has_quote(paths) {
-        return Err(WordsError::Usage);
-    }
     Ok(Words {
-        generate: Some(seed),
+        generate,
         images: copied(alloc, paths)?,
     })
 }
