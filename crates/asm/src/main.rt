@@ -4,9 +4,9 @@
 
 use asm_run::run;
 use bay_file::{FileBay, FileHost, StdSink, StdSource, SystemClock, hold_streams};
-use command_line::Notice;
+use command_line::{Notice, misuse_of};
 use std::alloc::{AllocError, Global};
-use std::io::ErrorKind;
+use std::io::{ErrorKind, Write};
 use std::process::ExitCode;
 use std::{env, io};
 
@@ -15,7 +15,10 @@ fn main(rt: HostRuntime) -> ExitCode {
     match answer(alloc, &rt) {
         Ok(status) => ExitCode::from(status),
         // A word isn't UTF-8.
-        Err(error) if error.kind() == ErrorKind::InvalidData => ExitCode::from(2),
+        Err(error) if error.kind() == ErrorKind::InvalidData => {
+            let _ = rt.eprintln("asm: a word is not UTF-8; see asm --help");
+            ExitCode::from(2)
+        }
         Err(_) => ExitCode::from(5),
     }
 }
@@ -38,7 +41,21 @@ fn run_words(alloc: Global, rt: &HostRuntime, words: &[String]) -> io::Result<u8
     let sink = StdSink::new(rt.clone()?);
     let clock = SystemClock::new(rt.clone()?);
     let report = run(alloc, words, bay, host, &mut source, sink, clock);
+    if report.status == 2 {
+        explain(alloc, rt, words);
+    }
     Ok(report.status)
+}
+
+/// Says on standard error what is wrong with words that `run` refused. For want of memory nothing
+/// is said, and whether it can be written changes nothing.
+fn explain(alloc: Global, rt: &HostRuntime, words: &[String]) {
+    let Ok(Some(misuse)) = misuse_of(alloc, words) else {
+        return;
+    };
+    if let Ok(line) = misuse.line(alloc) {
+        let _ = rt.stderr().write_all(&line);
+    }
 }
 
 /// Prints help or the version. Where that fails the status is that of a reply that can't be
