@@ -1,5 +1,6 @@
 pub mod FileBays
 pub mod FileSound
+pub mod OneLine
 pub mod Opening
 pub mod Outside
 pub mod PathFaults

@@ -1,17 +1,19 @@
 // The disks as images in files.
 ghost use Rattle.std.specs.Prelude.{◌≡◌, ℕ, None};
 
+use crate::opener::Opener;
 use crate::slots::{SlotMap, attach_in, make_in, read_in, sync_in, write_in};
 use bay::{Bay, BayError, Fault};
 use std::collections::BTreeMap;
 
-/// The disks as images in files, or on devices, by slot. An attached image stays open and locked as
-/// long as the bay lasts: a second program, or a second slot whose path leads to the same file,
-/// gets a fault. `make` makes files alone. `calls`, `written` and the counts of faults are kept;
-/// what the images hold isn't told.
+/// The disks as images, in regular files or on block devices, by slot; what is neither is a fault,
+/// as what isn't there. An attached image stays open and locked as long as the bay lasts: a second
+/// program, or a second slot whose path leads to the same file, gets a fault. `make` makes files
+/// alone. Why an image that is there can't be used is told on standard error, once for each reason.
+/// `calls`, `written` and the counts of faults are kept; what the images hold isn't told.
 #[derive(Drop)]
 pub struct FileBay {
-    runtime: HostRuntime,
+    opener: Opener,
     slots: SlotMap,
     calls: u64,
 }
@@ -27,7 +29,7 @@ impl FileBay {
         ensures written { (s : ℕ) → (file_bay_state result).written s ≡ 0 }
     {
         FileBay {
-            runtime,
+            opener: Opener::new(runtime),
             slots: BTreeMap::new(runtime.alloc()),
             calls: 0,
         }
@@ -44,12 +46,12 @@ impl Bay for FileBay {
 
     fn attach(&mut self, slot: u32, path: &str) -> Result<u64, BayError> {
         self.calls = self.calls.saturating_add(1);
-        attach_in(&mut self.slots, slot, &self.runtime, path)
+        attach_in(&mut self.slots, slot, &mut self.opener, path)
     }
 
     fn make(&mut self, slot: u32, path: &str, size: u64) -> Result<(), BayError> {
         self.calls = self.calls.saturating_add(1);
-        make_in(&mut self.slots, slot, &self.runtime, path, size)
+        make_in(&mut self.slots, slot, &mut self.opener, path, size)
     }
 
     fn read(&mut self, slot: u32, at: u64, buf: &mut [u8]) -> Result<(), Fault> {

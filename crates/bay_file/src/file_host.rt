@@ -6,17 +6,19 @@ ghost use Rattle.bay.specs.Hosts.{CountsAt, untold};
 ghost use Rattle.bay_file.specs.Outside.{IsFaultTold};
 ghost use Rattle.bay_file.specs.PathFaults.{faults_of_path};
 
+use crate::kinds::open_kept;
 use crate::path_faults::{PathFaults, count_fault};
-use crate::whole::{lacks_memory, read_whole};
+use crate::whole::{lacks_resources, read_whole};
 use bay::{Host, HostError};
 use std::collections::BTreeMap;
 use std::fs::{File, OpenOptions};
 use std::io;
-use std::io::{Seek, SeekFrom, Write};
+use std::io::{ErrorKind, Seek, SeekFrom, Write};
 
-/// The files of the system by their paths. A file is opened at each call and closed after it. A
-/// file that is locked, as each attached image is, can be read, and can be neither emptied nor
-/// added to. What the files hold isn't told.
+/// The files of the system by their paths: regular files and block devices, so that no call waits
+/// for another program. A file is opened at each call and closed after it. A file that is locked,
+/// as each attached image is, can be read, and can be neither emptied nor added to. What the files
+/// hold isn't told.
 #[derive(Drop)]
 pub struct FileHost {
     runtime: HostRuntime,
@@ -34,8 +36,8 @@ impl FileHost {
         }
     }
 
-    // Passes on what the system answered for a path, and counts an error. Want of memory isn't
-    // counted, and where there is none for the count it is NoMemory too.
+    // Passes on what the system answered for a path, and counts an error. Want of memory or
+    // descriptors isn't counted, and where there is no memory for the count it is NoMemory too.
     fn passed<T: Drop>(&mut self, answer: io::Result<T>, path: &str) -> Result<T, HostError>
         ensures ok { IfOk answer (λ value. result ≡ Ok value) }
         ensures counts { CountsAt path.now (faults_of_path self.old.faults)
@@ -49,7 +51,7 @@ impl FileHost {
         match answer {
             Ok(value) => Ok(value),
             Err(error) => {
-                if lacks_memory(&error) {
+                if lacks_resources(&error) {
                     return Err(HostError::NoMemory);
                 }
                 match count_fault(self.runtime.alloc(), &mut self.faults, path) {
@@ -91,26 +93,35 @@ impl Host for FileHost {
 }
 
 fn size_of(runtime: &HostRuntime, path: &str) -> io::Result<u64> {
-    File::open(runtime, path)?.seek(SeekFrom::End(0))
+    open_kept(runtime, OpenOptions::new().read(true), path)?.seek(SeekFrom::End(0))
 }
 
 fn read_file(runtime: &HostRuntime, path: &str, at: u64, buf: &mut [u8]) -> io::Result<()> {
-    read_whole(&mut File::open(runtime, path)?, at, buf)
+    let mut file = open_kept(runtime, OpenOptions::new().read(true), path)?;
+    read_whole(&mut file, at, buf)
 }
 
-// The lock refuses a file that is an attached image, of this program or of another.
+// The lock refuses a file that is an attached image, of this program or of another. A block device
+// can't be emptied, so it is refused too.
 fn create_file(runtime: &HostRuntime, path: &str) -> io::Result<()> {
-    let file = OpenOptions::new()
-        .write(true)
-        .create(true)
-        .open(runtime, path)?;
+    let file = open_to_write(runtime, OpenOptions::new().write(true).create(true), path)?;
     file.try_lock()?;
-    File::create(runtime, path)?;
-    Ok(())
+    file.set_len(0)
 }
 
 fn append_file(runtime: &HostRuntime, path: &str, bytes: &[u8]) -> io::Result<()> {
-    let mut file = OpenOptions::new().append(true).open(runtime, path)?;
+    let mut file = open_to_write(runtime, OpenOptions::new().append(true), path)?;
     file.try_lock()?;
     file.write_all(bytes)
+}
+
+// Opens a file that is written to, for reading too where that is allowed, so that it doesn't wait
+// for a FIFO that comes there in between.
+fn open_to_write(runtime: &HostRuntime, options: &mut OpenOptions, path: &str) -> io::Result<File> {
+    match open_kept(runtime, options.read(true), path) {
+        Err(error) if error.kind() == ErrorKind::PermissionDenied => {
+            open_kept(runtime, options.read(false), path)
+        }
+        answer => answer,
+    }
 }

@@ -1,7 +1,8 @@
-// Opened images. An image is an ordinary file or a device, locked against other programs while it
-// is open.
+// Opened images. An image is a regular file or a block device, locked against other programs while
+// it is open.
 ghost use Rattle.std.specs.Prelude.{◌≡◌, ◌<◌, ◌^◌, IfOk};
 
+use crate::kinds::open_kept;
 use crate::whole::{read_whole, write_whole};
 use std::fs::{File, OpenOptions};
 use std::io::{Seek, SeekFrom};
@@ -17,10 +18,7 @@ pub struct Image {
 impl Image {
     // Opens an image that exists, and finds its size. It is neither made nor grown.
     pub fn open(runtime: &HostRuntime, path: &str) -> io::Result<Image> {
-        let mut file = OpenOptions::new()
-            .read(true)
-            .write(true)
-            .open(runtime, path)?;
+        let mut file = open_kept(runtime, OpenOptions::new().read(true).write(true), path)?;
         file.try_lock()?;
         let size = file.seek(SeekFrom::End(0))?;
         Ok(Image { file, size })
@@ -31,11 +29,9 @@ impl Image {
     pub fn make(runtime: &HostRuntime, path: &str, size: u64) -> io::Result<Image>
         ensures { IfOk result (λ image. image.size ≡ size) }
     {
-        let file = OpenOptions::new()
-            .read(true)
-            .write(true)
-            .create(true)
-            .open(runtime, path)?;
+        let mut options = OpenOptions::new();
+        options.read(true).write(true).create(true);
+        let file = open_kept(runtime, &options, path)?;
         file.try_lock()?;
         file.set_len(0)?;
         file.set_len(size)?;

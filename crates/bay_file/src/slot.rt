@@ -3,6 +3,7 @@ ghost use Rattle.std.specs.Prelude.{◌≡◌, None, length, IsSome};
 ghost use Rattle.bay.specs.Calls.{sends, sends_none};
 
 use crate::image::Image;
+use crate::opener::Opener;
 use crate::whole::{opened, passed};
 use bay::{BayError, Fault};
 
@@ -28,13 +29,13 @@ impl Slot {
     }
 
     // Attaches an image that exists, where none is attached.
-    pub fn attach(&mut self, runtime: &HostRuntime, path: &str) -> Result<u64, BayError>
+    pub fn attach(&mut self, opener: &mut Opener, path: &str) -> Result<u64, BayError>
         ensures call { IsAttached result (slot_state self.old) (slot_state self.new) }
     {
         if let Some(image) = &self.image {
             return Ok(image.size);
         }
-        let image = opened(Image::open(runtime, path), &mut self.faults)?;
+        let image = opened(opener.open(path), &mut self.faults)?;
         let size = image.size;
         self.image = Some(image);
         Ok(size)
@@ -42,11 +43,11 @@ impl Slot {
 
     // Makes an image of zeros and attaches it. What was attached is let go first, and with it its
     // lock.
-    pub fn make(&mut self, runtime: &HostRuntime, path: &str, size: u64) -> Result<(), BayError>
+    pub fn make(&mut self, opener: &mut Opener, path: &str, size: u64) -> Result<(), BayError>
         ensures call { IsMade result size (slot_state self.old) (slot_state self.new) }
     {
         self.image = None;
-        let image = opened(Image::make(runtime, path, size), &mut self.faults)?;
+        let image = opened(opener.make(path, size), &mut self.faults)?;
         self.image = Some(image);
         Ok(())
     }

@@ -5,6 +5,7 @@ ghost use Rattle.std.specs.BTreeMap.{get};
 ghost use Rattle.bay.specs.Calls.{sends, sends_none};
 ghost use Rattle.bay_file.specs.Slots.{attached_in, state_in, OtherSlotsStay, AllSlotsStay, IsAttached, IsMade, IsServed};
 
+use crate::opener::Opener;
 use crate::slot::Slot;
 use bay::{BayError, Fault};
 use std::alloc::AllocError;
@@ -28,20 +29,20 @@ fn keep_slot(slots: &mut SlotMap, slot: u32) -> Result<(), AllocError>
 fn attach_kept(
     slots: &mut SlotMap,
     slot: u32,
-    runtime: &HostRuntime,
+    opener: &mut Opener,
     path: &str,
 ) -> Result<u64, BayError>
     requires { IsSome (get nat_cmp slots.old slot) }
     ensures call { IsAttached result (state_in slots.old slot) (state_in slots.new slot) }
     ensures others { OtherSlotsStay slot slots.old slots.new }
 {
-    slots.get_mut(&slot).unwrap().attach(runtime, path)
+    slots.get_mut(&slot).unwrap().attach(opener, path)
 }
 
 fn make_kept(
     slots: &mut SlotMap,
     slot: u32,
-    runtime: &HostRuntime,
+    opener: &mut Opener,
     path: &str,
     size: u64,
 ) -> Result<(), BayError>
@@ -49,7 +50,7 @@ fn make_kept(
     ensures call { IsMade result size (state_in slots.old slot) (state_in slots.new slot) }
     ensures others { OtherSlotsStay slot slots.old slots.new }
 {
-    slots.get_mut(&slot).unwrap().make(runtime, path, size)
+    slots.get_mut(&slot).unwrap().make(opener, path, size)
 }
 
 // Attaches the image at a path, where none is attached. A slot whose faults can't be counted isn't
@@ -57,7 +58,7 @@ fn make_kept(
 pub fn attach_in(
     slots: &mut SlotMap,
     slot: u32,
-    runtime: &HostRuntime,
+    opener: &mut Opener,
     path: &str,
 ) -> Result<u64, BayError>
     ensures call { IsAttached result (state_in slots.old slot) (state_in slots.new slot) }
@@ -66,7 +67,7 @@ pub fn attach_in(
     if keep_slot(slots, slot).is_err() {
         return Err(BayError::NoMemory);
     }
-    attach_kept(slots, slot, runtime, path)
+    attach_kept(slots, slot, opener, path)
 }
 
 // Makes an image of zeros at a path, and attaches it. A slot whose faults can't be counted isn't
@@ -74,7 +75,7 @@ pub fn attach_in(
 pub fn make_in(
     slots: &mut SlotMap,
     slot: u32,
-    runtime: &HostRuntime,
+    opener: &mut Opener,
     path: &str,
     size: u64,
 ) -> Result<(), BayError>
@@ -84,7 +85,7 @@ pub fn make_in(
     if keep_slot(slots, slot).is_err() {
         return Err(BayError::NoMemory);
     }
-    make_kept(slots, slot, runtime, path, size)
+    make_kept(slots, slot, opener, path, size)
 }
 
 pub fn read_in(slots: &mut SlotMap, slot: u32, at: u64, buf: &mut [u8]) -> Result<(), Fault>

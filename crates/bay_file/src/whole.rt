@@ -1,10 +1,8 @@
 // Whole reads and writes at a place, and answers of the system with their faults counted.
 ghost use Rattle.std.specs.Prelude.{◌≡◌, ◌≤◌, ◌↔◌, Ok, IfOk, IfErr, OnOk, OnErr, IsErr, IsTrue};
-ghost use Rattle.std.specs.IoError.{error_kind};
-ghost use Rattle.std.specs.declared.io.ErrorKind.TheVariants.{OutOfMemory};
 ghost use Rattle.std.specs.Io.KnownBytes.{Appends, Consumes};
 ghost use Rattle.bay.specs.Counts.{count_after};
-ghost use Rattle.bay_file.specs.Opening.{IsTold};
+ghost use Rattle.bay_file.specs.Opening.{IsAbsent, IsTold, LacksDescriptors, LacksResources};
 ghost use Rattle.bay_file.specs.Places.{IsPlacedAt};
 
 use bay::{BayError, Fault};
@@ -26,8 +24,8 @@ pub fn passed<T: Drop>(answer: io::Result<T>, faults: &mut u64) -> Result<T, Fau
     }
 }
 
-// Passes on what the system answered where an image was opened or made. Want of memory is told
-// apart, and isn't counted.
+// Passes on what the system answered where an image was opened or made. Want of memory or
+// descriptors is told apart, and isn't counted.
 pub fn opened<T: Drop>(answer: io::Result<T>, faults: &mut u64) -> Result<T, BayError>
     ensures ok { IfOk answer (λ value. (result ≡ Ok value) × (faults.new ≡ faults.old)) }
     ensures err { IfErr answer (λ error. IsTold error result faults.old faults.new) }
@@ -36,7 +34,7 @@ pub fn opened<T: Drop>(answer: io::Result<T>, faults: &mut u64) -> Result<T, Bay
     match answer {
         Ok(value) => Ok(value),
         Err(error) => {
-            if lacks_memory(&error) {
+            if lacks_resources(&error) {
                 return Err(BayError::NoMemory);
             }
             *faults = faults.saturating_add(1);
@@ -45,11 +43,30 @@ pub fn opened<T: Drop>(answer: io::Result<T>, faults: &mut u64) -> Result<T, Bay
     }
 }
 
-// Whether no memory was found, by the system or for the words of the call.
-pub fn lacks_memory(error: &io::Error) -> bool
-    ensures { IsTrue result ↔ error_kind error.now ≡ OutOfMemory }
+// The system's numbers for "no more files in all" and "no more files of this program".
+const NO_FILES: i32 = 23;
+
+const NO_FILES_HERE: i32 = 24;
+
+// Whether no descriptor was left.
+pub fn lacks_descriptors(error: &io::Error) -> bool
+    ensures { IsTrue result ↔ LacksDescriptors error.now }
 {
-    error.kind() == ErrorKind::OutOfMemory
+    matches!(error.raw_os_error(), Some(NO_FILES | NO_FILES_HERE))
+}
+
+// Whether no memory was found, by the system or for the words of the call, or no descriptor.
+pub fn lacks_resources(error: &io::Error) -> bool
+    ensures { IsTrue result ↔ LacksResources error.now }
+{
+    error.kind() == ErrorKind::OutOfMemory || lacks_descriptors(error)
+}
+
+// Whether there is nothing at the path.
+pub fn is_absent(error: &io::Error) -> bool
+    ensures { IsTrue result ↔ IsAbsent error.now }
+{
+    matches!(error.kind(), ErrorKind::NotFound | ErrorKind::NotADirectory)
 }
 
 // Goes to a place.
