@@ -6,7 +6,8 @@ ghost use Rattle.bay.specs.Hosts.{CountsAt, untold};
 ghost use Rattle.bay_file.specs.Outside.{IsFaultTold};
 ghost use Rattle.bay_file.specs.PathFaults.{faults_of_path};
 
-use crate::kinds::open_kept;
+use crate::kinds::{open_kept, open_or_make};
+use crate::limit::SizeLimit;
 use crate::path_faults::{PathFaults, count_fault};
 use crate::whole::{lacks_resources, read_whole};
 use bay::{Host, HostError};
@@ -22,6 +23,7 @@ use std::io::{ErrorKind, Seek, SeekFrom, Write};
 #[derive(Drop)]
 pub struct FileHost {
     runtime: HostRuntime,
+    limit: SizeLimit,
     faults: PathFaults,
 }
 
@@ -32,6 +34,7 @@ impl FileHost {
     {
         FileHost {
             runtime,
+            limit: SizeLimit::now(&runtime),
             faults: BTreeMap::new(runtime.alloc()),
         }
     }
@@ -87,7 +90,7 @@ impl Host for FileHost {
     }
 
     fn append(&mut self, path: &str, bytes: &[u8]) -> Result<(), HostError> {
-        let answer = append_file(&self.runtime, path, bytes);
+        let answer = append_file(&self.runtime, path, bytes, self.limit);
         self.passed(answer, path)
     }
 }
@@ -109,18 +112,24 @@ fn create_file(runtime: &HostRuntime, path: &str) -> io::Result<()> {
     file.set_len(0)
 }
 
-fn append_file(runtime: &HostRuntime, path: &str, bytes: &[u8]) -> io::Result<()> {
+fn append_file(
+    runtime: &HostRuntime,
+    path: &str,
+    bytes: &[u8],
+    limit: SizeLimit,
+) -> io::Result<()> {
     let mut file = open_to_write(runtime, OpenOptions::new().append(true), path)?;
     file.try_lock()?;
+    limit.check(file.seek(SeekFrom::End(0))?, bytes.len() as u64)?;
     file.write_all(bytes)
 }
 
 // Opens a file that is written to, for reading too where that is allowed, so that it doesn't wait
 // for a FIFO that comes there in between.
 fn open_to_write(runtime: &HostRuntime, options: &mut OpenOptions, path: &str) -> io::Result<File> {
-    match open_kept(runtime, options.read(true), path) {
+    match open_or_make(runtime, options.read(true), path) {
         Err(error) if error.kind() == ErrorKind::PermissionDenied => {
-            open_kept(runtime, options.read(false), path)
+            open_or_make(runtime, options.read(false), path)
         }
         answer => answer,
     }

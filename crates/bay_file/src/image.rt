@@ -2,7 +2,8 @@
 // it is open.
 ghost use Rattle.std.specs.Prelude.{◌≡◌, ◌<◌, ◌^◌, IfOk};
 
-use crate::kinds::open_kept;
+use crate::kinds::{open_kept, open_or_make};
+use crate::limit::SizeLimit;
 use crate::whole::{read_whole, write_whole};
 use std::fs::{File, OpenOptions};
 use std::io::{Seek, SeekFrom};
@@ -11,33 +12,36 @@ use std::{fs, io};
 #[derive(Drop)]
 pub struct Image {
     file: File,
+    limit: SizeLimit,
     pub size: u64,
     ghost fits: { size < 2 ^ 64 },
 }
 
 impl Image {
     // Opens an image that exists, and finds its size. It is neither made nor grown.
-    pub fn open(runtime: &HostRuntime, path: &str) -> io::Result<Image> {
+    pub fn open(runtime: &HostRuntime, path: &str, limit: SizeLimit) -> io::Result<Image> {
         let mut file = open_kept(runtime, OpenOptions::new().read(true).write(true), path)?;
         file.try_lock()?;
+        let limit = limit.of_file(&file.metadata()?);
         let size = file.seek(SeekFrom::End(0))?;
-        Ok(Image { file, size })
+        Ok(Image { file, limit, size })
     }
 
     // Makes an image of zeros. Nothing of an old image is cut off before the lock is held. Once it
     // is made, a stop leaves it: the file and its entry in the folder are synced.
-    pub fn make(runtime: &HostRuntime, path: &str, size: u64) -> io::Result<Image>
+    pub fn make(runtime: &HostRuntime, path: &str, size: u64, limit: SizeLimit) -> io::Result<Image>
         ensures { IfOk result (λ image. image.size ≡ size) }
     {
+        limit.check(0, size)?;
         let mut options = OpenOptions::new();
         options.read(true).write(true).create(true);
-        let file = open_kept(runtime, &options, path)?;
+        let file = open_or_make(runtime, &options, path)?;
         file.try_lock()?;
         file.set_len(0)?;
         file.set_len(size)?;
         file.sync_all()?;
         sync_folder(runtime, path)?;
-        Ok(Image { file, size })
+        Ok(Image { file, limit, size })
     }
 
     pub fn read(&mut self, at: u64, buf: &mut [u8]) -> io::Result<()>
@@ -49,6 +53,7 @@ impl Image {
     pub fn write(&mut self, at: u64, bytes: &[u8]) -> io::Result<()>
         ensures { self.new.size ≡ self.old.size }
     {
+        self.limit.check(at, bytes.len() as u64)?;
         write_whole(&mut self.file, at, bytes)
     }
 

@@ -8,23 +8,29 @@ use std::io::ErrorKind;
 use std::os::unix::fs::FileTypeExt;
 use std::{fs, io};
 
-// Opens such a file. The kind is asked of the path first, by its metadata, which waits for nobody,
-// and then of what was opened, since another file may have taken the path in between. A FIFO that
-// came there is opened without waiting where the options ask for reading and writing.
+// Opens such a file that is there. The kind is asked of the path first, by its metadata, which waits
+// for nobody and needs no descriptor.
 pub fn open_kept(runtime: &HostRuntime, options: &OpenOptions, path: &str) -> io::Result<File> {
-    check_path(runtime, path)?;
+    check_kind(&fs::metadata(runtime, path)?)?;
+    open_checked(runtime, options, path)
+}
+
+// Opens such a file, and makes one where nothing is, as the options say.
+pub fn open_or_make(runtime: &HostRuntime, options: &OpenOptions, path: &str) -> io::Result<File> {
+    match fs::metadata(runtime, path) {
+        Ok(metadata) => check_kind(&metadata)?,
+        Err(error) if error.kind() == ErrorKind::NotFound => {}
+        Err(error) => return Err(error),
+    }
+    open_checked(runtime, options, path)
+}
+
+// The kind is asked again of what was opened, since another file may have taken the path in between.
+// A FIFO that came there is opened without waiting where the options ask for reading and writing.
+fn open_checked(runtime: &HostRuntime, options: &OpenOptions, path: &str) -> io::Result<File> {
     let file = options.open(runtime, path)?;
     check_kind(&file.metadata()?)?;
     Ok(file)
-}
-
-// A path that leads nowhere passes: the opening answers for it.
-fn check_path(runtime: &HostRuntime, path: &str) -> io::Result<()> {
-    match fs::metadata(runtime, path) {
-        Ok(metadata) => check_kind(&metadata),
-        Err(error) if error.kind() == ErrorKind::NotFound => Ok(()),
-        Err(error) => Err(error),
-    }
 }
 
 fn check_kind(metadata: &Metadata) -> io::Result<()>

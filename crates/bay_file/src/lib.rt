@@ -10,6 +10,7 @@ mod file_host;
 mod held;
 mod image;
 mod kinds;
+mod limit;
 mod notes;
 mod one_line;
 mod opener;

@@ -1,4 +1,5 @@
 // What is told on standard error: why an image can't be used.
+use crate::limit::StreamLimit;
 use crate::one_line::on_one_line;
 use crate::whole::{is_absent, lacks_descriptors};
 use std::alloc::{AllocError, Global};
@@ -11,6 +12,7 @@ use std::io::{ErrorKind, Write};
 #[derive(Drop)]
 pub struct Notes {
     runtime: HostRuntime,
+    limit: StreamLimit,
     told: BTreeSet<Vec<u8>>,
 }
 
@@ -19,6 +21,7 @@ impl Notes {
     pub fn new(runtime: HostRuntime) -> Notes {
         Notes {
             runtime,
+            limit: StreamLimit::of_errors(runtime),
             told: BTreeSet::new(runtime.alloc()),
         }
     }
@@ -40,7 +43,7 @@ impl Notes {
         let Ok(kept) = line.clone() else {
             return;
         };
-        if self.told.insert(kept).is_ok() {
+        if self.told.insert(kept).is_ok() && !self.limit.refuses(line.len()) {
             let _ = self.runtime.stderr().write_all(&line);
         }
     }

@@ -2,12 +2,14 @@
 ghost use Rattle.std.specs.Prelude.{◌≡◌, IfOk};
 
 use crate::image::Image;
+use crate::limit::SizeLimit;
 use crate::notes::Notes;
 use std::io;
 
 #[derive(Drop)]
 pub struct Opener {
     runtime: HostRuntime,
+    limit: SizeLimit,
     notes: Notes,
 }
 
@@ -15,13 +17,14 @@ impl Opener {
     pub fn new(runtime: HostRuntime) -> Opener {
         Opener {
             runtime,
+            limit: SizeLimit::now(&runtime),
             notes: Notes::new(runtime),
         }
     }
 
     // Opens an image that exists.
     pub fn open(&mut self, path: &str) -> io::Result<Image> {
-        let answer = Image::open(&self.runtime, path);
+        let answer = Image::open(&self.runtime, path, self.limit);
         self.passed(answer, path)
     }
 
@@ -29,7 +32,7 @@ impl Opener {
     pub fn make(&mut self, path: &str, size: u64) -> io::Result<Image>
         ensures { IfOk result (λ image. image.size ≡ size) }
     {
-        let answer = Image::make(&self.runtime, path, size);
+        let answer = Image::make(&self.runtime, path, size, self.limit);
         self.passed(answer, path)
     }
 

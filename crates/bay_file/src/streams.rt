@@ -1,4 +1,5 @@
 // Standard input and output.
+use crate::limit::StreamLimit;
 use bay::{Fault, Sink, Source};
 use std::io::{Read, Write};
 use std::rt::{Stdin, Stdout};
@@ -44,21 +45,30 @@ impl<R: Read> Source for StdSource<R> {
 #[derive(Drop)]
 pub struct StdSink<W: Write = Stdout> {
     inner: W,
+    limit: Option<StreamLimit>,
     faults: u64,
 }
 
 impl StdSink<Stdout> {
     /// The program's standard output. A reader that closed its end of a pipe is a fault like
-    /// another.
+    /// another, and so is a file that may grow no more.
     pub fn new(runtime: HostRuntime) -> Self {
-        StdSink::over(runtime.stdout())
+        StdSink {
+            inner: runtime.stdout(),
+            limit: Some(StreamLimit::of_output(runtime)),
+            faults: 0,
+        }
     }
 }
 
 impl<W: Write> StdSink<W> {
     // A sink over any writer.
     pub(crate) fn over(inner: W) -> Self {
-        StdSink { inner, faults: 0 }
+        StdSink {
+            inner,
+            limit: None,
+            faults: 0,
+        }
     }
 }
 
@@ -69,6 +79,12 @@ impl<W: Write> Sink for StdSink<W> {
 
     // A writer that takes nothing of a piece that is not empty has failed.
     fn write(&mut self, bytes: &[u8]) -> Result<usize, Fault> {
+        if let Some(limit) = &self.limit
+            && limit.refuses(bytes.len())
+        {
+            self.faults = self.faults.saturating_add(1);
+            return Err(Fault);
+        }
         match self.inner.write(bytes) {
             Ok(count) if count > 0 || bytes.is_empty() => Ok(count),
             _ => {

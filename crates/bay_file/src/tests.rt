@@ -1,4 +1,5 @@
 // Over real files, in the folder in which the tests run, and over readers and writers that fail.
+use crate::one_line::on_one_line;
 use crate::{FileBay, FileHost, StdSink, StdSource, SystemClock, hold_streams};
 use bay::{Bay, BayError, Clock, Host, HostError, Sink, Source};
 use std::io::{ErrorKind, Read, Write};
@@ -93,12 +94,31 @@ fn files_are_copied_by_their_paths(rt: HostRuntime) {
     );
     assert!(rt; host.create("copy.txt").is_ok());
     assert_eq!(rt; host.size("copy.txt").ok(), Some(0));
-    // a device that is full
-    assert_eq!(rt;
-        host.append("/dev/full", b"x").err(),
-        Some(HostError::Fault)
-    );
     fs::remove_file(&rt, "copy.txt").expect(&rt, "the copy");
+}
+
+// Neither an image nor a file of the host is at the path, and none is made there.
+fn keeps_no_bytes(rt: HostRuntime, path: &str) -> bool {
+    let mut bay = FileBay::new(rt);
+    let mut host = FileHost::new(rt);
+    bay.attach(0, path).err() == Some(BayError::Fault)
+        && bay.make(0, path, 512).err() == Some(BayError::Fault)
+        && host.size(path).err() == Some(HostError::Fault)
+        && host.create(path).err() == Some(HostError::Fault)
+        && host.append(path, b"x").err() == Some(HostError::Fault)
+}
+
+#[test]
+fn folders_and_character_devices_are_refused(rt: HostRuntime) {
+    assert!(rt; keeps_no_bytes(rt, "."));
+    assert!(rt; keeps_no_bytes(rt, "/dev/null"));
+    assert!(rt; keeps_no_bytes(rt, "/dev/zero"));
+}
+
+#[test]
+fn a_line_is_one_line(rt: HostRuntime) {
+    let line = on_one_line(rt.alloc(), "d\n\t\x1b\x7f ä").expect(&rt, "memory");
+    assert!(rt; line.as_slice() == "d\\n\\t\\x1b\\x7f ä\n".as_bytes());
 }
 
 // Gives and takes one byte, then nothing, then fails.
