@@ -3,10 +3,12 @@
 #![tactic(auto)]
 
 use asm_run::run;
-use bay_file::{FileBay, FileHost, StdSink, StdSource, SystemClock, hold_streams};
+use bay_file::{
+    FileBay, FileHost, StdErrors, StdSink, StdSource, SystemClock, hold_streams,
+};
 use command_line::{Notice, misuse_of};
 use std::alloc::{AllocError, Global};
-use std::io::{ErrorKind, Write};
+use std::io::ErrorKind;
 use std::process::ExitCode;
 use std::{env, io};
 
@@ -16,7 +18,7 @@ fn main(rt: HostRuntime) -> ExitCode {
         Ok(status) => ExitCode::from(status),
         // A word isn't UTF-8.
         Err(error) if error.kind() == ErrorKind::InvalidData => {
-            let _ = rt.eprintln("asm: a word is not UTF-8; see asm --help");
+            StdErrors::new(rt).tell("asm: a word is not UTF-8; see asm --help");
             ExitCode::from(2)
         }
         Err(_) => ExitCode::from(5),
@@ -48,13 +50,13 @@ fn run_words(alloc: Global, rt: &HostRuntime, words: &[String]) -> io::Result<u8
 }
 
 /// Says on standard error what is wrong with words that `run` refused. For want of memory nothing
-/// is said, and whether it can be written changes nothing.
+/// is said.
 fn explain(alloc: Global, rt: &HostRuntime, words: &[String]) {
     let Ok(Some(misuse)) = misuse_of(alloc, words) else {
         return;
     };
-    if let Ok(line) = misuse.line(alloc) {
-        let _ = rt.stderr().write_all(&line);
+    if let Ok(text) = format!(in alloc; "asm: {misuse}; see asm --help") {
+        StdErrors::new(*rt).tell(&text);
     }
 }
 

@@ -1,10 +1,11 @@
-//! The outside in real files: images of disks, a folder, standard input and output, and the
+//! The outside in real files: images of disks, a folder, the standard streams, and the
 //! system's clock. Nothing is told of contents, since no proof can say what a file holds; what is
 //! proved is that each fault is counted, that an answer of the system is passed on, and that bytes
 //! are read and written whole.
 #![tactic(auto)]
 
 mod clock;
+mod errors;
 mod file_bay;
 mod file_host;
 mod held;
@@ -23,6 +24,7 @@ mod tests;
 mod whole;
 
 pub use clock::SystemClock;
+pub use errors::StdErrors;
 pub use file_bay::FileBay;
 pub use file_host::FileHost;
 pub use held::hold_streams;

@@ -1,18 +1,18 @@
 // What is told on standard error: why an image can't be used.
-use crate::limit::StreamLimit;
+use crate::errors::StdErrors;
 use crate::one_line::on_one_line;
 use crate::whole::{is_absent, lacks_descriptors};
 use std::alloc::{AllocError, Global};
 use std::collections::BTreeSet;
 use std::io;
-use std::io::{ErrorKind, Write};
+use std::io::ErrorKind;
 
-// The lines that were told in this run, one for each image and reason. They are for people, and no
-// answer depends on them: a line that can't be written, or finds no memory, is left out.
+// The lines that were told in this run, one for each image and reason. No answer depends on them: a
+// line that finds no memory is left out.
 #[derive(Drop)]
 pub struct Notes {
     runtime: HostRuntime,
-    limit: StreamLimit,
+    errors: StdErrors,
     told: BTreeSet<Vec<u8>>,
 }
 
@@ -21,7 +21,7 @@ impl Notes {
     pub fn new(runtime: HostRuntime) -> Notes {
         Notes {
             runtime,
-            limit: StreamLimit::of_errors(runtime),
+            errors: StdErrors::new(runtime),
             told: BTreeSet::new(runtime.alloc()),
         }
     }
@@ -43,8 +43,8 @@ impl Notes {
         let Ok(kept) = line.clone() else {
             return;
         };
-        if self.told.insert(kept).is_ok() && !self.limit.refuses(line.len()) {
-            let _ = self.runtime.stderr().write_all(&line);
+        if self.told.insert(kept).is_ok() {
+            self.errors.write(&line);
         }
     }
 }

@@ -1,5 +1,5 @@
 -- What is wrong with words that aren't taken.
-use Rattle.std.specs.Prelude.{◌≡◌, ◌≢◌, ℕ, ◌<◌, ◌≤◌, Option, Some, IsSome, List, [], ◌∷◌, ◌++◌, All, length, find}
+use Rattle.std.specs.Prelude.{◌≡◌, ◌≢◌, ℕ, ◌<◌, ◌≤◌, Option, Some, IsSome, List, [], length, find}
 use Rattle.clap.specs.Words.{IsAmong, fault_of}
 use Rattle.command_line.specs.Command.{asm_command, number_in, images_in}
 use Rattle.command_line.specs.Paths.{WordBytes, IsNumber, first_twice, is_control, is_quoted}
@@ -20,9 +20,3 @@ IsMisuseOf number paths (Quoted path) = IsSome number × (find is_quoted paths �
 abbrev pub IsMisuse : List WordBytes → Misuse → Type 0
 IsMisuse words (Form kind reason) = IsAmong kind (fault_of asm_command words)
 IsMisuse words other = (fault_of asm_command words ≡ []) × IsMisuseOf (number_in words) (images_in words) other
-
--- one line: no byte of it is below 32, but the line feed (10) at its end
-pub record IsOneLine (line : List ℕ) : Type 0 where
-  pub text : List ℕ
-  pub is : line ≡ text ++ 10 ∷ []
-  pub plain : All (λ byte. 32 ≤ byte) text

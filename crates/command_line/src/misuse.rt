@@ -1,8 +1,8 @@
 // What is wrong with words that aren't taken.
-ghost use Rattle.std.specs.Prelude.{◌≡◌, ◌<◌, ◌≤◌, ℕ, Option, All, IfOk, IfSome, IsNone, map};
+ghost use Rattle.std.specs.Prelude.{ℕ, Option, IfOk, IfSome, IsNone, map};
 ghost use Rattle.std.specs.String.{string_bytes};
 ghost use Rattle.command_line.specs.Command.{IsRead, images_in};
-ghost use Rattle.command_line.specs.Misuses.{IsMisuse, IsOneLine};
+ghost use Rattle.command_line.specs.Misuses.{IsMisuse};
 
 use crate::checks::checked;
 use crate::parse::parse;
@@ -10,7 +10,8 @@ use clap::error::ErrorKind;
 use std::alloc::{AllocError, Global};
 use thiserror::Error;
 
-/// What is wrong with words that aren't taken.
+/// What is wrong with words that aren't taken. Its text is for people, and may hold any byte that a
+/// word holds.
 #[derive(Debug, Drop, Error)]
 pub enum Misuse<'a> {
     /// They aren't of the form `[--generate N] IMAGE...`: the kind of what `clap` found, and its
@@ -35,19 +36,6 @@ pub enum Misuse<'a> {
     /// An image of the generator has a single quote.
     #[error("--generate takes no image with a single quote, as {0}")]
     Quoted(&'a str),
-}
-
-impl Misuse<'_> {
-    /// The line that tells it on standard error, with its line feed. Bytes below 32 and 127 are
-    /// shown escaped, so it is one line whatever a word holds.
-    pub fn line(&self, alloc: Global) -> Result<Vec<u8>, AllocError>
-        ensures { IfOk result (λ line. IsOneLine line.items) }
-    {
-        let text = format!(in alloc; "asm: {self}; see asm --help")?;
-        let mut line = escaped(alloc, text.as_bytes())?;
-        line.push(b'\n')?;
-        Ok(line)
-    }
 }
 
 /// Says what is wrong with words that `read_words` refuses as `Usage`; of others nothing is.
@@ -79,45 +67,4 @@ fn reason_of(alloc: Global, error: &clap::Error) -> Result<String, AllocError> {
     let text = error.to_string(alloc)?;
     let reason = text.split("\n\n").next().unwrap_or("");
     String::from_str(alloc, reason.strip_prefix("error: ").unwrap_or(reason))
-}
-
-// The text with each byte below 32, and 127, in the form `\n` or `\x1b`.
-fn escaped(alloc: Global, text: &[u8]) -> Result<Vec<u8>, AllocError>
-    ensures { IfOk result (λ shown. All (λ byte. 32 ≤ byte) shown.items) }
-{
-    let mut shown = Vec::new(alloc);
-    for byte in text {
-        show(&mut shown, *byte)?;
-    }
-    Ok(shown)
-}
-
-// Adds a byte as it is shown.
-fn show(shown: &mut Vec<u8>, byte: u8) -> Result<(), AllocError>
-    requires plain { All (λ byte. 32 ≤ byte) shown.old.items }
-    ensures { All (λ byte. 32 ≤ byte) shown.new.items }
-{
-    match byte {
-        b'\n' => shown.extend_from_slice(b"\\n"),
-        b'\r' => shown.extend_from_slice(b"\\r"),
-        b'\t' => shown.extend_from_slice(b"\\t"),
-        0..32 | 127 => {
-            shown.extend_from_slice(b"\\x")?;
-            shown.push(digit(byte / 16))?;
-            shown.push(digit(byte % 16))?;
-            Ok(())
-        }
-        _ => Ok(shown.push(byte)?),
-    }
-}
-
-// A digit of a number in hexadecimal.
-fn digit(value: u8) -> u8
-    requires small { value < 16 }
-    ensures { 32 ≤ result }
-{
-    match value {
-        0..10 => b'0' + value,
-        _ => b'a' + (value - 10),
-    }
 }
