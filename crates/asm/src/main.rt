@@ -3,9 +3,7 @@
 #![tactic(auto)]
 
 use asm_run::run;
-use bay_file::{
-    FileBay, FileHost, StdErrors, StdSink, StdSource, SystemClock, hold_streams,
-};
+use bay_file::{FileBay, FileHost, StdErrors, StdSink, StdSource, SystemClock, hold_streams};
 use command_line::{Notice, misuse_of};
 use std::alloc::{AllocError, Global};
 use std::io::ErrorKind;
