@@ -1,17 +1,29 @@
 -- What was read, by the words.
-use Rattle.std.proofs.Common.{◌≡◌, ℕ, List, [], Option, Some, None, Result, Ok, Err, IfOk, IfErr, IfSome, IsNone, unwrap_or, option_map, Bor, refl, subst}
+use Rattle.std.proofs.Common.{◌≡◌, ◌∙◌, ℕ, List, [], Option, Some, None, Result, Ok, Err, IfOk, IfErr, IfSome, IsNone, unwrap_or, option_map, Bor, codes, ap, refl, subst}
 use Rattle.std.specs.Result.{result_err}
-use Rattle.clap.specs.Words.{fault_of}
+use Rattle.clap.specs.Words.{all_of, fault_of, first_of, first_value, matched_of, matches_of, raw_values, rows_of}
+use Rattle.clap.specs.declared.parser.matches.Found.{Found}
+use Rattle.clap.proofs.WalkLemmas.{first_value-rows, raw_values-rows}
 use Rattle.command_line.specs.Command.{IsRead, asm_command, number_in, images_in}
 use Rattle.command_line.specs.Misuses.{IsMisuse, IsMisuseOf}
 use Rattle.command_line.specs.Paths.{WordBytes, texts, IsTaken}
 use Rattle.command_line.specs.declared.misuse.Misuse.{Misuse}
 use Rattle.command_line.specs.declared.misuse.Misuse.TheVariants.{Form, TooMany, Control, Twice, NotNumber, NotFour, Quoted}
 
-pub unwrapped : (lent : Option (Bor (List (Bor WordBytes)))) (other : Bor (List (Bor WordBytes))) → texts other.now ≡ []
+unwrapped : (lent : Option (Bor (List (Bor WordBytes)))) (other : Bor (List (Bor WordBytes))) → texts other.now ≡ []
     → texts (unwrap_or lent other).now ≡ unwrap_or (option_map (λ s. texts s.now) lent) []
 unwrapped None other empty = empty
 unwrapped (Some s) other empty = refl
+
+-- what is got of the matches is what stands in the words
+pub number_got : (words : List WordBytes) (found : Found) (got : Option (Bor WordBytes)) → option_map (λ s. s.now) got ≡ first_value found (codes "generate") → rows_of found ≡ matches_of asm_command words
+    → option_map (λ s. s.now) got ≡ number_in words
+number_got words found got is rows = is ∙ first_value-rows found (codes "generate") ∙ ap (first_of (codes "generate")) rows
+
+pub paths_got : (words : List WordBytes) (found : Found) (got : Option (Bor (List (Bor WordBytes)))) (other paths : Bor (List (Bor WordBytes))) → option_map (λ s. texts s.now) got ≡ option_map raw_values (matched_of found (codes "IMAGE"))
+    → rows_of found ≡ matches_of asm_command words → paths ≡ unwrap_or got other → texts other.now ≡ [] → texts paths.now ≡ images_in words
+paths_got words found got other paths is rows unwraps empty = ap (λ (s : Bor (List (Bor WordBytes))). texts s.now) unwraps ∙ unwrapped got other empty
+    ∙ ap (λ (o : Option (List WordBytes)). unwrap_or o []) (is ∙ raw_values-rows found (codes "IMAGE") ∙ ap (all_of (codes "IMAGE")) rows)
 
 -- a number and paths that are equal are taken alike
 pub taken_as : {a b : Option WordBytes} {xs ys : List WordBytes} {generate : Option ℕ} {images : List WordBytes}
