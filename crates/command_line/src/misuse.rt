@@ -59,12 +59,15 @@ pub fn misuse_of<'a>(alloc: Global, words: &'a [String]) -> Result<Option<Misuse
     }
 }
 
-// What `clap` says is wrong, without its usage.
+// What `clap` says is wrong, without its tips and its usage.
 fn reason_of(alloc: Global, error: &clap::Error) -> Result<String, AllocError> {
     if error.kind() == ErrorKind::MissingRequiredArgument {
         return String::from_str(alloc, "no image is named");
     }
     let text = error.to_string(alloc)?;
-    let reason = text.split("\n\n").next().unwrap_or("");
-    String::from_str(alloc, reason.strip_prefix("error: ").unwrap_or(reason))
+    let mut reason = text.strip_prefix("error: ").unwrap_or(&text);
+    for behind in ["\n\n  tip:", "\n\nUsage:"] {
+        reason = reason.split(behind).next().unwrap_or(reason);
+    }
+    String::from_str(alloc, reason.trim_end())
 }
